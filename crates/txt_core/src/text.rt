@@ -22,7 +22,7 @@ impl Model for Text {
 }
 
 impl Text {
-    /// A copy of these bytes.
+    /// A copy of these bytes. Its only error is want of memory.
     pub fn new(alloc: Global, bytes: &[u8]) -> Result<Text, NoMemory>
         ensures { IfOk result (λ text. text ≡ bytes.now) }
     {
@@ -75,5 +75,12 @@ impl Text {
     {
         self.bytes.extend_from_slice(more)?;
         Ok(())
+    }
+
+    /// Lets all bytes go. It takes no memory, and keeps the text's own for the next bytes.
+    pub fn clear(&mut self)
+        ensures { self.new ≡ [] }
+    {
+        self.bytes.clear();
     }
 }
