@@ -1,0 +1,13 @@
+pub mod Bytes
+pub mod Gaps
+pub mod Tree
+pub mod Names
+pub mod Braces
+pub mod Steps
+pub mod Outcome
+pub mod Grammar
+pub mod Reading
+pub mod Canonical
+pub mod View
+pub mod Answers
+pub mod Laws
