@@ -1,0 +1,6 @@
+pub mod Answering
+pub mod Braces
+pub mod Escapes
+pub mod Laws
+pub mod Quoting
+pub mod Slashes

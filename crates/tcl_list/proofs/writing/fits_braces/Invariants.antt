@@ -1,0 +1,12 @@
+use Rattle.std.proofs.Common.{◌≡◌, ◌+◌, ◌≤◌, length, false}
+use Rattle.txt_core.specs.Counting.{balances}
+use Rattle.tcl_list.proofs.writing.fits_braces.Given as goal
+
+abbrev pub invariant-bytes : goal.invariant-bytes
+invariant-bytes l = record {
+  same : balances l.taken l.open_now l.rest ≡ balances false 0 l.text;
+  room : l.open_now + length l.rest ≤ length l.text;
+}
+
+abbrev pub decreases-bytes : goal.decreases-bytes
+decreases-bytes l = length l.rest

@@ -1,0 +1,16 @@
+//! Lists as texts: a text is split into its elements, and elements are quoted into a text.
+#![tactic(auto)]
+
+mod element;
+mod fault;
+mod gap;
+mod law;
+mod splitting;
+#[cfg(test)]
+mod tests;
+mod writing;
+
+pub use fault::ListFault;
+pub use law::{one_answer, one_listing, one_writing, quote_splits};
+pub use splitting::split;
+pub use writing::quote;

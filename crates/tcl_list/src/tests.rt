@@ -1,0 +1,161 @@
+use super::{ListFault, quote, split};
+use std::alloc::Global;
+use std::process::Abort;
+use std::test::Fail;
+use txt_core::{Text, Words};
+
+/// The texts that each end at a bar.
+fn words_of(alloc: Global, ended: &[u8]) -> Result<Words, Fail> {
+    let mut words = Words::new(alloc);
+    let mut word = Vec::new(alloc);
+    for b in ended {
+        if *b == b'|' {
+            words.push(Text::from_vec(word))?;
+            word = Vec::new(alloc);
+        } else {
+            word.push(*b)?;
+        }
+    }
+    Ok(words)
+}
+
+/// The elements of a text, each with a bar at its end.
+fn ended(alloc: Global, text: &[u8]) -> Result<Vec<u8>, Fail> {
+    let words = split(alloc, &Text::new(alloc, text)?)?;
+    let mut all = Vec::new(alloc);
+    for word in words.as_slice() {
+        all.extend_from_slice(word.bytes())?;
+        all.push(b'|')?;
+    }
+    Ok(all)
+}
+
+#[test]
+fn elements(rt: HostRuntime) -> Result<(), Fail> {
+    let alloc = rt.alloc();
+    let rows: [(&[u8], &[u8]); 14] = [
+        (b"", b""),
+        (b" \t\r\x0b\x0c\n", b""),
+        (b"a {} {b c} d\\{", b"a||b c|d{|"),
+        (b"\na\tb\r{c}\x0b\"d\"\x0ce ", b"a|b|c|d|e|"),
+        (b"a\"b c{d e}", b"a\"b|c{d|e}|"),
+        (b"{a {b c} d}", b"a {b c} d|"),
+        (b"{a\\{b\\}\\\\}", b"a\\{b\\}\\\\|"),
+        (b"{a\\\n  b}", b"a\\\n  b|"),
+        (b"\"a\\\n  b\" c\\\n\td", b"a b|c d|"),
+        (b"\"a\\\"b\" \"\" \\\"", b"a\"b||\"|"),
+        (b"\\101\\x141\\u20ac \\xg", b"AA\xe2\x82\xac|xg|"),
+        (b"a\\ b $c [d ; #", b"a b|$c|[d|;|#|"),
+        (b"\\", b"\\|"),
+        (b"\"\\\\\"", b"\\|"),
+    ];
+    for (text, want) in rows {
+        assert_eq!(rt; ended(alloc, text)?.as_slice(), want);
+    }
+    Ok(())
+}
+
+#[test]
+fn bad_places(rt: HostRuntime) -> Result<(), Fail> {
+    let alloc = rt.alloc();
+    let rows: [(&[u8], u64); 12] = [
+        (b"{a b}c", 5),
+        (b"\"a b\"c", 5),
+        (b"{a", 0),
+        (b"\"a", 0),
+        (b"a {b", 2),
+        (b"a \"b\\\"", 2),
+        (b"{a}{b}", 3),
+        (b"{a}\\\n", 3),
+        (b"{a}x {b", 3),
+        (b"{a\\}", 0),
+        (b"{{a}", 0),
+        (b"a {b {c} \\} ", 2),
+    ];
+    for (text, at) in rows {
+        let text = Text::new(alloc, text)?;
+        let place = match split(alloc, &text) {
+            Ok(_words) => None,
+            Err(ListFault::Bad { at }) => Some(at),
+            Err(ListFault::NoMemory) => Some(u64::MAX),
+        };
+        assert_eq!(rt; place, Some(at));
+    }
+    Ok(())
+}
+
+#[test]
+fn quoted(rt: HostRuntime) -> Result<(), Fail> {
+    let alloc = rt.alloc();
+    let rows: [(&[u8], &[u8]); 18] = [
+        (b"", b""),
+        (b"|", b"{}"),
+        (b"a||b c|d{|", b"a {} {b c} d\\{"),
+        (b"a\\|", b"a\\\\"),
+        (b"\\|", b"\\\\"),
+        (b"a\\\\|", b"{a\\\\}"),
+        (b"\\\n|", b"\\\\\\n"),
+        (b"a\\\\\nb|", b"{a\\\\\nb}"),
+        (b"#a|b|#|", b"{#a} b {#}"),
+        (b"a#|#{|b#{|", b"a# \\#\\{ b#\\{"),
+        (b"a|#b|", b"a {#b}"),
+        (b"}{|", b"\\}\\{"),
+        (b"{}|{a}b|", b"{{}} {{a}b}"),
+        (b"\\{|", b"{\\{}"),
+        (b"{\\}|", b"\\{\\\\\\}"),
+        (b"{ \t\n\r\x0b\x0c|", b"\\{\\ \\t\\n\\r\\v\\f"),
+        (b"}$[];\"\\|", b"\\}\\$\\[\\]\\;\\\"\\\\"),
+        (b"$a|[b]|;|\"|a,b=c~|", b"{$a} {[b]} {;} {\"} a,b=c~"),
+    ];
+    for (words, want) in rows {
+        let text = quote(alloc, &words_of(alloc, words)?)?;
+        assert_eq!(rt; text.bytes(), want);
+        assert_eq!(rt; ended(alloc, text.bytes())?.as_slice(), words);
+    }
+    Ok(())
+}
+
+/// How the element of this byte alone is written.
+fn single(alloc: Global, b: u8) -> Result<Vec<u8>, Fail> {
+    let mut text = Vec::new(alloc);
+    match b {
+        b'{' | b'}' | b'\\' => text.extend_from_slice(&[b'\\', b])?,
+        b' ' | 9..=13 | b'"' | b'#' | b'$' | b';' | b'[' | b']' => {
+            text.extend_from_slice(&[b'{', b, b'}'])?
+        }
+        _ => text.push(b)?,
+    }
+    Ok(text)
+}
+
+#[test]
+fn single_bytes(rt: HostRuntime) -> Result<(), Fail> {
+    let alloc = rt.alloc();
+    for b in 0..=255u8 {
+        let mut words = Words::new(alloc);
+        words.push(Text::new(alloc, &[b])?)?;
+        let text = quote(alloc, &words)?;
+        assert_eq!(rt; text.bytes(), single(alloc, b)?.as_slice(), "byte {b}");
+        assert_eq!(rt;
+            ended(alloc, text.bytes())?.as_slice(),
+            [b, b'|'].as_slice(),
+            "byte {b}"
+        );
+    }
+    Ok(())
+}
+
+#[test]
+fn ten_thousand(rt: HostRuntime) -> Result<(), Fail> {
+    let alloc = rt.alloc();
+    let mut all = Vec::new(alloc);
+    for _ in 0..2000 {
+        all.extend_from_slice(b"a||b c|d{|#\\\n|")?;
+    }
+    let words = words_of(alloc, &all)?;
+    assert_eq!(rt; words.len(), 10000);
+    let text = quote(alloc, &words)?;
+    assert_eq!(rt; text.len(), 2000 * 22 - 1);
+    assert_eq!(rt; ended(alloc, text.bytes())? == all, true);
+    Ok(())
+}

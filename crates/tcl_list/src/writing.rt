@@ -1,0 +1,182 @@
+//! A list as a text.
+
+ghost use Rattle.std.specs.Prelude.{[], false, ◌≡◌, ◌++◌, length, take, ◌<◌, IfOk, OnOk};
+ghost use Rattle.txt_core.specs.Counting.{balances};
+ghost use Rattle.txt_core.specs.Quoting.{is_special, none_special, is_plain, letter_of, with_backslashes, escaped, written, quoting};
+
+use crate::gap::{FORM_FEED, VERTICAL_TAB, is_blank_or_newline};
+use std::alloc::{AllocError, Global};
+use txt_core::{NoMemory, Text, Words};
+
+/// Whether the byte keeps an element from standing as itself.
+fn special(b: u8) -> bool
+    ensures { result ≡ is_special b }
+{
+    is_blank_or_newline(b) || matches!(b, b'{' | b'}' | b'[' | b']' | b'"' | b'\\' | b'$' | b';')
+}
+
+fn no_special(text: &[u8]) -> bool
+    ensures { result ≡ none_special text.now }
+{
+    let mut rest = text;
+    'bytes: while let Some((b, tail)) = rest.split_first() {
+        if special(*b) {
+            return false;
+        }
+        rest = tail;
+    }
+    true
+}
+
+/// Whether the element can stand as itself.
+fn plain(text: &[u8]) -> bool
+    ensures { result ≡ is_plain text.now }
+{
+    match text.split_first() {
+        None => false,
+        Some((b, _)) => *b != b'#' && no_special(text),
+    }
+}
+
+/// Whether the element can stand in braces.
+#[tactic(auto, unfolding(txt_core::specs::Counting::balances))]
+fn fits_braces(text: &[u8]) -> bool
+    ensures { result ≡ balances false 0 text.now }
+{
+    let mut taken = false;
+    let mut open_now = 0usize;
+    let mut rest = text;
+    'bytes: while let Some((b, tail)) = rest.split_first() {
+        if taken {
+            if *b == b'\n' {
+                return false;
+            }
+            taken = false;
+        } else if *b == b'\\' {
+            taken = true;
+        } else if *b == b'{' {
+            open_now += 1;
+        } else if *b == b'}' {
+            if open_now == 0 {
+                return false;
+            }
+            open_now -= 1;
+        }
+        rest = tail;
+    }
+    !taken && open_now == 0
+}
+
+/// The byte that a backslash stands before in the place of this one.
+fn letter(b: u8) -> u8
+    ensures { result ≡ letter_of b }
+{
+    match b {
+        b'\n' => b'n',
+        b'\t' => b't',
+        b'\r' => b'r',
+        VERTICAL_TAB => b'v',
+        FORM_FEED => b'f',
+        _ => b,
+    }
+}
+
+/// Writes a text with its special bytes behind backslashes.
+#[tactic(auto, using(crate::proofs::Slashes::slash_steps))]
+fn put_slashed(out: &mut Vec<u8>, text: &[u8]) -> Result<(), AllocError>
+    ensures { OnOk result (out.new.items ≡ out.old.items ++ with_backslashes text.now) }
+{
+    let mut rest = text;
+    'bytes: while let Some((b, tail)) = rest.split_first() {
+        if special(*b) {
+            out.push(b'\\')?;
+            out.push(letter(*b))?;
+        } else {
+            out.push(*b)?;
+        }
+        rest = tail;
+    }
+    Ok(())
+}
+
+/// The same, and a leading number sign behind a backslash too.
+fn put_escaped(out: &mut Vec<u8>, text: &[u8]) -> Result<(), AllocError>
+    ensures { OnOk result (out.new.items ≡ out.old.items ++ escaped text.now) }
+{
+    if let Some((b, tail)) = text.split_first() {
+        if *b == b'#' {
+            out.push(b'\\')?;
+            out.push(b'#')?;
+            return put_slashed(out, tail);
+        }
+        return put_slashed(out, text);
+    }
+    Ok(())
+}
+
+/// Writes an element.
+fn put_element(out: &mut Vec<u8>, text: &[u8]) -> Result<(), AllocError>
+    ensures { OnOk result (out.new.items ≡ out.old.items ++ written text.now) }
+{
+    if plain(text) {
+        out.extend_from_slice(text)
+    } else if fits_braces(text) {
+        out.push(b'{')?;
+        out.extend_from_slice(text)?;
+        out.push(b'}')?;
+        Ok(())
+    } else {
+        put_escaped(out, text)
+    }
+}
+
+/// Writes the elements from the second on, each behind a space.
+#[tactic(auto, using(crate::proofs::Slashes::quote_steps))]
+fn put_more(out: &mut Vec<u8>, words: &Words) -> Result<(), AllocError>
+    requires { 0 < length words.now }
+    ensures { OnOk result (out.old.items ≡ quoting (take 1 words.now) → out.new.items ≡ quoting words.now) }
+{
+    'words: for i in 1..words.len() {
+        match words.get(i) {
+            None => unreachable!(),
+            Some(word) => {
+                out.push(b' ')?;
+                put_element(out, word.bytes())?;
+            }
+        }
+    }
+    Ok(())
+}
+
+/// Writes the elements.
+#[tactic(auto, using(crate::proofs::Slashes::quote_steps))]
+fn put_all(out: &mut Vec<u8>, words: &Words) -> Result<(), AllocError>
+    ensures { OnOk result (out.old.items ≡ [] → out.new.items ≡ quoting words.now) }
+{
+    match words.get(0) {
+        None => Ok(()),
+        Some(word) => {
+            put_element(out, word.bytes())?;
+            put_more(out, words)
+        }
+    }
+}
+
+/// The one text in which these elements are written as a list, with one space between.
+///
+/// An element stands as itself where it isn't empty, doesn't begin with `#` and holds no blank,
+/// newline or one of `{ } [ ] " \ $ ;`. Otherwise it stands in braces where its braces match and
+/// no backslash stands last or before a newline. Otherwise each of those bytes, and a leading `#`,
+/// is written with a backslash, and newline, tab, carriage return, vertical tab and form feed as
+/// `\n \t \r \v \f`. Splitting the text gives these elements again.
+///
+/// # Errors
+///
+/// For want of memory alone.
+pub fn quote(alloc: Global, words: &Words) -> Result<Text, NoMemory>
+    ensures { IfOk result (λ text. text ≡ quoting words.now) }
+{
+    let mut out = Vec::new(alloc);
+    put_all(&mut out, words)?;
+    Ok(Text::from_vec(out))
+}
