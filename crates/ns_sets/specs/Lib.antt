@@ -1,0 +1,4 @@
+pub mod Fields
+pub mod Matching
+pub mod Merging
+pub mod Sets
