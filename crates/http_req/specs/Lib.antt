@@ -1,0 +1,10 @@
+pub mod Fetching
+pub mod Fields
+pub mod Fronts
+pub mod Heads
+pub mod Limits
+pub mod Outcomes
+pub mod Readings
+pub mod Requests
+pub mod Statuses
+pub mod Targets

@@ -1,0 +1,156 @@
+//! Bytes that were read and not used.
+
+ghost use Rattle.std.specs.Prelude.{◌≡◌, ◌≤◌, ◌<◌, [], length, drop, OnOk, OnErr, IfErr};
+ghost use Rattle.http_req.specs.Limits.{head_limit};
+ghost use Rattle.http_req.specs.Fetching.{Moves, Stopped};
+
+use crate::head::HEAD_LIMIT;
+use outside::{ReadAnswer, Source};
+use std::alloc::Global;
+use std::marker::Model;
+
+/// The most bytes that are asked of a source at once.
+const PIECE_SIZE: usize = 4_096;
+
+/// Bytes that were read from a source and not used yet. Contracts see it as the list of them.
+#[derive(Debug, Drop)]
+pub struct Carry {
+    bytes: Vec<u8>,
+}
+
+impl Model for Carry {
+    ghost use Rattle.std.specs.Prelude.{ℕ, List};
+    ghost use Rattle.std.specs.Coded.{coded_list, coded_ℕ};
+
+    ghost Value = { List ℕ };
+
+    ghost coded = { coded_list coded_ℕ };
+
+    ghost view = { λ a. a.bytes.items };
+}
+
+/// Why no more bytes were fetched.
+#[derive(Clone, Copy, Debug, PartialEq, Eq)]
+pub(crate) enum Stop {
+    /// The input has ended.
+    End,
+    /// The source failed.
+    Fault,
+    /// Memory ran out.
+    NoMemory,
+}
+
+impl Carry {
+    /// Nothing. Nothing is allocated until the first read.
+    pub fn new(alloc: Global) -> Carry
+        ensures { result ≡ [] }
+    {
+        Carry {
+            bytes: Vec::new(alloc),
+        }
+    }
+
+    pub(crate) fn bytes(&self) -> &[u8]
+        ensures { result.now ≡ self.now }
+    {
+        self.bytes.as_slice()
+    }
+
+    pub(crate) fn len(&self) -> usize
+        ensures { result ≡ length self.now }
+    {
+        self.bytes.len()
+    }
+
+    /// Takes the bytes of a request off the front.
+    pub(crate) fn use_up(&mut self, count: usize)
+        requires { count ≤ length self.old }
+        ensures { self.new ≡ drop count self.old }
+    {
+        self.bytes.drain(..count);
+    }
+
+    /// Reads one piece, and puts it at the end.
+    pub(crate) fn fetch<S: Source>(&mut self, source: &mut S) -> Result<(), Stop>
+        ensures moves { Moves self.old (S.rest source.old) (S.faults source.old) self.new (S.rest source.new) (S.faults source.new) }
+        ensures more { OnOk result (length self.old < length self.new) }
+        ensures kept { OnErr result (self.new ≡ self.old) }
+        ensures stopped { IfErr result (λ stop. Stopped (S.rest source.old) (S.faults source.old) stop (S.rest source.new) (S.faults source.new)) }
+    {
+        let mut piece = [0; PIECE_SIZE];
+        if self.bytes.reserve(PIECE_SIZE).is_err() {
+            return Err(Stop::NoMemory);
+        }
+        match source.read(&mut piece) {
+            ReadAnswer::Bytes(0) => Err(Stop::End),
+            ReadAnswer::Bytes(count) => match self.bytes.extend_from_slice(&piece[..count]) {
+                Ok(()) => Ok(()),
+                Err(_) => Err(Stop::NoMemory),
+            },
+            ReadAnswer::Failed => Err(Stop::Fault),
+        }
+    }
+
+    /// Reads pieces until another look for a head is worth while: the head has come to its empty
+    /// line, or a line has ended and twice as many bytes are there as at the last look, or as many
+    /// as a head may take. So all the looks together cost no more than a few times the last.
+    pub(crate) fn fetch_lines<S: Source>(&mut self, source: &mut S) -> Result<(), Stop>
+        requires { length self.old < head_limit }
+        ensures moves { Moves self.old (S.rest source.old) (S.faults source.old) self.new (S.rest source.new) (S.faults source.new) }
+        ensures more { OnOk result (length self.old < length self.new) }
+        ensures stopped { IfErr result (λ stop. Stopped (S.rest source.old) (S.faults source.old) stop (S.rest source.new) (S.faults source.new)) }
+    {
+        let looked = self.len();
+        while self.len() < HEAD_LIMIT {
+            let start = self.len();
+            self.fetch(source)?;
+            if is_worth_a_look(self.bytes(), looked, start) {
+                return Ok(());
+            }
+        }
+        Ok(())
+    }
+
+    /// Reads pieces until so many bytes are there.
+    pub(crate) fn fetch_up_to<S: Source>(&mut self, source: &mut S, size: usize) -> Result<(), Stop>
+        ensures moves { Moves self.old (S.rest source.old) (S.faults source.old) self.new (S.rest source.new) (S.faults source.new) }
+        ensures enough { OnOk result (size ≤ length self.new) }
+        ensures short { OnErr result (length self.new < size) }
+        ensures stopped { IfErr result (λ stop. Stopped (S.rest source.old) (S.faults source.old) stop (S.rest source.new) (S.faults source.new)) }
+    {
+        while self.len() < size {
+            self.fetch(source)?;
+        }
+        Ok(())
+    }
+}
+
+/// Whether a look for a head is worth while after the last one, at `looked` bytes, where the bytes
+/// from `start` on are new.
+fn is_worth_a_look(bytes: &[u8], looked: usize, start: usize) -> bool
+    requires { start ≤ length bytes.now }
+{
+    bytes[start..].contains(&b'\n') && (bytes.len() / 2 >= looked || closes_a_head(bytes, start))
+}
+
+/// Whether an empty line that follows a line with text ends at one of the bytes from `start` on.
+fn closes_a_head(bytes: &[u8], start: usize) -> bool {
+    for end in start..bytes.len() {
+        if ends_in_empty_line(&bytes[..end + 1]) {
+            return true;
+        }
+    }
+    false
+}
+
+/// Whether the bytes end in an empty line that follows a line with text.
+fn ends_in_empty_line(bytes: &[u8]) -> bool {
+    let text = without_line_end(bytes).and_then(without_line_end);
+    text.is_some_and(|text| text.last().is_some_and(|byte| *byte != b'\n'))
+}
+
+/// The bytes without the end of a line, where they end in one.
+fn without_line_end(bytes: &[u8]) -> Option<&[u8]> {
+    let line = bytes.strip_suffix(b"\n")?;
+    Some(line.strip_suffix(b"\r").unwrap_or(line))
+}

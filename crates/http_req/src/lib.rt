@@ -1,0 +1,18 @@
+//! The reading of requests: what an input is, decided as a whole, over any source in any pieces.
+#![tactic(auto)]
+
+mod carry;
+mod checks;
+mod fields;
+mod head;
+mod reading;
+mod request;
+mod status;
+mod target;
+#[cfg(test)]
+mod tests;
+
+pub use carry::Carry;
+pub use head::{FIELD_ROOM, Front, HEAD_LIMIT, find_head};
+pub use reading::read_request;
+pub use request::{Got, Request};

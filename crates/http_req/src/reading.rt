@@ -1,0 +1,192 @@
+//! The reading of one request.
+
+ghost use Rattle.std.specs.Prelude.{◌≡◌, ◌≤◌, ℕ, List, [], length, map, All, IfOk, IfErr};
+ghost use Rattle.outside.specs.Faults.{Rose};
+ghost use Rattle.httparse.specs.Grammar.{RequestHead};
+ghost use Rattle.httparse.specs.Spans.{IsHeaderWithin, IsRequestAt, header_bytes};
+ghost use Rattle.http_req.specs.Fetching.{Moves};
+ghost use Rattle.http_req.specs.Fronts.{HeadStands};
+ghost use Rattle.http_req.specs.Heads.{front};
+ghost use Rattle.http_req.specs.Outcomes.{Gets, ended};
+ghost use Rattle.http_req.specs.Readings.{left_of, Answers, Consumes, OnReadFault, cut_answer, Passes, Fails, Stops, Received};
+ghost use Rattle.http_req.specs.Requests.{shown};
+
+use crate::carry::{Carry, Stop};
+use crate::checks::{FIELD_LIMIT, refusal};
+use crate::fields::body_length;
+use crate::head::{FIELD_ROOM, Front, HEAD_LIMIT, find_head};
+use crate::request::{Got, Request};
+use crate::status::FIELDS_TOO_LARGE;
+use crate::target::{query, segments};
+use httparse::spans::{EMPTY_HEADER_SPAN, HeaderSpan, RequestSpans};
+use outside::Source;
+use std::alloc::Global;
+use txt_core::{NoMemory, Pairs, Text};
+
+/// Reads the next request: from the bytes that are carried, and then from the source.
+///
+/// What is answered depends on the bytes alone, and not on the pieces in which they come. After a
+/// request the bytes that it took are gone, and what was read past them is carried on; a further
+/// call begins there. After `Refused`, `ReadFault` and `NoMemory` the carry isn't used again.
+pub fn read_request<S: Source>(alloc: Global, source: &mut S, carry: &mut Carry, peer: &Text) -> Got
+    ensures answers { Answers (left_of carry.old (S.rest source.old)) peer.now result (left_of carry.new (S.rest source.new)) }
+    ensures consumes { Consumes carry.old (S.rest source.old) peer.now result carry.new (S.rest source.new) }
+
+    // A fault is answered only where the source's count rose and what was read is no whole request
+    // and isn't refused. The count never falls.
+    ensures undecided { OnReadFault result (Gets carry.new peer.now (ended carry.new)) }
+    ensures rose { OnReadFault result (Rose (S.faults source.old) (S.faults source.new)) }
+    ensures counts { S.faults source.old ≤ S.faults source.new }
+{
+    match receive(alloc, source, carry, peer) {
+        Ok(request) => Got::Request(request),
+        Err(got) => got,
+    }
+}
+
+fn receive<S: Source>(
+    alloc: Global,
+    source: &mut S,
+    carry: &mut Carry,
+    peer: &Text,
+) -> Result<Request, Got>
+    ensures { Received carry.old (S.rest source.old) (S.faults source.old) peer.now result carry.new (S.rest source.new) (S.faults source.new) }
+{
+    let mut spans = vec![in alloc; EMPTY_HEADER_SPAN; FIELD_ROOM]?;
+    let head = read_head(source, carry, &mut spans)?;
+    let request = check(alloc, carry.bytes(), &head, &spans, peer)?;
+    read_body(alloc, source, carry, request, head.len)
+}
+
+/// The request that a head at the front of the input shows, without its body, if it passes the checks.
+fn check(
+    alloc: Global,
+    input: &[u8],
+    head: &RequestSpans,
+    spans: &[HeaderSpan],
+    peer: &Text,
+) -> Result<Request, Got>
+    requires { HeadStands (front input.now) spans.now head.now }
+    ensures passes { IfOk result (λ request. Passes input.now peer.now head.now.len request) }
+    ensures fails { IfErr result (λ answer. Fails input.now peer.now answer) }
+{
+    if head.headers > FIELD_LIMIT {
+        return Err(Got::Refused {
+            status: FIELDS_TOO_LARGE,
+        });
+    }
+    let front = &input[..input.len().min(HEAD_LIMIT)];
+    let request = show(alloc, front, head, spans, peer)?;
+    match refusal(&request) {
+        Some(status) => Err(Got::Refused { status }),
+        None => Ok(request),
+    }
+}
+
+/// Reads the body of a request whose head takes so many bytes, and takes it off the carry.
+fn read_body<S: Source>(
+    alloc: Global,
+    source: &mut S,
+    carry: &mut Carry,
+    mut request: Request,
+    start: usize,
+) -> Result<Request, Got>
+    requires { Passes carry.old request.peer start request }
+    ensures { Received carry.old (S.rest source.old) (S.faults source.old) request.peer result carry.new (S.rest source.new) (S.faults source.new) }
+{
+    let length = body_length(request.fields.as_slice()).unwrap_or(0);
+    let used = start + length as usize;
+    if let Err(stop) = carry.fetch_up_to(source, used) {
+        return Err(cut_off(carry, stop));
+    }
+    request.body = Text::new(alloc, &carry.bytes()[start..used])?;
+    carry.use_up(used);
+    Ok(request)
+}
+
+/// Reads until a whole head stands at the front of the carry.
+fn read_head<S: Source>(
+    source: &mut S,
+    carry: &mut Carry,
+    spans: &mut [HeaderSpan],
+) -> Result<RequestSpans, Got>
+    requires { FIELD_ROOM ≤ length spans.old }
+    ensures moves { Moves carry.old (S.rest source.old) (S.faults source.old) carry.new (S.rest source.new) (S.faults source.new) }
+    ensures stands { IfOk result (λ head. HeadStands (front carry.new) spans.new head) }
+    ensures stops { IfErr result (λ answer. (peer : List ℕ) → Stops carry.new peer (S.rest source.old) (S.faults source.old) (S.rest source.new) (S.faults source.new) answer) }
+{
+    let mut fetched = Ok(());
+    loop {
+        match find_head(carry.bytes(), spans) {
+            Front::Head(head) => return Ok(head),
+            Front::Refused(status) => return Err(Got::Refused { status }),
+            Front::Cut => {}
+        }
+        match fetched {
+            Ok(()) => fetched = carry.fetch_lines(source),
+            Err(stop) => return Err(cut_off(carry, stop)),
+        }
+    }
+}
+
+/// The answer where what is carried is less than a request and no more came.
+fn cut_off(carry: &Carry, stop: Stop) -> Got
+    ensures { result ≡ cut_answer carry.now stop }
+{
+    match stop {
+        Stop::End if carry.len() == 0 => Got::End,
+        Stop::End => Got::Truncated {
+            have: carry.len() as u64,
+        },
+        Stop::Fault => Got::ReadFault,
+        Stop::NoMemory => Got::NoMemory,
+    }
+}
+
+/// The request that a head shows, without its body.
+fn show(
+    alloc: Global,
+    bytes: &[u8],
+    head: &RequestSpans,
+    spans: &[HeaderSpan],
+    peer: &Text,
+) -> Result<Request, NoMemory>
+    requires { HeadStands bytes.now spans.now head.now }
+    ensures { IfOk result (λ request. (tree : RequestHead) → IsRequestAt bytes.now spans.now head.now tree → request ≡ shown tree [] peer.now) }
+{
+    let target = head.path.of(bytes);
+    Ok(Request {
+        method: Text::new(alloc, head.method.of(bytes))?,
+        target: Text::new(alloc, target)?,
+        segments: segments(alloc, target)?,
+        query: Text::new(alloc, query(target))?,
+        minor: head.version,
+        fields: pairs(alloc, bytes, &spans[..head.headers])?,
+        body: Text::empty(alloc),
+        peer: Text::new(alloc, peer.bytes())?,
+    })
+}
+
+/// The names and values that the spans cover.
+fn pairs(alloc: Global, bytes: &[u8], spans: &[HeaderSpan]) -> Result<Pairs, NoMemory>
+    requires { All (IsHeaderWithin (length bytes.now)) spans.now }
+    ensures { IfOk result (λ pairs. pairs ≡ map (header_bytes bytes.now) spans.now) }
+{
+    let mut pairs = Pairs::new(alloc);
+    for span in spans {
+        let pair = pair(alloc, bytes, span)?;
+        if pairs.push(pair).is_err() {
+            return Err(NoMemory);
+        }
+    }
+    Ok(pairs)
+}
+
+fn pair(alloc: Global, bytes: &[u8], span: &HeaderSpan) -> Result<(Text, Text), NoMemory>
+    requires { IsHeaderWithin (length bytes.now) span.now }
+    ensures { IfOk result (λ pair. pair ≡ header_bytes bytes.now span.now) }
+{
+    let name = Text::new(alloc, span.name.of(bytes))?;
+    let value = Text::new(alloc, span.value.of(bytes))?;
+    Ok((name, value))
+}

@@ -1,0 +1,110 @@
+//! What the target of a request says (RFC 9112, section 3.2).
+
+ghost use Rattle.std.specs.Prelude.{◌≡◌, ◌==◌, ◌≤◌, length, IfOk};
+ghost use Rattle.std.specs.List.{list_any, position, position_or_len};
+ghost use Rattle.percent_encoding.specs.Percent.{percent_decode};
+ghost use Rattle.http_req.specs.Targets.{path_of, query_of, segments_of, is_target, is_unsafe, is_unsafe_byte, begins_with_host};
+
+use percent_encoding::percent_decode;
+use std::alloc::Global;
+use txt_core::{NoMemory, Text, Words};
+
+const SCHEME: &[u8] = b"http://";
+
+/// Whether the target is a path, or `http://` with a host, which a path may follow.
+pub(crate) fn is_target(target: &[u8]) -> bool
+    ensures { result ≡ is_target target.now }
+{
+    match target.first() {
+        Some(b'/') => true,
+        _ => match target.strip_prefix(SCHEME) {
+            Some(rest) => begins_with_host(rest),
+            None => false,
+        },
+    }
+}
+
+fn begins_with_host(rest: &[u8]) -> bool
+    ensures { result ≡ begins_with_host rest.now }
+{
+    match rest.first() {
+        Some(byte) => *byte != b'/' && *byte != b'?',
+        None => false,
+    }
+}
+
+/// The path: what stands before the first question mark, without scheme and host.
+fn path(target: &[u8]) -> &[u8]
+    ensures { result.now ≡ path_of target.now }
+{
+    let path = &target[..place_of(target, b'?')];
+    match path.strip_prefix(SCHEME) {
+        Some(rest) => &rest[place_of(rest, b'/')..],
+        None => path,
+    }
+}
+
+/// The query: what stands after the first question mark.
+pub(crate) fn query(target: &[u8]) -> &[u8]
+    ensures { result.now ≡ query_of target.now }
+{
+    let end = place_of(target, b'?');
+    if end < target.len() {
+        &target[end + 1..]
+    } else {
+        &[]
+    }
+}
+
+/// The place of the first such byte, or the length where there is none.
+fn place_of(text: &[u8], wanted: u8) -> usize
+    ensures within { result ≤ length text.now }
+    ensures place { result ≡ position_or_len (λ byte. byte == wanted) text.now }
+{
+    find_byte(text, wanted).unwrap_or(text.len())
+}
+
+fn find_byte(text: &[u8], wanted: u8) -> Option<usize>
+    ensures { result ≡ position (λ byte. byte == wanted) text.now }
+{
+    text.iter().position(|byte| *byte == wanted)
+}
+
+/// The parts of the path between its slashes that have a byte, each percent-decoded.
+pub(crate) fn segments(alloc: Global, target: &[u8]) -> Result<Words, NoMemory>
+    ensures { IfOk result (λ segments. segments ≡ segments_of target.now) }
+{
+    let mut segments = Words::new(alloc);
+    for part in path(target).split(|byte| *byte == b'/') {
+        if !part.is_empty() {
+            let segment = decoded(alloc, part)?;
+            if segments.push(segment).is_err() {
+                return Err(NoMemory);
+            }
+        }
+    }
+    Ok(segments)
+}
+
+fn decoded(alloc: Global, part: &[u8]) -> Result<Text, NoMemory>
+    ensures { IfOk result (λ segment. segment ≡ percent_decode part.now) }
+{
+    let mut bytes = Vec::new(alloc);
+    percent_decode(part).append_to(&mut bytes)?;
+    Ok(Text::from_vec(bytes))
+}
+
+/// Whether the segment could lead out of the folder in which it is looked up.
+pub(crate) fn is_unsafe(segment: &[u8]) -> bool
+    ensures { result ≡ is_unsafe segment.now }
+{
+    segment == b".".as_slice() || segment == b"..".as_slice() || has_unsafe_byte(segment)
+}
+
+fn has_unsafe_byte(segment: &[u8]) -> bool
+    ensures { result ≡ list_any is_unsafe_byte segment.now }
+{
+    segment
+        .iter()
+        .any(|byte| *byte == b'/' || *byte == b'\\' || *byte == 0)
+}

@@ -1,0 +1,32 @@
+-- Responses with content and without.
+use Rattle.std.proofs.Common.{◌≡◌, ℕ, Bool, true, false, not, ◌||◌, ◌⊎◌, inl, inr, List, [], ◌++◌, length, codes, decimal, if◌then◌else◌, refl, sym, append-nil}
+use Rattle.http_resp.specs.OutputFields.{field_line}
+use Rattle.http_resp.specs.ResponseBytes.{has_content, content_lines, head_bytes, response_bytes}
+use Rattle.http_resp.specs.declared.response.Response.{Response}
+
+pub no_content_lines : (response : Response) → has_content response.status ≡ false → content_lines response ≡ []
+unfolding content_lines
+no_content_lines response without = rw without refl
+
+pub content_lines_are : (response : Response) → has_content response.status ≡ true → content_lines response ≡ field_line (codes "Content-Type") response.kind ++ field_line (codes "Content-Length") (decimal (length response.body))
+unfolding content_lines
+content_lines_are response with_content = rw with_content refl
+
+without_body : (head body : List ℕ) (head_only content : Bool) → (head_only ≡ true) ⊎ (content ≡ false) → head ≡ head ++ (if head_only || not content then [] else body)
+without_body head body true content either = sym (append-nil head)
+without_body head body false true either = elim either [ inl wrong ↦ cc | inr wrong ↦ cc ]
+without_body head body false false either = sym (append-nil head)
+
+pub head_alone : (response : Response) (moment : ℕ) (head_only close : Bool) → (head_only ≡ true) ⊎ (has_content response.status ≡ false) → head_bytes response moment close ≡ response_bytes response moment head_only close
+unfolding response_bytes
+head_alone response moment head_only close either = without_body _ _ head_only (has_content response.status) either
+
+pub head_and_body : (response : Response) (moment : ℕ) (head_only close : Bool) → head_only ≡ false → has_content response.status ≡ true → head_bytes response moment close ++ response.body ≡ response_bytes response moment head_only close
+unfolding response_bytes
+head_and_body response moment head_only close whole content = rw (whole, content) refl
+
+-- Parts that are appended one after another.
+pub appended : (status date server output content connection end : List ℕ) (before first second third fourth fifth sixth last : List ℕ)
+    → before ≡ [] → first ≡ before ++ status → second ≡ first ++ date → third ≡ second ++ server → fourth ≡ third ++ output → fifth ≡ fourth ++ content → sixth ≡ fifth ++ connection → last ≡ sixth ++ end
+    → last ≡ status ++ date ++ server ++ output ++ content ++ connection ++ end
+appended status date server output content connection end before first second third fourth fifth sixth last nothing s d v o c n e = cc

@@ -1,0 +1,134 @@
+//! The bytes of a response.
+
+ghost use Rattle.std.specs.Prelude.{◌≡◌, ◌++◌, IfOk, OnOk};
+ghost use Rattle.http_resp.specs.ResponseBytes.{response_bytes, head_bytes, content_lines, connection_line, has_content};
+ghost use Rattle.http_resp.specs.StatusLine.{reason, status_text, status_line};
+
+use crate::date::fixdate;
+use crate::fields::{push_field, push_output_fields};
+use crate::response::Response;
+use itoa::Buffer;
+use std::alloc::Global;
+use txt_core::{NoMemory, Text};
+
+/// 204, whose responses have no content (RFC 9110, section 15.3.5).
+const NO_CONTENT: u16 = 204;
+
+/// 304, whose responses have none either (RFC 9110, section 15.4.5).
+const NOT_MODIFIED: u16 = 304;
+
+/// The reason phrase of a status code.
+#[tactic(auto, unfolding(crate::specs::StatusLine::reason))]
+fn reason(status: u16) -> &'static [u8]
+    ensures { result.now ≡ reason status }
+{
+    match status {
+        200 => b"OK",
+        201 => b"Created",
+        204 => b"No Content",
+        301 => b"Moved Permanently",
+        302 => b"Found",
+        304 => b"Not Modified",
+        400 => b"Bad Request",
+        401 => b"Unauthorized",
+        403 => b"Forbidden",
+        404 => b"Not Found",
+        405 => b"Method Not Allowed",
+        413 => b"Content Too Large",
+        431 => b"Request Header Fields Too Large",
+        500 => b"Internal Server Error",
+        501 => b"Not Implemented",
+        503 => b"Service Unavailable",
+        _ => b"Unknown",
+    }
+}
+
+/// Appends a status code and its reason phrase.
+pub fn push_status(text: &mut Text, status: u16) -> Result<(), NoMemory>
+    ensures { OnOk result (text.new ≡ text.old ++ status_text status) }
+{
+    text.append(Buffer::new().format(status).as_bytes())?;
+    text.append(b" ")?;
+    text.append(reason(status))
+}
+
+/// Appends the status line.
+#[tactic(auto, unfolding(crate::specs::StatusLine::status_line))]
+fn push_status_line(text: &mut Text, status: u16) -> Result<(), NoMemory>
+    ensures { OnOk result (text.new ≡ text.old ++ status_line status) }
+{
+    text.append(b"HTTP/1.1 ")?;
+    push_status(text, status)?;
+    text.append(b"\r\n")
+}
+
+/// Whether a response of this status may have content.
+fn has_content(status: u16) -> bool
+    ensures { result ≡ has_content status }
+{
+    status != NO_CONTENT && status != NOT_MODIFIED
+}
+
+/// Appends the fields that say what the content is, where there may be any.
+fn push_content_fields(text: &mut Text, response: &Response) -> Result<(), NoMemory>
+    ensures { OnOk result (text.new ≡ text.old ++ content_lines response.now) }
+{
+    if !has_content(response.status) {
+        return Ok(());
+    }
+    push_field(text, b"Content-Type", response.kind.bytes())?;
+    let mut digits = Buffer::new();
+    push_field(
+        text,
+        b"Content-Length",
+        digits.format(response.body.len()).as_bytes(),
+    )?;
+    Ok(())
+}
+
+/// Appends the field that says whether the connection stays open.
+#[tactic(auto, unfolding(crate::specs::ResponseBytes::connection_line))]
+fn push_connection_field(text: &mut Text, close: bool) -> Result<(), NoMemory>
+    ensures { OnOk result (text.new ≡ text.old ++ connection_line close) }
+{
+    let option: &[u8] = if close { b"close" } else { b"keep-alive" };
+    push_field(text, b"Connection", option)
+}
+
+/// The head of a response, with its empty line.
+fn head(alloc: Global, response: &Response, moment: u64, close: bool) -> Result<Text, NoMemory>
+    ensures { IfOk result (λ text. text ≡ head_bytes response.now moment close) }
+{
+    let mut text = Text::empty(alloc);
+    push_status_line(&mut text, response.status)?;
+    push_field(&mut text, b"Date", &fixdate(moment))?;
+    push_field(&mut text, b"Server", b"AOLserver-profile/1")?;
+    push_output_fields(alloc, &mut text, &response.fields)?;
+    push_content_fields(&mut text, response)?;
+    push_connection_field(&mut text, close)?;
+    text.append(b"\r\n")?;
+    Ok(text)
+}
+
+/// The bytes of a response: its head, and its body unless the request asks for the head alone
+/// (`head_only`, as HEAD does) or the status has no content (RFC 9112, section 2.1).
+///
+/// The Date field shows the moment, in seconds since 1970; one past the year 9999 counts as that
+/// year's last second. The Connection field says `close` or `keep-alive` by `close`. An output field
+/// that could end its line, or that the server writes itself, is left out.
+pub fn response_bytes(
+    alloc: Global,
+    response: &Response,
+    moment: u64,
+    head_only: bool,
+    close: bool,
+) -> Result<Text, NoMemory>
+    ensures { IfOk result (λ text. text ≡ response_bytes response.now moment head_only close) }
+{
+    let mut text = head(alloc, response, moment, close)?;
+    if head_only || !has_content(response.status) {
+        return Ok(text);
+    }
+    text.append(response.body.bytes())?;
+    Ok(text)
+}
