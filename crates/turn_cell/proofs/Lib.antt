@@ -1,0 +1,11 @@
+pub mod Members
+pub mod Histories
+pub mod Views
+pub mod Stays
+pub mod Keeping
+pub mod Turning
+pub mod Saying
+pub mod Chains
+pub mod Joins
+pub mod Rows
+pub mod Counting

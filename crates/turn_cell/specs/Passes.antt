@@ -1,0 +1,62 @@
+-- What a pass knows, and what it becomes by a split, a join and a turn.
+use Rattle.std.specs.Prelude.{◌≡◌, ℕ, ◌+◌, List, [], ◌∷◌, ◌++◌, cond, nat_lt, Some, None}
+use mathlib.Core.Option.{some}
+use lib.ListN.{get_elem?}
+use Rattle.turn_cell.specs.declared.view.Entry.{Entry}
+use Rattle.turn_cell.specs.declared.view.View.{View}
+use Rattle.turn_cell.specs.Members.{Has}
+
+-- the units of the whole share
+abbrev pub WHOLE : ℕ
+WHOLE = 65536
+
+module _ {S C R : Type 0} where
+  -- a pass with these units and no own entry, which has seen this many turns
+  abbrev pub fresh : ℕ → ℕ → S → S → View S C R
+  fresh units seen opening low = record { units = units; seen = seen; opening = opening; low = low; own = []; held = None }
+
+  -- the same pass while it has the object, which was taken out after this many turns
+  abbrev pub holding : View S C R → ℕ → S → View S C R
+  holding v count object = record v { held = Some (count, object) }
+
+  -- the entry of a turn
+  abbrev pub turn_of : ℕ → S → C → R → S → Entry S C R
+  turn_of place before call reply after = record { place = place; before = before; call = call; reply = reply; after = after }
+
+  -- after a turn: its entry is the last own one, and all up to it was seen
+  abbrev pub with_turn : View S C R → Entry S C R → View S C R
+  with_turn v e = record { units = v.units; seen = e.place + 1; opening = v.opening; low = e.after; own = v.own ++ e ∷ []; held = None }
+
+  -- the entry goes in front of the first one with a greater place
+  abbrev pub put_in : Entry S C R → List (Entry S C R) → List (Entry S C R)
+  put_in e [] = e ∷ []
+  put_in e (f ∷ fs) = cond (nat_lt e.place f.place) (e ∷ f ∷ fs) (f ∷ put_in e fs)
+
+  -- the entries of both, in order of place
+  abbrev pub merged : List (Entry S C R) → List (Entry S C R) → List (Entry S C R)
+  merged [] fs = fs
+  merged (e ∷ es) fs = put_in e (merged es fs)
+
+  -- after a join: the units of both, the entries of both in order of place, and the greater `seen` with its `low`
+  abbrev pub joined : View S C R → View S C R → View S C R
+  joined v w = record {
+    units = v.units + w.units;
+    seen = cond (nat_lt v.seen w.seen) w.seen v.seen;
+    opening = v.opening;
+    low = cond (nat_lt v.seen w.seen) w.low v.low;
+    own = merged v.own w.own;
+    held = None;
+  }
+
+  -- the sum of the units
+  abbrev pub units_of : List (View S C R) → ℕ
+  units_of [] = 0
+  units_of (v ∷ vs) = v.units + units_of vs
+
+  -- the pass with this number knows v
+  abbrev pub IsPass : List (View S C R) → ℕ → View S C R → Type 0
+  IsPass views port v = get_elem? views port ≡ some v
+
+  -- the entry is an own one of the pass with this number
+  abbrev pub IsOwn : List (View S C R) → ℕ → Entry S C R → Type 0
+  IsOwn views port e = (v : View S C R) × IsPass views port v × Has v.own e
