@@ -1,0 +1,19 @@
+-- The states that a schedule can be in.
+use Rattle.std.specs.Prelude.{◌≡◌, ◌<◌, ◌≤◌, List, length, Contains}
+use Rattle.sched_core.specs.Entries.{Entry, State, due_of, id_of, AreInOrder}
+
+-- each entry runs every 1 to 31,536,000 seconds (a year of 365 days), and is due at most that long after the year 9999
+abbrev pub AreSound : List Entry → Type 0
+AreSound es = (e : Entry) → Contains es e → (1 ≤ e.1.seconds) × (e.1.seconds ≤ 31536000) × (due_of e ≤ 253433836799)
+
+-- no two entries have one id
+abbrev pub HaveOwnIds : List Entry → Type 0
+HaveOwnIds es = (e f : Entry) → Contains es e → Contains es f → id_of e ≡ id_of f → e ≡ f
+
+-- at most 10,000 entries in order, sound, with ids of their own that are below the next one
+pub record Allowed (s : State) : Type 0 where
+  pub few : length s.entries ≤ 10000
+  pub in_order : AreInOrder s.entries
+  pub sound : AreSound s.entries
+  pub own_ids : HaveOwnIds s.entries
+  pub given : (e : Entry) → Contains s.entries e → id_of e < s.next

@@ -1,0 +1,5 @@
+pub mod Entries
+pub mod Due
+pub mod Allowed
+pub mod Sample
+pub mod Steps
