@@ -1,0 +1,95 @@
+-- Numbers in decimal, and what stands behind them.
+use Rattle.std.proofs.Common.{◌≡◌, ℕ, zero, suc, ◌+◌, ◌-◌, ◌*◌, ◌^◌, ◌<◌, ◌≤◌, ◌⊎◌, lit<, subst, List, length, get_or, take, true, refl, sym, ap, ◌∙◌, arith}
+use Rattle.std.specs.Prelude.{decimal}
+use Rattle.std.specs.Int.{IsInRange}
+use Rattle.std.specs.List.{list_all}
+use Rattle.std.specs.Str.Parse.{digits_value, AllDigits}
+use Rattle.std.specs.Char.{digit_value}
+use Rattle.std.proofs.lemmas.Bool.Decides.{nat_tests}
+use Rattle.std.proofs.lemmas.Fmt.{digits_decimal, decimal-digits_value, decimal_nonempty, decimal_digit, first_decimal, length-decimal-le}
+use Rattle.std.proofs.lemmas.Int.Digits.{digits_value_more}
+use Rattle.std.proofs.lemmas.Str.{digit_value_digit}
+use Rattle.std.proofs.lemmas.Str.Parse.{IsNumeralModel, IsDigitsTest, numerals_by_value, digits_value_short, digit_at}
+use Rattle.rehearse.specs.Letters.{is_digit}
+use Rattle.rehearse.specs.Reading.{is_other}
+use Rattle.rehearse.proofs.Cutting.{both, all_other}
+
+pub digit_in_range : (c : ℕ) → is_digit c ≡ true → IsInRange 48 57 c
+digit_in_range c h = (grind (arith, nat_tests), grind (arith, nat_tests))
+
+pub in_range_digit : (c : ℕ) → IsInRange 48 57 c → is_digit c ≡ true
+in_range_digit c h = grind (arith, nat_tests)
+
+tells : IsDigitsTest (λ t. list_all is_digit t ≡ true)
+tells = record {
+  empty = refl;
+  parts = λ c t h. let p : (is_digit c ≡ true) × (list_all is_digit t ≡ true) = both (is_digit c) (list_all is_digit t) h in (digit_in_range c p.0, p.1);
+  more = λ c t h k. rw (in_range_digit c h, k) refl;
+}
+
+pub own : IsNumeralModel (λ t. list_all is_digit t ≡ true) (digits_value 10)
+own = numerals_by_value (λ t. list_all is_digit t ≡ true) tells
+
+-- no digit is a newline
+pub decimal_other : (n : ℕ) → n < 2 ^ 64 → list_all (is_other 10) (decimal n) ≡ true
+decimal_other n h = all_other is_digit 10 (decimal n) refl (digits_decimal own n h)
+
+-- one digit more
+pub value_more : (ds : List ℕ) (i : ℕ) → i < length ds → IsInRange 48 57 (get_or ds i 0)
+    → digits_value 10 (take (i + 1) ds) ≡ digits_value 10 (take i ds) * 10 + (get_or ds i 0 - 48)
+value_more ds i h r =
+    let d : digit_value (get_or ds i 0) + 48 ≡ get_or ds i 0 = digit_value_digit (get_or ds i 0) r in
+    let e : digit_value (get_or ds i 0) ≡ get_or ds i 0 - 48 = minus (digit_value (get_or ds i 0)) (get_or ds i 0) d in
+    digits_value_more 10 ds i h ∙ ap (λ (n : ℕ). digits_value 10 (take i ds) * 10 + n) e
+  where
+    minus : (a b : ℕ) → a + 48 ≡ b → a ≡ b - 48
+    minus a b e = omega arith
+
+-- five digits write less than 100,000
+pub value_small : (ds : List ℕ) → list_all is_digit ds ≡ true → length ds ≤ 5 → digits_value 10 ds < 100000
+value_small ds h short = digits_value_short own ds 5 h short
+
+-- digits without an extra zero are the number's
+pub canonical : (ds : List ℕ) → list_all is_digit ds ≡ true → 0 < length ds → (get_or ds 0 0 ≡ 48 → length ds ≡ 1) → length ds ≤ 5
+    → (digits_value 10 ds < 100000) × (ds ≡ decimal (digits_value 10 ds))
+canonical ds h some alone short =
+    let small : digits_value 10 ds < 100000 = value_small ds h short in
+    let fits_here : digits_value 10 ds < 2 ^ 64 = omega arith in
+    (small, sym (decimal-digits_value own ds h some alone fits_here))
+
+-- ---- what no number below 100,000 is written as
+
+fits : (n : ℕ) → n < 100000 → n < 2 ^ 64
+fits n h = omega arith
+
+pub no_digits : (ds : List ℕ) (n : ℕ) → length ds ≡ 0 → (n < 100000) × (ds ≡ decimal n) → ⊥
+no_digits ds n e h =
+    let some : 0 < length (decimal n) = decimal_nonempty n (fits n h.0) in
+    let same : length ds ≡ length (decimal n) = ap length h.1 in
+    omega (arith, some, same, e)
+
+pub too_many : (ds : List ℕ) (n : ℕ) → 5 < length ds → (n < 100000) × (ds ≡ decimal n) → ⊥
+too_many ds n many h =
+    let short : length (decimal n) ≤ 5 = length-decimal-le 5 n (lit< tt) h.0 (fits n h.0) in
+    let same : length ds ≡ length (decimal n) = ap length h.1 in
+    omega (arith, short, same, many)
+
+zero_alone : (n : ℕ) → n < 100000 → get_or (decimal n) 0 0 ≡ 48 → length (decimal n) ≡ 1
+zero_alone zero h e = ap length (decimal_digit 0 (lit< tt))
+zero_alone (suc n) h e =
+    let first : 48 < get_or (decimal (suc n)) 0 0 = first_decimal (suc n) (omega arith) (fits (suc n) h) in
+    absurd (omega (arith, first, e))
+
+pub extra_zero : (ds : List ℕ) (n : ℕ) → get_or ds 0 0 ≡ 48 → 1 < length ds → (n < 100000) × (ds ≡ decimal n) → ⊥
+extra_zero ds n e more h =
+    let one : length (decimal n) ≡ 1 = zero_alone n h.0 (ap (λ (t : List ℕ). get_or t 0 0) (sym h.1) ∙ e) in
+    let same : length ds ≡ length (decimal n) = ap length h.1 in
+    omega (arith, one, same, more)
+
+pub other_byte : (ds : List ℕ) (i n : ℕ) → i < length ds → (get_or ds i 0 < 48) ⊎ (57 < get_or ds i 0) → (n < 100000) × (ds ≡ decimal n) → ⊥
+other_byte ds i n within out h =
+    let all : AllDigits 10 (decimal n) = own.to (decimal n) (digits_decimal own n (fits n h.0)) in
+    let there : i < length (decimal n) = subst (λ (t : List ℕ). i < length t) h.1 within in
+    let range : IsInRange 48 57 (get_or (decimal n) i 0) = digit_at (decimal n) i all there in
+    let same : get_or ds i 0 ≡ get_or (decimal n) i 0 = ap (λ (t : List ℕ). get_or t i 0) h.1 in
+    omega (arith, range, same, out)

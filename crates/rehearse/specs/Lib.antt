@@ -1,0 +1,15 @@
+pub mod Letters
+pub mod Urls
+pub mod Requests
+pub mod Names
+pub mod Blocks
+pub mod Routes
+pub mod Eval
+pub mod Main
+pub mod Events
+pub mod World
+pub mod Files
+pub mod Rehearsing
+pub mod Reading
+pub mod Running
+pub mod Playing
