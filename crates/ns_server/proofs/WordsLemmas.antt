@@ -1,0 +1,15 @@
+-- Lists of one word.
+use Rattle.std.proofs.Common.{◌≡◌, ◌≤◌, ◌<◌, ℕ, List, [], ◌∷◌, length, slice_index_or, Bool, IsTrue, sym, ap, ◌∙◌, arith}
+use Rattle.std.specs.Bool.{Decides}
+
+-- A list of exactly one word.
+pub one_word : (words : List (List ℕ)) (word : List ℕ) → 1 ≤ length words → length words < 2 → word ≡ slice_index_or words 0 word → words ≡ word ∷ []
+one_word [] word le lt is = absurd (omega (arith, le))
+one_word (only ∷ []) word le lt is = ap (λ w. w ∷ []) (sym is)
+one_word (first ∷ second ∷ rest) word le lt is = absurd (omega (arith, lt))
+
+-- A test of the one word is a test of the list.
+pub one_word_is : (words : List (List ℕ)) (word wanted : List ℕ) (test : Bool) → words ≡ word ∷ [] → Decides test (word ≡ wanted)
+    → (IsTrue test → words ≡ wanted ∷ []) × (words ≡ wanted ∷ [] → IsTrue test)
+one_word_is words word wanted test one decides =
+    ((λ yes. one ∙ ap (λ w. w ∷ []) (decides.0 yes)), (λ is. decides.1 (let both : word ∷ [] ≡ wanted ∷ [] = sym one ∙ is in cc)))

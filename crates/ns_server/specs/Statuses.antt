@@ -1,0 +1,26 @@
+-- The statuses of the program: their numbers, and what each says on errors.
+use Rattle.std.specs.Prelude.{ℕ, List, [], ◌∷◌, ◌++◌, codes, decimal}
+use Rattle.ns_server.specs.declared.status.Status.{Status}
+use Rattle.ns_server.specs.declared.status.Status.TheVariants.{Done, BadEvent, BadWords, ReadFault, WriteFault, NoMemory}
+
+-- the number with which the program ends
+abbrev pub number_of : Status → ℕ
+number_of Done = 0
+number_of (BadEvent event) = 1
+number_of BadWords = 2
+number_of ReadFault = 3
+number_of WriteFault = 4
+number_of NoMemory = 5
+
+-- the line that is written on errors, with its newline; none where all went well
+abbrev pub line_of : Status → List ℕ
+line_of Done = []
+line_of (BadEvent event) = codes "bad event " ++ decimal event ++ codes "\n"
+line_of BadWords = codes "bad words\n"
+line_of ReadFault = codes "read fault\n"
+line_of WriteFault = codes "write fault\n"
+line_of NoMemory = codes "out of memory\n"
+
+-- the words of a rehearsal: `rehearse` alone
+abbrev pub rehearse_words : List (List ℕ)
+rehearse_words = codes "rehearse" ∷ []

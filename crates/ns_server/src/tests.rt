@@ -1,0 +1,191 @@
+ghost use Rattle.std.specs.Prelude.{◌≡◌, ◌<◌};
+
+use crate::program::run;
+use outside::{MemSink, MemSource};
+use rehearse::Steps;
+use std::alloc::Global;
+use std::marker::Brand;
+use std::sync::ledger::{Blank, Ledger};
+use std::test::*;
+use txt_core::{NoMemory, Text, Words};
+
+/// The most bytes that a call of the input gives, that one of the output takes and that one of errors takes.
+const READ_PIECE: usize = 80;
+
+const WRITE_PIECE: usize = 100;
+
+const ERROR_PIECE: usize = 5;
+
+/// A procedure, its URL and a GET of it. The first event has 79 bytes.
+const HI: &[u8] = b"define 68\n\
+    proc hi {} {ns_return 200 text/plain hi}\n\
+    ns_register_proc GET /hi hi\n\
+    connect 0 29\n\
+    GET /hi HTTP/1.1\r\nHost: l\r\n\r\n\n\
+    run 0\n";
+
+/// The same, and an event that is none.
+const HI_AND_MORE: &[u8] = b"define 68\n\
+    proc hi {} {ns_return 200 text/plain hi}\n\
+    ns_register_proc GET /hi hi\n\
+    connect 0 29\n\
+    GET /hi HTTP/1.1\r\nHost: l\r\n\r\n\n\
+    run 0\n\
+    run 1\n";
+
+const HI_LISTING: &[u8] = b"defined 1\n\
+    response 0 1 156\n\
+    HTTP/1.1 200 OK\r\n\
+    Date: Thu, 01 Jan 1970 00:00:00 GMT\r\n\
+    Server: AOLserver-profile/1\r\n\
+    Content-Type: text/plain\r\n\
+    Content-Length: 2\r\n\
+    Connection: keep-alive\r\n\r\n\
+    hi\n\
+    closed 0 ended\n";
+
+/// A GET without routes.
+const NONE: &[u8] = b"connect 0 31\n\
+    GET /none HTTP/1.1\r\nHost: l\r\n\r\n\n\
+    run 0\n";
+
+const NONE_LISTING: &[u8] = b"response 0 0 176\n\
+    HTTP/1.1 404 Not Found\r\n\
+    Date: Thu, 01 Jan 1970 00:00:00 GMT\r\n\
+    Server: AOLserver-profile/1\r\n\
+    Content-Type: text/plain\r\n\
+    Content-Length: 14\r\n\
+    Connection: keep-alive\r\n\r\n\
+    404 Not Found\n\n\
+    closed 0 ended\n";
+
+/// A run of the program, and what must come of it.
+#[derive(Clone, Copy)]
+struct Case {
+    words: &'static [&'static [u8]],
+    input: &'static [u8],
+    read_fails: &'static [u64],
+    write_fails: &'static [u64],
+    error_fails: &'static [u64],
+    status: u8,
+    output: &'static [u8],
+    errors: &'static [u8],
+}
+
+/// The status, the output and the errors of a run.
+#[derive(Drop)]
+struct Came {
+    status: u8,
+    output: MemSink,
+    errors: MemSink,
+}
+
+fn words_of(alloc: Global, texts: &[&[u8]]) -> Result<Words, NoMemory> {
+    let mut words = Words::new(alloc);
+    for text in texts {
+        if words.push(Text::new(alloc, text)?).is_err() {
+            return Err(NoMemory);
+        }
+    }
+    Ok(words)
+}
+
+fn play<L: Ledger>(alloc: Global, blank: Blank, case: &Case) -> Result<Came, NoMemory>
+    requires name { blank.name ≡ L.name }
+    requires parts { blank.parts ≡ L.parts }
+    requires some { 0 < blank.parts }
+{
+    let words = words_of(alloc, case.words)?;
+    let content = Text::new(alloc, case.input)?;
+    let reads = Vec::from_slice(alloc, case.read_fails)?;
+    let writes = Vec::from_slice(alloc, case.write_fails)?;
+    let tells = Vec::from_slice(alloc, case.error_fails)?;
+    let mut input = MemSource::new(content, READ_PIECE, reads);
+    let mut output = MemSink::new(alloc, WRITE_PIECE, writes);
+    let mut errors = MemSink::new(alloc, ERROR_PIECE, tells);
+    let mut steps = [Steps::<L>::new(blank)];
+    let status = run(
+        alloc,
+        &words,
+        &mut input,
+        &mut output,
+        &mut errors,
+        &mut steps,
+    );
+    Ok(Came {
+        status,
+        output,
+        errors,
+    })
+}
+
+fn rehearsal(
+    input: &'static [u8],
+    status: u8,
+    output: &'static [u8],
+    errors: &'static [u8],
+) -> Case {
+    Case {
+        words: &[b"rehearse"],
+        input,
+        read_fails: &[],
+        write_fails: &[],
+        error_fails: &[],
+        status,
+        output,
+        errors,
+    }
+}
+
+fn others(words: &'static [&'static [u8]]) -> Case {
+    Case {
+        words,
+        ..rehearsal(HI, 2, b"", b"bad words\n")
+    }
+}
+
+#[test]
+fn each_status_has_its_cause_and_its_line(rt: HostRuntime) -> Result<(), Fail> {
+    let cases = [
+        rehearsal(HI, 0, HI_LISTING, b""),
+        rehearsal(NONE, 0, NONE_LISTING, b""),
+        rehearsal(b"", 0, b"", b""),
+        rehearsal(b"connect 5 0\n\n", 1, b"", b"bad event 1\n"),
+        rehearsal(HI_AND_MORE, 1, HI_LISTING, b"bad event 4\n"),
+        others(&[]),
+        others(&[b"load", b"0"]),
+        others(&[b"rehearse", b""]),
+        others(&[b"rehears"]),
+        others(&[b"rehearsed"]),
+        others(&[b"--help"]),
+        Case {
+            read_fails: &[1],
+            ..rehearsal(HI, 3, b"defined 1\n", b"read fault\n")
+        },
+        Case {
+            write_fails: &[1],
+            ..rehearsal(HI, 4, &HI_LISTING[..WRITE_PIECE], b"write fault\n")
+        },
+        Case {
+            error_fails: &[0],
+            ..rehearsal(HI_AND_MORE, 1, HI_LISTING, b"")
+        },
+        Case {
+            error_fails: &[1],
+            ..rehearsal(b"\n", 1, b"", b"bad e")
+        },
+    ];
+    for (number, case) in cases.iter().enumerate() {
+        let came = play::<Brand>(rt.alloc(), Blank::new(1), case)?;
+        assert_eq!(rt; came.status, case.status, "status of case {number}");
+        assert!(rt;
+            came.output.taken().bytes() == case.output,
+            "output of case {number}"
+        );
+        assert!(rt;
+            came.errors.taken().bytes() == case.errors,
+            "errors of case {number}"
+        );
+    }
+    Ok(())
+}
