@@ -2,7 +2,8 @@
 
 ghost use Rattle.std.specs.Prelude.{[], false, ◌≡◌, ◌++◌, length, take, ◌<◌, IfOk, OnOk};
 ghost use Rattle.txt_core.specs.Counting.{balances};
-ghost use Rattle.txt_core.specs.Quoting.{is_special, none_special, is_plain, letter_of, with_backslashes, escaped, written, quoting};
+ghost use Rattle.tcl_list.specs.Manners.{written_by};
+ghost use Rattle.txt_core.specs.Quoting.{is_special, letter_of, with_backslashes, escaped, written, quoting};
 
 use crate::gap::{FORM_FEED, VERTICAL_TAB, is_blank_or_newline};
 use std::alloc::{AllocError, Global};
@@ -15,41 +16,29 @@ fn special(b: u8) -> bool
     is_blank_or_newline(b) || matches!(b, b'{' | b'}' | b'[' | b']' | b'"' | b'\\' | b'$' | b';')
 }
 
-fn no_special(text: &[u8]) -> bool
-    ensures { result ≡ none_special text.now }
-{
-    let mut rest = text;
-    'bytes: while let Some((b, tail)) = rest.split_first() {
-        if special(*b) {
-            return false;
-        }
-        rest = tail;
-    }
-    true
+/// How an element is written.
+#[derive(Clone, Copy)]
+pub(crate) enum Manner {
+    Itself,
+    InBraces,
+    WithBackslashes,
 }
 
-/// Whether the element can stand as itself.
-fn plain(text: &[u8]) -> bool
-    ensures { result ≡ is_plain text.now }
-{
-    match text.split_first() {
-        None => false,
-        Some((b, _)) => *b != b'#' && no_special(text),
-    }
-}
-
-/// Whether the element can stand in braces.
+/// How an element is written, found in one pass over its bytes: whether one of them keeps it from
+/// standing as itself, and whether it could stand in braces.
 #[tactic(auto, unfolding(txt_core::specs::Counting::balances))]
-fn fits_braces(text: &[u8]) -> bool
-    ensures { result ≡ balances false 0 text.now }
+fn manner_of(text: &[u8]) -> Manner
+    ensures { written text.now ≡ written_by result text.now }
 {
+    let mut plain = text.first().is_some_and(|b| *b != b'#');
     let mut taken = false;
     let mut open_now = 0usize;
     let mut rest = text;
     'bytes: while let Some((b, tail)) = rest.split_first() {
+        plain = plain && !special(*b);
         if taken {
             if *b == b'\n' {
-                return false;
+                return Manner::WithBackslashes;
             }
             taken = false;
         } else if *b == b'\\' {
@@ -58,13 +47,19 @@ fn fits_braces(text: &[u8]) -> bool
             open_now += 1;
         } else if *b == b'}' {
             if open_now == 0 {
-                return false;
+                return Manner::WithBackslashes;
             }
             open_now -= 1;
         }
         rest = tail;
     }
-    !taken && open_now == 0
+    if plain {
+        Manner::Itself
+    } else if !taken && open_now == 0 {
+        Manner::InBraces
+    } else {
+        Manner::WithBackslashes
+    }
 }
 
 /// The byte that a backslash stands before in the place of this one.
@@ -118,15 +113,15 @@ fn put_escaped(out: &mut Vec<u8>, text: &[u8]) -> Result<(), AllocError>
 fn put_element(out: &mut Vec<u8>, text: &[u8]) -> Result<(), AllocError>
     ensures { OnOk result (out.new.items ≡ out.old.items ++ written text.now) }
 {
-    if plain(text) {
-        out.extend_from_slice(text)
-    } else if fits_braces(text) {
-        out.push(b'{')?;
-        out.extend_from_slice(text)?;
-        out.push(b'}')?;
-        Ok(())
-    } else {
-        put_escaped(out, text)
+    match manner_of(text) {
+        Manner::Itself => out.extend_from_slice(text),
+        Manner::InBraces => {
+            out.push(b'{')?;
+            out.extend_from_slice(text)?;
+            out.push(b'}')?;
+            Ok(())
+        }
+        Manner::WithBackslashes => put_escaped(out, text),
     }
 }
 
