@@ -1,0 +1,9 @@
+pub mod Quotients
+pub mod Remainders
+pub mod Runs
+pub mod Stacks
+pub mod Pending
+pub mod Choices
+pub mod Answering
+pub mod Whole
+pub mod Closing

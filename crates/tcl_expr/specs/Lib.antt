@@ -1,0 +1,12 @@
+pub mod Arithmetic
+pub mod Operators
+pub mod Trees
+pub mod Outcome
+pub mod Tokens
+pub mod Runs
+pub mod Grammar
+pub mod View
+pub mod Stack
+pub mod Answers
+pub mod Laws
+pub mod Reading

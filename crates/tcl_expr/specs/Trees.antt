@@ -1,0 +1,16 @@
+-- Expressions as trees.
+use Rattle.std.specs.Prelude.{ℕ, List}
+use Rattle.tcl_parse.specs.Tree.{Word}
+use Rattle.tcl_expr.specs.declared.operator.Op.{Op}
+
+pub data Tree : Type 0 where
+  -- a number or a word of truth, as it stands
+  value : List ℕ → Tree
+  -- a word in quotes or braces, a variable, an element or a bracket: the parts whose values are joined
+  word : Word → Tree
+  -- an operator before its operand
+  unary : Op → Tree → Tree
+  -- an operator between its operands
+  binary : Op → Tree → Tree → Tree
+  -- `x ? y : z`
+  choice : Tree → Tree → Tree → Tree
