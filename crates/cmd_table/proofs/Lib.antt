@@ -1,0 +1,4 @@
+mod Changes
+mod Maps
+mod Orders
+mod Renames

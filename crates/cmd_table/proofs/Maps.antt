@@ -1,0 +1,55 @@
+-- A table is a map: a change of one name changes that name alone.
+use Rattle.std.proofs.Common.{◌≡◌, ℕ, Bool, true, false, cond, List, [], ◌∷◌, Option, Some, None, refl, sym, ap, ◌∙◌, subst}
+use Rattle.std.specs.declared.cmp.Ordering.{Ordering}
+use Rattle.std.specs.declared.cmp.Ordering.TheVariants.{Less, Equal, Greater}
+use Rattle.std.specs.Cmp.Lexicographic.{nat_list_eq_equiv}
+use Rattle.std.specs.Ordering.{is_eq, match_ordering, eq_by_cmp}
+use Rattle.std.specs.List.{IsDistinct}
+use Rattle.std.specs.Map.{lookup}
+use Rattle.std.specs.BTreeMap.{insert_entry}
+use Rattle.std.specs.Str.{bytes_eq}
+use Rattle.std.proofs.lemmas.Map.{lookup-remove_entry}
+use Rattle.std.proofs.lemmas.Map.Keys.{IsDistinct-from_sorted}
+use Rattle.std.proofs.lemmas.Map.Text.{is_eq-slice_cmp}
+use Rattle.cmd_table.specs.declared.command.Cmd.{Cmd}
+use Rattle.cmd_table.specs.Table.{Table, name_order, names_of, IsInOrder, command_of, with_command, without_command}
+use Rattle.cmd_table.specs.Laws.{PuttingSetsOneName, RemovingDropsOneName}
+
+-- the test of a look-up, by the order
+test_at : (k n : List ℕ) (o : Ordering) → name_order k n ≡ o → bytes_eq k n ≡ is_eq o
+test_at k n o at = sym (is_eq-slice_cmp k n) ∙ ap is_eq at
+
+-- two entries whose first can't be the one that is asked for
+front : (k q n : List ℕ) (v x : Cmd) (rest : Option Cmd) (s : Bool) → bytes_eq k q ≡ s → bytes_eq k n ≡ false → cond (bytes_eq q n) (Some x) (cond s (Some v) rest) ≡ cond s (Some v) (cond (bytes_eq q n) (Some x) rest)
+front k q n v x rest true same apart = let e = sym (nat_list_eq_equiv.congr k q n same) ∙ apart in rw e refl
+front k q n v x rest false same apart = refl
+
+-- two entries of one name
+both : (k q n : List ℕ) (v x : Cmd) (rest : Option Cmd) (s : Bool) → bytes_eq k q ≡ s → bytes_eq k n ≡ true → cond (bytes_eq q n) (Some v) rest ≡ cond s (Some v) (cond (bytes_eq q n) (Some x) rest)
+both k q n v x rest true same is = let e = sym (nat_list_eq_equiv.congr k q n same) ∙ is in rw e refl
+both k q n v x rest false same is = let e = nat_list_eq_equiv.symm q n ∙ (sym (nat_list_eq_equiv.congr k n q is) ∙ same) in rw e refl
+
+put_step : (k q n : List ℕ) (v x : Cmd) (es : Table) (o : Ordering) → name_order k n ≡ o
+    → lookup (bytes_eq q) (insert_entry name_order es k v) ≡ cond (bytes_eq k q) (Some v) (lookup (bytes_eq q) es)
+    → lookup (bytes_eq q) (match_ordering o ((k, v) ∷ (n, x) ∷ es) ((n, v) ∷ es) ((n, x) ∷ insert_entry name_order es k v)) ≡ cond (bytes_eq k q) (Some v) (cond (bytes_eq q n) (Some x) (lookup (bytes_eq q) es))
+put_step k q n v x es Less at ih = ap (λ (b : Bool). cond b (Some v) (cond (bytes_eq q n) (Some x) (lookup (bytes_eq q) es))) (nat_list_eq_equiv.symm q k)
+put_step k q n v x es Equal at ih = both k q n v x (lookup (bytes_eq q) es) (bytes_eq k q) refl (test_at k n Equal at)
+put_step k q n v x es Greater at ih = ap (λ (r : Option Cmd). cond (bytes_eq q n) (Some x) r) ih ∙ front k q n v x (lookup (bytes_eq q) es) (bytes_eq k q) refl (test_at k n Greater at)
+
+lookup_put : (k q : List ℕ) (v : Cmd) (es : Table) → lookup (bytes_eq q) (insert_entry name_order es k v) ≡ cond (bytes_eq k q) (Some v) (lookup (bytes_eq q) es)
+lookup_put k q v [] = ap (λ (b : Bool). cond b (Some v) None) (nat_list_eq_equiv.symm q k)
+lookup_put k q v (e ∷ es) = put_step k q e.0 v e.1 es (name_order k e.0) refl (lookup_put k q v es)
+
+pub putting : PuttingSetsOneName
+unfolding command_of with_command
+putting table name other cmd = lookup_put name other cmd table
+
+same_equality : eq_by_cmp name_order ≡ bytes_eq
+same_equality i k q = is_eq-slice_cmp k q i
+
+distinct : (table : Table) → IsInOrder table → IsDistinct bytes_eq (names_of table)
+distinct table s = subst (λ (e : List ℕ → List ℕ → Bool). IsDistinct e (names_of table)) same_equality (IsDistinct-from_sorted name_order (names_of table) s)
+
+pub removing : RemovingDropsOneName
+unfolding command_of without_command
+removing table name other s = lookup-remove_entry nat_list_eq_equiv (bytes_eq name) (λ x y at. nat_list_eq_equiv.congr name x y at) other table (distinct table s)

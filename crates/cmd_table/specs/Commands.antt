@@ -1,0 +1,45 @@
+-- The commands that definitions make, from the built-in names on.
+use Rattle.std.specs.Prelude.{◌≡◌, ◌⊎◌, ℕ, List, [], None, IsSome, fold, sum_by}
+use Rattle.cmd_table.specs.declared.command.Cmd.TheVariants as commands
+use Rattle.cmd_table.specs.declared.definition.Def.{Def}
+use Rattle.cmd_table.specs.declared.definition.Def.TheVariants.{Proc, Rename, Route, Filter, Cleanup}
+use Rattle.cmd_table.specs.Table.{Table, command_of, with_command}
+use Rattle.cmd_table.specs.Renaming.{renamed, rename_writes}
+
+-- the table of the built-in names: each has its built-in, and no other name has a command
+abbrev pub built : List (List ℕ) → Table
+built names = fold (λ table name. with_command table name (commands.Built name)) [] names
+
+-- The table after a definition: `Proc` sets a name, and `Rename` moves or removes one. A rename that
+-- doesn't apply changes nothing, and no other definition changes a table.
+abbrev pub defined : Table → Def → Table
+defined table (Proc name params body) = with_command table name (commands.Proc params body)
+defined table (Rename old new) = renamed table old new
+defined table (Route method url inherit words) = table
+defined table (Filter when method pattern words) = table
+defined table (Cleanup script) = table
+
+-- the commands of definitions that were made one after the other on these built-in names
+abbrev pub Commands : List (List ℕ) → List Def → Table
+Commands names defs = fold defined (built names) defs
+
+-- Whether a definition applies to a table: a rename needs `old` to be a command, and `new` to be
+-- empty or no command. Any other definition always applies.
+abbrev pub Applies : Table → Def → Type 0
+Applies table (Rename old new) = IsSome (command_of table old) × ((new ≡ []) ⊎ (command_of table new ≡ None))
+Applies table (Proc name params body) = Unit {0}
+Applies table (Route method url inherit words) = Unit {0}
+Applies table (Filter when method pattern words) = Unit {0}
+Applies table (Cleanup script) = Unit {0}
+
+-- the entries that a definition writes or removes where it applies
+abbrev pub writes : Def → ℕ
+writes (Proc name params body) = 1
+writes (Rename old new) = rename_writes new
+writes (Route method url inherit words) = 0
+writes (Filter when method pattern words) = 0
+writes (Cleanup script) = 0
+
+-- the entries that definitions write or remove
+abbrev pub Writes : List Def → ℕ
+Writes defs = sum_by writes defs

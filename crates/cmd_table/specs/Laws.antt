@@ -1,0 +1,19 @@
+-- What makes a command table a finite map.
+use Rattle.std.specs.Prelude.{◌≡◌, ℕ, List, Some, None, if◌then◌else◌}
+use Rattle.std.specs.Str.{bytes_eq}
+use Rattle.cmd_table.specs.declared.command.Cmd.{Cmd}
+use Rattle.cmd_table.specs.declared.definition.Def.{Def}
+use Rattle.cmd_table.specs.Table.{Table, IsInOrder, command_of, with_command, without_command}
+use Rattle.cmd_table.specs.Commands.{Commands}
+
+-- a command that is put is found under its name, and any other name has what it had
+abbrev pub PuttingSetsOneName : Type 0
+PuttingSetsOneName = (table : Table) (name other : List ℕ) (cmd : Cmd) → command_of (with_command table name cmd) other ≡ (if bytes_eq name other then Some cmd else command_of table other)
+
+-- a name that is removed has no command, and any other name has what it had
+abbrev pub RemovingDropsOneName : Type 0
+RemovingDropsOneName = (table : Table) (name other : List ℕ) → IsInOrder table → command_of (without_command table name) other ≡ (if bytes_eq name other then None else command_of table other)
+
+-- whatever is defined, the names stand in their order, each once
+abbrev pub CommandsAreInOrder : Type 0
+CommandsAreInOrder = (names : List (List ℕ)) (defs : List Def) → IsInOrder (Commands names defs)

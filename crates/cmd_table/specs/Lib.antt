@@ -1,0 +1,5 @@
+pub mod Table
+pub mod Renaming
+pub mod Commands
+pub mod Slots
+pub mod Laws

@@ -1,0 +1,34 @@
+-- What a command table keeps: a slot for each name that ever had a command. A slot may be empty, so
+-- that a name that was removed keeps its place.
+use Rattle.std.specs.Prelude.{ℕ, List, [], ◌∷◌, Option, Some, None}
+use Rattle.std.specs.Str.{bytes_eq}
+use Rattle.std.specs.Map.{keys_of, lookup}
+use Rattle.std.specs.List.Sorted.{IsStrictlySortedBy}
+use Rattle.cmd_table.specs.declared.command.Cmd.{Cmd}
+use Rattle.cmd_table.specs.Table.{Table, name_order, with_command, without_command}
+
+abbrev pub Slots : Type 0
+Slots = List (List ℕ × Option Cmd)
+
+-- the entry of a slot, where it isn't empty, in front of others
+abbrev pub put_present : List ℕ → Option Cmd → Table → Table
+put_present name None table = table
+put_present name (Some cmd) table = (name, cmd) ∷ table
+
+-- the entries of the slots that aren't empty
+unfoldable pub present : Slots → Table
+present [] = []
+present (slot ∷ slots) = put_present slot.0 slot.1 (present slots)
+
+-- the slots stand in the order of their names, each once
+abbrev pub AreInOrder : Slots → Type 0
+AreInOrder slots = IsStrictlySortedBy name_order (keys_of slots)
+
+-- the slot of a name, where there is one
+unfoldable pub slot_of : Slots → List ℕ → Option (Option Cmd)
+slot_of slots name = lookup (bytes_eq name) slots
+
+-- with this command for the name, where there is one
+abbrev pub with_option : Table → List ℕ → Option Cmd → Table
+with_option table name None = without_command table name
+with_option table name (Some cmd) = with_command table name cmd

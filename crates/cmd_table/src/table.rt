@@ -1,0 +1,192 @@
+//! The command table of an interpreter.
+
+ghost use Rattle.std.specs.Prelude.{◌≡◌, ◌≤◌, ◌+◌, IfOk, OnOk, OnErr, None, length};
+ghost use Rattle.std.specs.Option.{option_copied};
+ghost use Rattle.cmd_table.specs.Table.{command_of, with_command, without_command, names_of, IsInOrder};
+ghost use Rattle.cmd_table.specs.Renaming.{rename_answer, renamed, renaming_steps};
+ghost use Rattle.cmd_table.specs.Slots.{with_option};
+ghost use Rattle.cmd_table.specs.Commands.{built, defined, Applies, writes};
+
+use crate::command::Cmd;
+use crate::definition::Def;
+use crate::renaming::Renamed;
+use crate::slots::{Slots, fill, find, present_names, put, reserve, take};
+use crate::steps::Steps;
+use std::alloc::Global;
+use std::collections::BTreeMap;
+use std::marker::Model;
+use std::sync::ledger::Ledger;
+use txt_core::{NoMemory, Text, Words};
+
+/// Commands by their names: a finite map. Contracts see it as the names with their commands, in the
+/// order of the names.
+///
+/// Each entry that is written or removed is one step.
+#[derive(Debug, Drop)]
+pub struct CmdTable {
+    alloc: Global,
+    slots: Slots,
+}
+
+impl Model for CmdTable {
+    ghost use Rattle.cmd_table.specs.Table.{State};
+    ghost use Rattle.cmd_table.specs.Slots.{present, AreInOrder};
+
+    ghost Value = { State };
+
+    ghost view = { λ a. record { table = present a.slots.entries } };
+
+    ghost invariant = { λ a. AreInOrder a.slots.entries };
+}
+
+impl CmdTable {
+    /// The table of built-in names: each has its built-in, and no other name a command. Each name is
+    /// one step. Its only error is want of memory, and no more steps were then counted than there
+    /// are names.
+    pub fn new<L: Ledger>(
+        alloc: Global,
+        names: &Words,
+        steps: &mut Steps<L>,
+    ) -> Result<CmdTable, NoMemory>
+        ensures table { IfOk result (λ made. made.table ≡ built names.now) }
+        ensures steps { OnOk result (steps.new ≡ steps.old + length names.now) }
+        ensures least { steps.old ≤ steps.new }
+        ensures most { steps.new ≤ steps.old + length names.now }
+    {
+        let mut table = CmdTable {
+            alloc,
+            slots: BTreeMap::new(alloc),
+        };
+        for name in names.as_slice() {
+            let built = Cmd::Built(Text::new(alloc, name.bytes())?);
+            table.put(Text::new(alloc, name.bytes())?, built, steps)?;
+        }
+        Ok(table)
+    }
+
+    /// The command of a name; `None` exactly where the table hasn't the name.
+    pub fn get(&self, name: &Text) -> Option<&Cmd>
+        ensures { option_copied result ≡ command_of self.now.table name.now }
+    {
+        find(&self.slots, name)
+    }
+
+    /// The names, each once and in byte order. Its only error is want of memory.
+    pub fn names(&self) -> Result<Words, NoMemory>
+        ensures names { IfOk result (λ names. names ≡ names_of self.now.table) }
+        ensures ordered { IsInOrder self.now.table }
+    {
+        present_names(self.alloc, &self.slots)
+    }
+
+    /// Gives a name this command, whatever it had before. That is one step. Where memory wants, the
+    /// table and the steps are as they were.
+    pub fn put<L: Ledger>(
+        &mut self,
+        name: Text,
+        cmd: Cmd,
+        steps: &mut Steps<L>,
+    ) -> Result<(), NoMemory>
+        ensures table { OnOk result (self.new.table ≡ with_command self.old.table name cmd) }
+        ensures steps { OnOk result (steps.new ≡ steps.old + 1) }
+        ensures err { OnErr result ((self.new ≡ self.old) × (steps.new ≡ steps.old)) }
+    {
+        put(&mut self.slots, name, cmd)?;
+        steps.tick();
+        Ok(())
+    }
+
+    /// Calls the command `old` from now on `new`, or removes it where `new` is empty. `NoOld` comes
+    /// exactly where `old` is no command, else `NewExists` exactly where `new` isn't empty and is a
+    /// command; these change nothing. A rename is two steps, and a removal one. Where memory wants,
+    /// the table and the steps are as they were.
+    pub fn rename<L: Ledger>(
+        &mut self,
+        old: &Text,
+        new: &Text,
+        steps: &mut Steps<L>,
+    ) -> Result<Renamed, NoMemory>
+        ensures answer { IfOk result (λ answer. answer ≡ rename_answer self.old.table old.now new.now) }
+        ensures table { OnOk result (self.new.table ≡ renamed self.old.table old.now new.now) }
+        ensures steps { IfOk result (λ answer. steps.new ≡ steps.old + renaming_steps answer new.now) }
+        ensures err { OnErr result ((self.new ≡ self.old) × (steps.new ≡ steps.old)) }
+    {
+        if self.get(old).is_none() {
+            return Ok(Renamed::NoOld);
+        }
+        if new.is_empty() {
+            self.remove(old, steps);
+            return Ok(Renamed::Done);
+        }
+        if self.get(new).is_some() {
+            return Ok(Renamed::NewExists);
+        }
+        self.move_to(old, new, steps)?;
+        Ok(Renamed::Done)
+    }
+
+    /// Makes a definition that applies. Where memory wants, the table and the steps are as they were.
+    pub fn apply<L: Ledger>(&mut self, def: &Def, steps: &mut Steps<L>) -> Result<(), NoMemory>
+        requires { Applies self.old.table def.now }
+        ensures table { OnOk result (self.new.table ≡ defined self.old.table def.now) }
+        ensures steps { OnOk result (steps.new ≡ steps.old + writes def.now) }
+        ensures err { OnErr result ((self.new ≡ self.old) × (steps.new ≡ steps.old)) }
+    {
+        match def {
+            Def::Proc { name, params, body } => self.define(name, params, body, steps),
+            Def::Rename { old, new } => {
+                self.rename(old, new, steps)?;
+                Ok(())
+            }
+            Def::Route { .. } | Def::Filter { .. } | Def::Cleanup { .. } => Ok(()),
+        }
+    }
+
+    /// Gives a name a procedure.
+    fn define<L: Ledger>(
+        &mut self,
+        name: &Text,
+        params: &Text,
+        body: &Text,
+        steps: &mut Steps<L>,
+    ) -> Result<(), NoMemory>
+        ensures table { OnOk result (self.new.table ≡ with_command self.old.table name.now (Cmd.Proc params.now body.now)) }
+        ensures steps { OnOk result (steps.new ≡ steps.old + 1) }
+        ensures err { OnErr result ((self.new ≡ self.old) × (steps.new ≡ steps.old)) }
+    {
+        let name = Text::new(self.alloc, name.bytes())?;
+        let params = Text::new(self.alloc, params.bytes())?;
+        let body = Text::new(self.alloc, body.bytes())?;
+        self.put(name, Cmd::Proc { params, body }, steps)
+    }
+
+    /// Removes a name.
+    fn remove<L: Ledger>(&mut self, name: &Text, steps: &mut Steps<L>)
+        ensures table { self.new.table ≡ without_command self.old.table name.now }
+        ensures steps { steps.new ≡ steps.old + 1 }
+    {
+        let _removed = take(&mut self.slots, name);
+        steps.tick();
+    }
+
+    /// Moves the command of a name to a name that has none.
+    fn move_to<L: Ledger>(
+        &mut self,
+        old: &Text,
+        new: &Text,
+        steps: &mut Steps<L>,
+    ) -> Result<(), NoMemory>
+        requires { command_of self.old.table new.now ≡ None }
+        ensures table { OnOk result (self.new.table ≡ with_option (without_command self.old.table old.now) new.now (command_of self.old.table old.now)) }
+        ensures steps { OnOk result (steps.new ≡ steps.old + 2) }
+        ensures err { OnErr result ((self.new ≡ self.old) × (steps.new ≡ steps.old)) }
+    {
+        let name = Text::new(self.alloc, new.bytes())?;
+        reserve(&mut self.slots, name)?;
+        let cmd = take(&mut self.slots, old);
+        steps.tick();
+        fill(&mut self.slots, new, cmd);
+        steps.tick();
+        Ok(())
+    }
+}
