@@ -1,0 +1,6 @@
+pub mod Changes
+pub mod ElementNames
+pub mod Maps
+pub mod Tables
+pub mod Tops
+pub mod Pairs

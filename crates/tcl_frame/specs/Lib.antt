@@ -1,0 +1,12 @@
+pub mod Arrays
+pub mod Entries
+pub mod Findings
+pub mod Frames
+pub mod Lending
+pub mod Meaning
+pub mod Names
+pub mod Refusal
+pub mod Seen
+pub mod Stack
+pub mod StackCode
+pub mod Variables

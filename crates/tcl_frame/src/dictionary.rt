@@ -1,0 +1,89 @@
+//! Values by text.
+
+ghost use Rattle.std.specs.Prelude.{◌≡◌, OnOk, OnErr};
+ghost use Rattle.std.specs.Borrow.{sem};
+ghost use Rattle.std.specs.Option.{option_copied, option_copied_mut};
+ghost use Rattle.std.specs.FinMap as map;
+ghost use Rattle.tcl_frame.specs.Lending.{lends_value};
+
+use std::alloc::Global;
+use std::collections::BTreeMap;
+use std::marker::Model;
+use txt_core::NoMemory;
+
+/// Values by the bytes of their keys, in byte order of these. Contracts see a finite map.
+#[derive(Debug, Drop)]
+pub struct Dictionary<V> {
+    pub(crate) alloc: Global,
+    pub(crate) values: BTreeMap<Vec<u8>, V>,
+}
+
+impl<V> Model for Dictionary<V> {
+    ghost use Rattle.std.specs.Prelude.{ℕ, List};
+    ghost use Rattle.std.specs.Ordering.{nat_cmp};
+    ghost use Rattle.std.specs.Cmp.Lexicographic.{slice_cmp};
+    ghost use Rattle.std.specs.Coded.{coded_list, coded_ℕ};
+    ghost use Rattle.std.specs.FinMap as map;
+    ghost use Rattle.tcl_frame.specs.Entries.{by_bytes};
+
+    ghost Value = { map.FinMap (slice_cmp nat_cmp) V };
+
+    ghost coded = { map.code (coded_list coded_ℕ) V.code };
+
+    ghost view = { λ a. map.from_entries (by_bytes a.values.entries) };
+}
+
+impl<V> Dictionary<V> {
+    /// No values. Nothing is allocated until the first is put.
+    pub fn new(alloc: Global) -> Self
+        ensures { result ≡ map.empty }
+    {
+        Dictionary {
+            alloc,
+            values: BTreeMap::new(alloc),
+        }
+    }
+
+    /// The value of a key; `None` exactly where it has none.
+    pub fn get(&self, key: &[u8]) -> Option<&V>
+        ensures { option_copied result ≡ map.get self.now key.now }
+    {
+        self.values.get(key)
+    }
+
+    /// The value of a key, to be changed; `None` exactly where it has none.
+    pub fn get_mut(&mut self, key: &[u8]) -> Option<&mut V>
+        ensures* writes_back { sem 𝓛 (lends_value V.row self.entry key.now result) }
+        ensures value { option_copied_mut result ≡ map.get self.old key.now }
+    {
+        self.values.get_mut(key)
+    }
+
+    /// Whether a key has a value.
+    pub fn contains(&self, key: &[u8]) -> bool
+        ensures { result ≡ map.contains_key self.now key.now }
+    {
+        self.values.contains_key(key)
+    }
+
+    /// Gives a key this value in place of any that it had. Where memory wants, nothing changes.
+    pub fn insert(&mut self, key: &[u8], value: V) -> Result<(), NoMemory>
+    where
+        V: Drop,
+        ensures ok { OnOk result (self.new ≡ map.insert self.old key.now value) }
+        ensures err { OnErr result (self.new ≡ self.old) }
+    {
+        let key = Vec::from_slice(self.alloc, key)?;
+        self.values.insert(key, value)?;
+        Ok(())
+    }
+
+    /// Takes a key's value away, where it has one.
+    pub fn remove(&mut self, key: &[u8])
+    where
+        V: Drop,
+        ensures { self.new ≡ map.remove self.old key.now }
+    {
+        self.values.remove(key);
+    }
+}

@@ -1,0 +1,215 @@
+//! The variables of an interpreter.
+
+ghost use Rattle.std.specs.Prelude.{◌≡◌, ◌<◌, ◌↔◌, IfOk, OnOk, OnErr, length, false};
+ghost use Rattle.std.specs.FinMap as map;
+ghost use Rattle.tcl_frame.specs.Names.{named, is_element};
+ghost use Rattle.tcl_frame.specs.Frames.{fresh, pushed, popped, links_name, table_of, has, is_array, elements_of, read_of, read_fault, write_fault, remove_fault, array_fault, link_fault, written, removed, pairs_written, linked};
+ghost use Rattle.tcl_frame.specs.Refusal.{IsRefusedFor};
+
+use crate::fault::VarFault;
+use crate::found::Found;
+use crate::frame::Frame;
+use crate::name::Name;
+use crate::variable::Table;
+use std::alloc::Global;
+use std::marker::Model;
+use txt_core::{NoMemory, Pairs, Text};
+
+/// The variables of an interpreter: the global ones, and above them a stack of frames. A name is
+/// looked up in the topmost frame, and among the global variables where there is no frame above
+/// these or where the topmost one links it.
+///
+/// A name that ends in `)` and holds `(` means an element of an array: the array's name stands
+/// before the first `(`, the index between it and the last byte. Any other name means a variable,
+/// which is a scalar or an array.
+///
+/// Contracts see a `Stack`: the global variables, and the frames above them, the topmost first.
+/// What a call does is a function of it and of the name.
+#[derive(Debug, Drop)]
+pub struct Frames {
+    alloc: Global,
+    global: Table,
+    above: Vec<Frame>,
+}
+
+impl Model for Frames {
+    ghost use Rattle.std.specs.Prelude.{reverse};
+    ghost use Rattle.tcl_frame.specs.Stack.{Stack};
+    ghost use Rattle.tcl_frame.specs.StackCode.{stack_code};
+
+    ghost Value = { Stack };
+
+    ghost coded = { stack_code };
+
+    ghost view = { λ a. record { global = a.global; above = reverse a.above.items } };
+}
+
+impl Frames {
+    /// The global frame alone, without variables.
+    pub fn new(alloc: Global) -> Result<Frames, NoMemory>
+        ensures { IfOk result (λ frames. frames ≡ fresh) }
+    {
+        Ok(Frames {
+            alloc,
+            global: Table::new(alloc),
+            above: Vec::new(alloc),
+        })
+    }
+
+    /// Puts a frame without variables on top. Where memory wants, there is none more.
+    pub fn push(&mut self) -> Result<(), NoMemory>
+        ensures ok { OnOk result (self.new ≡ pushed self.old) }
+        ensures err { OnErr result (self.new ≡ self.old) }
+    {
+        self.above.push(Frame::new(self.alloc))?;
+        Ok(())
+    }
+
+    /// Takes the topmost frame away, with its variables and links.
+    pub fn pop(&mut self)
+        requires { 0 < length self.old.above }
+        ensures { self.new ≡ popped self.old }
+    {
+        self.above.pop();
+    }
+
+    /// How many frames stand above the global one.
+    pub fn depth(&self) -> usize
+        ensures { result ≡ length self.now.above }
+    {
+        self.above.len()
+    }
+
+    /// The variables among which the variable of this name is looked up.
+    fn table(&self, name: &[u8]) -> &Table
+        ensures { result.now ≡ table_of self.now name.now }
+    {
+        match self.above.last() {
+            Some(frame) if !frame.links.contains(name) => &frame.variables,
+            _ => &self.global,
+        }
+    }
+
+    /// A copy of the value of a scalar or an element. `NoVariable` comes exactly where the
+    /// variable, the array or the element is absent, `IsArray` where the name is an array's, and
+    /// `NotArray` where an element's array is a scalar.
+    pub fn read(&self, name: &Text) -> Result<Text, VarFault>
+        ensures value { IfOk result (λ value. value ≡ read_of self.now name.now) }
+        ensures refused { IsRefusedFor (read_fault self.now name.now) result }
+    {
+        let name = Name::new(name.bytes());
+        match self.table(name.variable()).find(&name) {
+            Found::Nothing => Err(VarFault::NoVariable),
+            Found::Value(value) => Ok(Text::new(self.alloc, value.bytes())?),
+            Found::AnArray(_) => Err(VarFault::IsArray),
+            Found::InScalar => Err(VarFault::NotArray),
+        }
+    }
+
+    /// Whether the name is a scalar, an array or an element that is there.
+    pub fn has(&self, name: &Text) -> bool
+        ensures { result ≡ has self.now name.now }
+    {
+        let name = Name::new(name.bytes());
+        self.table(name.variable()).find(&name).is_there()
+    }
+
+    /// Whether the name is an array's.
+    pub fn is_array(&self, name: &Text) -> bool
+        ensures { result ≡ is_array self.now name.now }
+    {
+        let name = Name::new(name.bytes());
+        self.table(name.variable()).find(&name).is_array()
+    }
+
+    /// The indexes of an array with their values, in byte order of the indexes; none where the
+    /// name is no array's.
+    pub fn elements(&self, name: &Text) -> Result<Pairs, NoMemory>
+        ensures { IfOk result (λ pairs. pairs ≡ map.entries (elements_of self.now name.now)) }
+    {
+        let name = Name::new(name.bytes());
+        match self.table(name.variable()).find(&name) {
+            Found::AnArray(elements) => elements.pairs(),
+            _ => Ok(Pairs::new(self.alloc)),
+        }
+    }
+
+    /// Gives a scalar or an element this value; an absent variable or array is made. `IsArray`
+    /// comes exactly where the name is an array's, `NotArray` where an element's array is a
+    /// scalar. A refusal changes nothing.
+    pub fn write(&mut self, name: &Text, value: Text) -> Result<(), VarFault>
+        ensures ok { OnOk result (self.new ≡ written self.old name.now value) }
+        ensures refused { IsRefusedFor (write_fault self.old name.now) result }
+        ensures err { OnErr result (self.new ≡ self.old) }
+        ensures depth { length self.new.above ≡ length self.old.above }
+    {
+        let name = Name::new(name.bytes());
+        match self.above.last_mut() {
+            Some(frame) if !frame.links.contains(name.variable()) => {
+                frame.variables.write(&name, value)
+            }
+            _ => self.global.write(&name, value),
+        }
+    }
+
+    /// Takes a scalar, an array or an element away; an array stays when its last element goes.
+    /// `NoVariable` comes exactly where the variable, the array or the element is absent,
+    /// `NotArray` where an element's array is a scalar. A refusal changes nothing.
+    pub fn remove(&mut self, name: &Text) -> Result<(), VarFault>
+        ensures ok { OnOk result (self.new ≡ removed self.old name.now) }
+        ensures refused { IsRefusedFor (remove_fault self.old name.now) result }
+        ensures err { OnErr result (self.new ≡ self.old) }
+        ensures depth { length self.new.above ≡ length self.old.above }
+    {
+        let name = Name::new(name.bytes());
+        match self.above.last_mut() {
+            Some(frame) if !frame.links.contains(name.variable()) => {
+                frame.variables.take_away(&name)
+            }
+            _ => self.global.take_away(&name),
+        }
+    }
+
+    /// Gives each index of a list the value behind it, in the array of this name, which is made where
+    /// it is absent, also by an empty list. Of an index that comes twice the last value stands; an
+    /// index without a value, at the end, is left out. `NotArray` comes exactly where the name is a
+    /// scalar or has an element's form. A refusal, and want of memory, change nothing.
+    pub fn write_array(&mut self, name: &Text, pairs: &[Text]) -> Result<(), VarFault>
+        ensures ok { OnOk result (self.new ≡ pairs_written self.old name.now pairs.now) }
+        ensures refused { IsRefusedFor (array_fault self.old name.now) result }
+        ensures err { OnErr result (self.new ≡ self.old) }
+        ensures depth { length self.new.above ≡ length self.old.above }
+    {
+        let name = Name::new(name.bytes());
+        let Name::Whole(name) = name else {
+            return Err(VarFault::NotArray);
+        };
+        match self.above.last_mut() {
+            Some(frame) if !frame.links.contains(name) => frame.variables.write_array(name, pairs),
+            _ => self.global.write_array(name, pairs),
+        }
+    }
+
+    /// Makes the name mean the global variable of this name, in all calls while this frame is the
+    /// topmost, also where that variable is removed and made again. In the global frame it does
+    /// nothing. The condition is that the name hasn't an element's form (`is_element_name`).
+    /// `Exists` comes exactly where the name is a variable of this frame that isn't a link. A
+    /// refusal changes nothing.
+    pub fn link(&mut self, name: &Text) -> Result<(), VarFault>
+        requires { is_element (named name.now) ≡ false }
+        ensures ok { OnOk result (self.new ≡ linked self.old name.now) }
+        ensures refused { IsRefusedFor (link_fault self.old name.now) result }
+        ensures err { OnErr result (self.new ≡ self.old) }
+        ensures depth { length self.new.above ≡ length self.old.above }
+    {
+        let bytes = name.bytes();
+        let Some(frame) = self.above.last_mut() else {
+            return Ok(());
+        };
+        if frame.variables.contains(bytes) {
+            return Err(VarFault::Exists);
+        }
+        frame.links.insert(bytes, ())?;
+        Ok(())
+    }
+}

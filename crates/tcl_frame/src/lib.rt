@@ -1,0 +1,19 @@
+//! The variables of an interpreter: scalars and arrays in frames, of which the lowest is global.
+#![tactic(auto)]
+
+mod dictionary;
+mod fault;
+mod found;
+mod frame;
+mod frames;
+mod law;
+mod name;
+mod table;
+#[cfg(test)]
+mod tests;
+mod variable;
+
+pub use fault::VarFault;
+pub use frames::Frames;
+pub use law::{changes_of_variables, meaning_of_names};
+pub use name::is_element_name;

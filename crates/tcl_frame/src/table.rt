@@ -1,0 +1,138 @@
+//! Variables by name, without frames.
+
+ghost use Rattle.std.specs.Prelude.{◌≡◌, None, IfOk, OnOk, OnErr};
+ghost use Rattle.std.specs.FinMap as map;
+ghost use Rattle.tcl_frame.specs.Variables.{elements_in, with_value, without, with_array};
+ghost use Rattle.tcl_frame.specs.Names as names;
+ghost use Rattle.tcl_frame.specs.Meaning.{found, no_write, no_removal, no_array};
+ghost use Rattle.tcl_frame.specs.Seen.{name_seen};
+ghost use Rattle.tcl_frame.specs.Findings.{found_seen};
+ghost use Rattle.tcl_frame.specs.Refusal.{IsRefusedFor};
+
+use crate::fault::VarFault;
+use crate::found::Found;
+use crate::name::Name;
+use crate::variable::{Elements, Table, Variable};
+use txt_core::{NoMemory, Text};
+
+impl Table {
+    /// What a name finds.
+    pub fn find(&self, name: &Name<'_>) -> Found<'_>
+        ensures { found_seen result ≡ found self.now (name_seen name.now) }
+    {
+        match name {
+            Name::Whole(name) => self.find_whole(name),
+            Name::Element(array, index) => self.find_element(array, index),
+        }
+    }
+
+    /// What the name of a whole variable finds.
+    fn find_whole(&self, name: &[u8]) -> Found<'_>
+        ensures { found_seen result ≡ found self.now (names.Whole name.now) }
+    {
+        match self.get(name) {
+            None => Found::Nothing,
+            Some(Variable::Scalar(value)) => Found::Value(value),
+            Some(Variable::Array(elements)) => Found::AnArray(elements),
+        }
+    }
+
+    /// What an element's name finds.
+    fn find_element(&self, array: &[u8], index: &[u8]) -> Found<'_>
+        ensures { found_seen result ≡ found self.now (names.Element array.now index.now) }
+    {
+        match self.get(array) {
+            None => Found::Nothing,
+            Some(Variable::Scalar(_)) => Found::InScalar,
+            Some(Variable::Array(elements)) => match elements.get(index) {
+                Some(value) => Found::Value(value),
+                None => Found::Nothing,
+            },
+        }
+    }
+
+    /// Gives a scalar or an element this value. An absent array is made.
+    pub fn write(&mut self, name: &Name<'_>, value: Text) -> Result<(), VarFault>
+        ensures ok { OnOk result (self.new ≡ with_value self.old (name_seen name.now) value) }
+        ensures refused { IsRefusedFor (no_write (found self.old (name_seen name.now))) result }
+        ensures err { OnErr result (self.new ≡ self.old) }
+    {
+        if let Some(fault) = self.find(name).no_write() {
+            return Err(fault);
+        }
+        match name {
+            Name::Whole(name) => self.insert(name, Variable::Scalar(value))?,
+            Name::Element(array, index) => self.write_element(array, index, value)?,
+        }
+        Ok(())
+    }
+
+    /// Gives an element this value, in an array that is made where the name has none.
+    fn write_element(&mut self, array: &[u8], index: &[u8], value: Text) -> Result<(), NoMemory>
+        requires { no_write (found self.old (names.Element array.now index.now)) ≡ None }
+        ensures ok { OnOk result (self.new ≡ with_value self.old (names.Element array.now index.now) value) }
+        ensures err { OnErr result (self.new ≡ self.old) }
+    {
+        match self.get_mut(array) {
+            Some(variable) => variable.write_element(index, value),
+            None => {
+                let mut elements = Elements::new(self.alloc);
+                elements.insert(index, value)?;
+                self.insert(array, Variable::Array(elements))
+            }
+        }
+    }
+
+    /// Takes a variable or an element away. An array stays when its last element goes.
+    pub fn take_away(&mut self, name: &Name<'_>) -> Result<(), VarFault>
+        ensures ok { OnOk result (self.new ≡ without self.old (name_seen name.now)) }
+        ensures refused { IsRefusedFor (no_removal (found self.old (name_seen name.now))) result }
+        ensures err { OnErr result (self.new ≡ self.old) }
+    {
+        if let Some(fault) = self.find(name).no_removal() {
+            return Err(fault);
+        }
+        match name {
+            Name::Whole(name) => self.remove(name),
+            Name::Element(array, index) => self.remove_element(array, index),
+        }
+        Ok(())
+    }
+
+    /// Takes an element out of an array.
+    fn remove_element(&mut self, array: &[u8], index: &[u8])
+        requires { no_removal (found self.old (names.Element array.now index.now)) ≡ None }
+        ensures { self.new ≡ without self.old (names.Element array.now index.now) }
+    {
+        if let Some(variable) = self.get_mut(array) {
+            variable.remove_element(index);
+        }
+    }
+
+    /// Gives each index of a list the value behind it, in the array of this name, which is made where
+    /// it is absent. They are written into a copy, so that the array is as it was where memory wants.
+    pub fn write_array(&mut self, name: &[u8], pairs: &[Text]) -> Result<(), VarFault>
+        ensures ok { OnOk result (self.new ≡ with_array self.old name.now pairs.now) }
+        ensures refused { IsRefusedFor (no_array (found self.old (names.Whole name.now))) result }
+        ensures err { OnErr result (self.new ≡ self.old) }
+    {
+        let found = self.find_whole(name);
+        if let Some(fault) = found.no_array() {
+            return Err(fault);
+        }
+        let mut elements = self.copy_of(name)?;
+        elements.write_pairs(pairs)?;
+        self.insert(name, Variable::Array(elements))?;
+        Ok(())
+    }
+
+    /// A copy of the elements of the array of this name, none where there is no array.
+    fn copy_of(&self, name: &[u8]) -> Result<Elements, NoMemory>
+        ensures { IfOk result (λ copy. copy ≡ elements_in (map.get self.now name.now)) }
+    {
+        match self.get(name) {
+            Some(Variable::Array(elements)) => elements.copy(),
+            _ => Ok(Elements::new(self.alloc)),
+        }
+    }
+}

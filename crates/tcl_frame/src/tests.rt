@@ -1,0 +1,260 @@
+use super::*;
+use VarFault::{Exists, IsArray, NoVariable, NotArray};
+use std::alloc::Global;
+use std::test::Fail;
+use txt_core::{Text, Words, write_int};
+
+/// A call on frames, or a question about them.
+#[derive(Clone, Copy)]
+enum Act {
+    Push,
+    Pop,
+    Read,
+    Write,
+    Remove,
+    Link,
+    WriteArray,
+    Has,
+    IsArray,
+    Elements,
+    Depth,
+}
+
+/// A text that says yes or no.
+fn yes(alloc: Global, is: bool) -> Result<Text, VarFault> {
+    Ok(Text::new(alloc, if is { b"yes" } else { b"no" })?)
+}
+
+/// The indexes and values of an array, each pair as `index=value;`.
+fn listed(alloc: Global, frames: &Frames, name: &Text) -> Result<Text, VarFault> {
+    let mut all = Text::empty(alloc);
+    for pair in frames.elements(name)?.as_slice() {
+        all.append(pair.0.bytes())?;
+        all.append(b"=")?;
+        all.append(pair.1.bytes())?;
+        all.append(b";")?;
+    }
+    Ok(all)
+}
+
+/// A mark for each frame above the global one.
+fn marks(alloc: Global, frames: &Frames) -> Result<Text, VarFault> {
+    let mut all = Text::empty(alloc);
+    for _ in 0..frames.depth() {
+        all.append(b"|")?;
+    }
+    Ok(all)
+}
+
+/// The words of a text, with a space behind each.
+fn split(alloc: Global, text: &str) -> Result<Words, VarFault> {
+    let mut words = Words::new(alloc);
+    let mut word = Text::empty(alloc);
+    for byte in text.as_bytes() {
+        if *byte != b' ' {
+            word.append(&[*byte])?;
+            continue;
+        }
+        if words.push(word).is_err() {
+            return Err(VarFault::NoMemory);
+        }
+        word = Text::empty(alloc);
+    }
+    Ok(words)
+}
+
+/// What a call answers, as a text.
+fn answer(
+    alloc: Global,
+    frames: &mut Frames,
+    act: Act,
+    name: &str,
+    value: &str,
+) -> Result<Text, VarFault> {
+    let name = Text::new(alloc, name.as_bytes())?;
+    match act {
+        Act::Push => frames.push()?,
+        Act::Pop if frames.depth() > 0 => frames.pop(),
+        Act::Pop => {}
+        Act::Read => return frames.read(&name),
+        Act::Write => frames.write(&name, Text::new(alloc, value.as_bytes())?)?,
+        Act::Remove => frames.remove(&name)?,
+        Act::Link if !is_element_name(&name) => frames.link(&name)?,
+        Act::Link => {}
+        Act::WriteArray => frames.write_array(&name, split(alloc, value)?.as_slice())?,
+        Act::Has => return yes(alloc, frames.has(&name)),
+        Act::IsArray => return yes(alloc, frames.is_array(&name)),
+        Act::Elements => return listed(alloc, frames, &name),
+        Act::Depth => return marks(alloc, frames),
+    }
+    Ok(Text::empty(alloc))
+}
+
+/// A call with the name and the value that it takes, and what it is to answer.
+type Row = (
+    Act,
+    &'static str,
+    &'static str,
+    Result<&'static str, VarFault>,
+);
+
+/// Whether an answer is the one that is wanted.
+fn is_same(got: &Result<Text, VarFault>, wanted: &Result<&str, VarFault>) -> bool {
+    match (got, wanted) {
+        (Ok(text), Ok(letters)) => text.bytes() == letters.as_bytes(),
+        (Err(fault), Err(other)) => fault == other,
+        _ => false,
+    }
+}
+
+/// Makes the calls in order on new frames, and gives the place of the first row whose answer is
+/// another than the wanted one.
+fn first_wrong(alloc: Global, rows: &[Row]) -> Result<Option<usize>, VarFault> {
+    let mut frames = Frames::new(alloc)?;
+    for (at, row) in rows.iter().enumerate() {
+        let got = answer(alloc, &mut frames, row.0, row.1, row.2);
+        if !is_same(&got, &row.3) {
+            return Ok(Some(at));
+        }
+    }
+    Ok(None)
+}
+
+#[test]
+fn scalars_and_arrays(rt: HostRuntime) -> Result<(), Fail> {
+    let rows: &[Row] = &[
+        (Act::Read, "x", "", Err(NoVariable)),
+        (Act::Remove, "x", "", Err(NoVariable)),
+        (Act::Has, "x", "", Ok("no")),
+        (Act::Write, "x", "1", Ok("")),
+        (Act::Write, "x", "2", Ok("")),
+        (Act::Read, "x", "", Ok("2")),
+        (Act::Has, "x", "", Ok("yes")),
+        (Act::IsArray, "x", "", Ok("no")),
+        (Act::Elements, "x", "", Ok("")),
+        (Act::Read, "x(k)", "", Err(NotArray)),
+        (Act::Write, "x(k)", "3", Err(NotArray)),
+        (Act::Remove, "x(k)", "", Err(NotArray)),
+        (Act::Has, "x(k)", "", Ok("no")),
+        (Act::WriteArray, "x", "", Err(NotArray)),
+        (Act::WriteArray, "x(k)", "", Err(NotArray)),
+        (Act::Read, "x", "", Ok("2")),
+        (Act::Remove, "x", "", Ok("")),
+        (Act::Read, "x", "", Err(NoVariable)),
+        (Act::Read, "a(k)", "", Err(NoVariable)),
+        (Act::Remove, "a(k)", "", Err(NoVariable)),
+        (Act::Write, "a(k)", "1", Ok("")),
+        (Act::Read, "a(k)", "", Ok("1")),
+        (Act::Read, "a", "", Err(IsArray)),
+        (Act::Write, "a", "5", Err(IsArray)),
+        (Act::Has, "a", "", Ok("yes")),
+        (Act::IsArray, "a", "", Ok("yes")),
+        (Act::Has, "a(k)", "", Ok("yes")),
+        (Act::IsArray, "a(k)", "", Ok("no")),
+        (Act::Has, "a(z)", "", Ok("no")),
+        (Act::Read, "a(z)", "", Err(NoVariable)),
+        (Act::Remove, "a(z)", "", Err(NoVariable)),
+        (Act::Write, "a(b)", "2", Ok("")),
+        (Act::Write, "a()", "3", Ok("")),
+        (Act::Write, "a(k)", "4", Ok("")),
+        (Act::WriteArray, "a", "", Ok("")),
+        (Act::Elements, "a", "", Ok("=3;b=2;k=4;")),
+        (Act::Remove, "a(b)", "", Ok("")),
+        (Act::Remove, "a(k)", "", Ok("")),
+        (Act::Remove, "a()", "", Ok("")),
+        (Act::Elements, "a", "", Ok("")),
+        (Act::IsArray, "a", "", Ok("yes")),
+        (Act::Remove, "a", "", Ok("")),
+        (Act::IsArray, "a", "", Ok("no")),
+        (Act::WriteArray, "p(q", "k 1 j 2 k 3 left ", Ok("")),
+        (Act::Write, "p", "1", Ok("")),
+        (Act::Elements, "p(q", "", Ok("j=2;k=3;")),
+        (Act::WriteArray, "p(q", "i 4 ", Ok("")),
+        (Act::Elements, "p(q", "", Ok("i=4;j=2;k=3;")),
+        (Act::WriteArray, "a", "", Ok("")),
+        (Act::Elements, "a", "", Ok("")),
+        (Act::IsArray, "a", "", Ok("yes")),
+    ];
+    assert_eq!(rt; first_wrong(rt.alloc(), rows)?, None);
+    Ok(())
+}
+
+#[test]
+fn names_of_elements(rt: HostRuntime) -> Result<(), Fail> {
+    let rows: &[Row] = &[
+        (Act::Write, "n(x(y))", "1", Ok("")),
+        (Act::Write, "n((z)", "2", Ok("")),
+        (Act::Write, "n(a)b)", "3", Ok("")),
+        (Act::Elements, "n", "", Ok("(z=2;a)b=3;x(y)=1;")),
+        (Act::Has, "n(x(y)", "", Ok("no")),
+        (Act::Write, "(k)", "4", Ok("")),
+        (Act::Elements, "", "", Ok("k=4;")),
+        (Act::Write, "n(open", "5", Ok("")),
+        (Act::Read, "n(open", "", Ok("5")),
+        (Act::Write, "close)", "6", Ok("")),
+        (Act::Read, "close)", "", Ok("6")),
+        (Act::Write, ")(", "7", Ok("")),
+        (Act::Read, ")(", "", Ok("7")),
+        (Act::Elements, "n", "", Ok("(z=2;a)b=3;x(y)=1;")),
+    ];
+    assert_eq!(rt; first_wrong(rt.alloc(), rows)?, None);
+    Ok(())
+}
+
+#[test]
+fn frames_and_links(rt: HostRuntime) -> Result<(), Fail> {
+    let rows: &[Row] = &[
+        (Act::Write, "g", "1", Ok("")),
+        (Act::Link, "g", "", Ok("")),
+        (Act::Link, "none", "", Ok("")),
+        (Act::Has, "none", "", Ok("no")),
+        (Act::Read, "g", "", Ok("1")),
+        (Act::Push, "", "", Ok("")),
+        (Act::Depth, "", "", Ok("|")),
+        (Act::Read, "g", "", Err(NoVariable)),
+        (Act::Write, "l", "1", Ok("")),
+        (Act::Link, "l", "", Err(Exists)),
+        (Act::Write, "m(k)", "1", Ok("")),
+        (Act::Link, "m", "", Err(Exists)),
+        (Act::Link, "g", "", Ok("")),
+        (Act::Link, "g", "", Ok("")),
+        (Act::Read, "g", "", Ok("1")),
+        (Act::Write, "g", "2", Ok("")),
+        (Act::Read, "g", "", Ok("2")),
+        (Act::Remove, "g", "", Ok("")),
+        (Act::Read, "g", "", Err(NoVariable)),
+        (Act::Link, "g", "", Ok("")),
+        (Act::Write, "g(k)", "3", Ok("")),
+        (Act::Push, "", "", Ok("")),
+        (Act::Depth, "", "", Ok("||")),
+        (Act::Has, "g(k)", "", Ok("no")),
+        (Act::Write, "g", "9", Ok("")),
+        (Act::Read, "g", "", Ok("9")),
+        (Act::Pop, "", "", Ok("")),
+        (Act::Elements, "g", "", Ok("k=3;")),
+        (Act::IsArray, "g", "", Ok("yes")),
+        (Act::Pop, "", "", Ok("")),
+        (Act::Elements, "g", "", Ok("k=3;")),
+        (Act::Read, "l", "", Err(NoVariable)),
+        (Act::Depth, "", "", Ok("")),
+    ];
+    assert_eq!(rt; first_wrong(rt.alloc(), rows)?, None);
+    Ok(())
+}
+
+/// A frame with ten thousand variables.
+#[test]
+fn many_variables(rt: HostRuntime) -> Result<(), Fail> {
+    let mut frames = Frames::new(rt.alloc())?;
+    frames.push()?;
+    for number in 0..10_000i64 {
+        let name = write_int(rt.alloc(), number)?;
+        frames.write(&name, write_int(rt.alloc(), number)?)?;
+    }
+    for number in [0, 4711, 9_999] {
+        let name = write_int(rt.alloc(), number)?;
+        assert_eq!(rt; frames.read(&name)?.bytes(), name.bytes());
+    }
+    assert_eq!(rt; frames.has(&write_int(rt.alloc(), 10_000)?), false);
+    Ok(())
+}
