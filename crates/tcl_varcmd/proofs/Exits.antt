@@ -1,0 +1,35 @@
+-- How an answer follows from the answers of the checks before it.
+use Rattle.std.proofs.Common.{◌≡◌, ℕ, List, Option, Some, None, Result, Ok, Err, refl, sym, ◌∙◌, ap}
+use Rattle.tcl_frame.specs.Stack.{Stack}
+use Rattle.tcl_varcmd.specs.declared.fault.Fault.{Fault}
+use Rattle.tcl_varcmd.specs.declared.fault.Fault.TheVariants.{Error, NoMemory}
+use Rattle.tcl_varcmd.specs.Answers.{Came, gives, fails, unless, IsAnswer, Answers, Tried, Changes, Says}
+
+-- a check that says its error
+pub tried_said : {A : Type 0} (P : A → Type 0) (error message : Option (List ℕ)) (x : Fault) → error ≡ message → Says message x → Tried error P (Err x)
+tried_said P error message (Error text) e s = e ∙ s
+tried_said P error message NoMemory e s = tt
+
+-- a change that says its error
+pub changes_said : (error message : Option (List ℕ)) (after before new : Stack) (x : Fault) → error ≡ message → Says message x → new ≡ before → Changes error after before (Err x) new
+changes_said error message after before new (Error text) e s same = (e ∙ s, same)
+changes_said error message after before new NoMemory e s same = same
+
+-- a command that says its error
+pub answers_said : (error message : Option (List ℕ)) (stack new : Stack) (came : Came) (x : Fault) → error ≡ message → Says message x → new ≡ stack → Answers (unless error stack came) (Err x) new
+answers_said error message stack new came (Error text) e s same = rw (e ∙ s) (refl, same)
+answers_said error message stack new came NoMemory e s same = tt
+
+-- a command that ends with a check's error
+pub answers_exit : {A : Type 0} (P : A → Type 0) (error : Option (List ℕ)) (stack new : Stack) (came : Came) (x : Fault) → Tried error P (Err x) → new ≡ stack → Answers (unless error stack came) (Err x) new
+answers_exit P error stack new came (Error text) h same = rw h (refl, same)
+answers_exit P error stack new came NoMemory h same = tt
+
+-- a command that ends with a change's error
+pub answers_unchanged : (error : Option (List ℕ)) (stack after new : Stack) (came : Came) (x : Fault) → Changes error after stack (Err x) new → Answers (unless error stack came) (Err x) new
+answers_unchanged error stack after new came (Error text) h = rw h.0 (refl, h.1)
+answers_unchanged error stack after new came NoMemory h = tt
+
+-- a command that goes on behind a check
+pub answers_on : (error : Option (List ℕ)) (stack new : Stack) (came : Came) (r : Result (List ℕ) Fault) → error ≡ None → Answers came r new → Answers (unless error stack came) r new
+answers_on error stack new came r none h = rw none h

@@ -1,0 +1,5 @@
+mod Exits
+mod Faults
+mod Values
+mod Counts
+mod Making

@@ -1,0 +1,62 @@
+-- Numbers and lists.
+use Rattle.std.proofs.Common.{◌≡◌, ◌^◌, ◌<◌, ℕ, ℤ, pos, negsuc, Bool, true, false, List, Option, Some, None, Err, arith, refl, sym, ◌∙◌, ap}
+use Rattle.std.specs.Bool.{nat_lt}
+use Rattle.std.specs.Option.{unwrap_or}
+use Rattle.std.specs.Int.{w64}
+use Rattle.std.specs.Int.RustNames.{FitsSigned}
+use Rattle.std.proofs.lemmas.Bool.Decides.{nat_tests}
+use Rattle.tcl_list.specs.declared.fault.ListFault.{ListFault}
+use Rattle.tcl_list.specs.declared.fault.ListFault.TheVariants as list_faults
+use Rattle.tcl_list.specs.Answers.{SplitsAs}
+use Rattle.tcl_varcmd.specs.declared.fault.Fault.{Fault}
+use Rattle.tcl_varcmd.specs.declared.fault.Fault.TheVariants.{Error, NoMemory}
+use Rattle.tcl_varcmd.specs.Answers.{Tried}
+use Rattle.tcl_varcmd.specs.Reading.{SaysOfList}
+use Rattle.txt_core.specs.Number.{number}
+use Rattle.txt_core.specs.Lists.{elements, bad_at}
+use Rattle.txt_core.specs.Listing.{listing}
+use Rattle.tcl_varcmd.specs.Texts.{no_integer, no_list, overflow}
+use Rattle.tcl_varcmd.specs.Errors.{no_number, integer_error, integer, bad_list, list_error, listed, items, fits, sum_error}
+
+pub some_number : (t : List ℕ) (n : ℤ) → Some n ≡ number t → (integer_error t ≡ None) × (n ≡ integer t)
+unfolding integer_error integer
+some_number t n h = (ap (no_number t) (sym h), ap (λ (o : Option ℤ). unwrap_or o (pos 0)) h)
+
+pub none_number : (t : List ℕ) → None ≡ number t → integer_error t ≡ Some (no_integer t)
+unfolding integer_error
+none_number t h = ap (no_number t) (sym h)
+
+pub is_list : (t : List ℕ) (v : List (List ℕ)) → listing t ≡ elements v → (list_error t ≡ None) × (v ≡ items t)
+unfolding list_error items
+is_list t v h = (ap bad_list h, ap listed (sym h))
+
+-- the error of a text that is no list
+pub bad_list_said : {B : Type 0} (P : B → Type 0) (t : List ℕ) (f : ListFault) (x : Fault) → SplitsAs t (Err f) → SaysOfList f x → Tried (list_error t) P (Err x)
+unfolding list_error
+bad_list_said P t (list_faults.Bad at) (Error text) h s = ap bad_list h ∙ s
+bad_list_said P t list_faults.NoMemory (Error text) h s = absurd (cc)
+bad_list_said P t f NoMemory h s = tt
+
+below : (n : ℕ) → n < 2 ^ 63 → nat_lt n (2 ^ 63) ≡ true
+below n h = grind (arith, nat_tests, h)
+
+not_below : (n : ℕ) → (n < 2 ^ 63 → ⊥) → nat_lt n (2 ^ 63) ≡ false
+not_below n h = grind (arith, nat_tests, h)
+
+fitting : (z : ℤ) → FitsSigned w64 z → fits z ≡ true
+fitting (pos n) f = below n f.sfits
+fitting (negsuc n) f = below n f.sfits
+
+not_fitting : (z : ℤ) → (FitsSigned w64 z → ⊥) → fits z ≡ false
+not_fitting (pos n) f = not_below n (λ h. f (record { sfits = h }))
+not_fitting (negsuc n) f = not_below n (λ h. f (record { sfits = h }))
+
+-- a sum of 64 bits
+pub sum_fits : (z : ℤ) → FitsSigned w64 z → sum_error z ≡ None
+unfolding sum_error
+sum_fits z f = rw (fitting z f) refl
+
+-- one that is out of range
+pub sum_overflows : (z : ℤ) → (FitsSigned w64 z → ⊥) → sum_error z ≡ Some overflow
+unfolding sum_error
+sum_overflows z f = rw (not_fitting z f) refl

@@ -1,0 +1,30 @@
+use Rattle.std.proofs.Common.{◌≡◌, ◌∙◌, ◌%◌, sym, refl, ap, subst, None, Some, Err, Option, List, ℕ, ◌∷◌, length, true, false}
+use Rattle.std.specs.Prelude.{codes}
+use Rattle.tcl_frame.specs.Names.{named, is_element}
+use Rattle.tcl_varcmd.specs.Texts.{naming}
+use Rattle.tcl_varcmd.specs.Errors.{array_error}
+use Rattle.tcl_varcmd.proofs.Exits.{tried_said}
+use Rattle.tcl_varcmd.proofs.Making.{element_making, array_making, scalar_making, absent_making}
+use Rattle.tcl_varcmd.proofs.array.check_array.Goals as goal
+
+pub returns-then-is_element_name : goal.returns-then-is_element_name
+returns-then-is_element_name c =
+    let name = c.args.name.now in
+    tried_said {A = Unit {0}} (λ _. Unit {0}) (array_error c.args.frames.now name) (Some (naming (codes "variable \"") name (codes "\" is no array"))) c.refusal.result
+    (element_making c.args.frames.now name (sym c.is_element_name.ensures ∙ c.if-is_element_name.true)) c.refusal.ensures
+
+pub returns-then-is_array : goal.returns-then-is_array
+returns-then-is_array c =
+    let name = c.args.name.now in
+    (array_making c.args.frames.now name (sym c.is_element_name.ensures ∙ c.if-is_element_name.false) (sym c.is_array.ensures ∙ c.if-is_array.true), tt)
+
+pub returns-then-has : goal.returns-then-has
+returns-then-has c =
+    let name = c.args.name.now in
+    tried_said {A = Unit {0}} (λ _. Unit {0}) (array_error c.args.frames.now name) (Some (naming (codes "variable \"") name (codes "\" is no array"))) c.refusal-then-has.result
+    (scalar_making c.args.frames.now name (sym c.is_element_name.ensures ∙ c.if-is_element_name.false) (sym c.is_array.ensures ∙ c.if-is_array.false) (sym c.has.ensures ∙ c.if-has.true)) c.refusal-then-has.ensures
+
+pub returns : goal.returns
+returns c =
+    let name = c.args.name.now in
+    (absent_making c.args.frames.now name (sym c.is_element_name.ensures ∙ c.if-is_element_name.false) (sym c.is_array.ensures ∙ c.if-is_array.false) (sym c.has.ensures ∙ c.if-has.false), tt)

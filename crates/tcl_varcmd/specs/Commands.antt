@@ -1,0 +1,72 @@
+-- The variable commands by their names.
+use Rattle.std.specs.Prelude.{ℕ, Bool, true, false, List, Option, Some, None, if◌then◌else◌, codes, bytes_eq}
+use Rattle.tcl_frame.specs.Stack.{Stack}
+use Rattle.tcl_varcmd.specs.declared.command.Command.{Command}
+use Rattle.tcl_varcmd.specs.declared.command.Command.TheVariants.{Set, Unset, Incr, Append, Lappend, Global, Array, Info}
+use Rattle.tcl_varcmd.specs.Texts.{too_long}
+use Rattle.tcl_varcmd.specs.Answers.{Came, gives, fails}
+use Rattle.tcl_varcmd.specs.Errors.{is_long}
+use Rattle.tcl_varcmd.specs.Scalars.{word, set_came, unset_came, incr_came, append_came, lappend_came, global_came}
+use Rattle.tcl_varcmd.specs.Arrays.{array_came, info_came}
+
+-- the command of this name
+abbrev pub command_named : List ℕ → Option Command
+command_named name =
+    if bytes_eq name (codes "set") then Some Set
+    else if bytes_eq name (codes "unset") then Some Unset
+    else if bytes_eq name (codes "incr") then Some Incr
+    else if bytes_eq name (codes "append") then Some Append
+    else if bytes_eq name (codes "lappend") then Some Lappend
+    else if bytes_eq name (codes "global") then Some Global
+    else if bytes_eq name (codes "array") then Some Array
+    else if bytes_eq name (codes "info") then Some Info
+    else None
+
+-- whether a command takes its names one after the other, so that those before a failing one are done
+abbrev pub goes_in_turn : Option Command → Bool
+goes_in_turn None = false
+goes_in_turn (Some Set) = false
+goes_in_turn (Some Unset) = true
+goes_in_turn (Some Incr) = false
+goes_in_turn (Some Append) = false
+goes_in_turn (Some Lappend) = false
+goes_in_turn (Some Global) = true
+goes_in_turn (Some Array) = false
+goes_in_turn (Some Info) = false
+
+-- whether words go on as this command's: of `info` only `info exists` is a variable command
+abbrev pub goes_on : Option Command → List (List ℕ) → Bool
+goes_on None words = false
+goes_on (Some Set) words = true
+goes_on (Some Unset) words = true
+goes_on (Some Incr) words = true
+goes_on (Some Append) words = true
+goes_on (Some Lappend) words = true
+goes_on (Some Global) words = true
+goes_on (Some Array) words = true
+goes_on (Some Info) words = bytes_eq (word words 1) (codes "exists")
+
+-- whether words begin with a variable command
+unfoldable pub begins_var_command : List (List ℕ) → Bool
+begins_var_command words = goes_on (command_named (word words 0)) words
+
+-- what each comes to
+abbrev pub command_came : Stack → Option Command → List (List ℕ) → Came
+command_came stack (Some Set) words = set_came stack words
+command_came stack (Some Unset) words = unset_came stack words
+command_came stack (Some Incr) words = incr_came stack words
+command_came stack (Some Append) words = append_came stack words
+command_came stack (Some Lappend) words = lappend_came stack words
+command_came stack (Some Global) words = global_came stack words
+command_came stack (Some Array) words = array_came stack words
+command_came stack (Some Info) words = info_came stack words
+command_came stack None words = fails too_long stack
+
+-- a result or an error's text over the limit is an error of its own
+abbrev pub bounded : Came → Came
+bounded (gives text stack) = if is_long text then fails too_long stack else gives text stack
+bounded (fails text stack) = if is_long text then fails too_long stack else fails text stack
+
+-- what words that begin with a variable command come to
+abbrev pub var_came : Stack → List (List ℕ) → Came
+var_came stack words = bounded (command_came stack (command_named (word words 0)) words)

@@ -1,0 +1,7 @@
+pub mod Answers
+pub mod Texts
+pub mod Errors
+pub mod Reading
+pub mod Scalars
+pub mod Arrays
+pub mod Commands

@@ -1,0 +1,214 @@
+//! The commands on arrays, and `info exists`.
+
+ghost use Rattle.std.specs.Prelude.{◌≡◌, ◌≤◌, ◌%◌, ◌==◌, length, map, decimal, IfOk, Some};
+ghost use Rattle.std.specs.Option.{option_copied};
+ghost use Rattle.std.specs.FinMap as finite;
+ghost use Rattle.txt_core.specs.Quoting.{quoting};
+ghost use Rattle.tcl_frame.specs.Frames.{elements_of};
+ghost use Rattle.tcl_varcmd.specs.Answers.{Answers, IfNoMemory, Tried};
+ghost use Rattle.tcl_varcmd.specs.Errors.{array_error, items};
+ghost use Rattle.tcl_varcmd.specs.Arrays.{truth_text, is_picked, picked, in_turn, pairs_error, array_set, unset_array, array_part, array_came, info_came};
+
+use crate::fault::Fault;
+use crate::message::{bad_word, check_count, no_subcommand, refusal};
+use crate::part::{Part, part_of};
+use crate::scalar::word_at;
+use crate::value::{digits, list_in, push_copy};
+use crate::variable::{remove, write_array};
+use std::alloc::Global;
+use tcl_frame::{Frames, VarFault, is_element_name};
+use tcl_list::quote;
+use txt_core::{NoMemory, Pairs, Text, Words, glob};
+
+/// 1 or 0.
+fn truth(alloc: Global, holds: bool) -> Result<Text, NoMemory>
+    ensures { IfOk result (λ text. text ≡ truth_text holds) }
+{
+    if holds {
+        Text::new(alloc, b"1")
+    } else {
+        Text::new(alloc, b"0")
+    }
+}
+
+/// Whether an element of this index is listed.
+fn is_listed(pattern: Option<&Text>, index: &Text) -> bool
+    ensures { result ≡ is_picked (option_copied pattern.entry) index.now }
+{
+    match pattern {
+        None => true,
+        Some(pattern) => glob(pattern, index),
+    }
+}
+
+/// The indexes and values in turn of the elements that are listed.
+fn elements_in_turn(alloc: Global, pairs: &Pairs, pattern: Option<&Text>) -> Result<Words, NoMemory>
+    ensures { IfOk result (λ words. words ≡ in_turn (picked (option_copied pattern.entry) pairs.now)) }
+{
+    let mut words = Words::new(alloc);
+    'pairs: for pair in pairs.as_slice() {
+        if is_listed(pattern, &pair.0) {
+            push_copy(alloc, &mut words, &pair.0)?;
+            push_copy(alloc, &mut words, &pair.1)?;
+        }
+    }
+    Ok(words)
+}
+
+/// The indexes of the elements that are listed.
+fn indexes(alloc: Global, pairs: &Pairs, pattern: Option<&Text>) -> Result<Words, NoMemory>
+    ensures { IfOk result (λ words. words ≡ map (λ pair. pair.0) (picked (option_copied pattern.entry) pairs.now)) }
+{
+    let mut words = Words::new(alloc);
+    'pairs: for pair in pairs.as_slice() {
+        if is_listed(pattern, &pair.0) {
+            push_copy(alloc, &mut words, &pair.0)?;
+        }
+    }
+    Ok(words)
+}
+
+/// `array get a ?glob?`.
+fn get(
+    alloc: Global,
+    frames: &Frames,
+    name: &Text,
+    pattern: Option<&Text>,
+) -> Result<Text, NoMemory>
+    ensures { IfOk result (λ text. text ≡ quoting (in_turn (picked (option_copied pattern.entry) (finite.entries (elements_of frames.now name.now))))) }
+{
+    let pairs = frames.elements(name)?;
+    let words = elements_in_turn(alloc, &pairs, pattern)?;
+    quote(alloc, &words)
+}
+
+/// `array names a ?glob?`.
+fn names(
+    alloc: Global,
+    frames: &Frames,
+    name: &Text,
+    pattern: Option<&Text>,
+) -> Result<Text, NoMemory>
+    ensures { IfOk result (λ text. text ≡ quoting (map (λ pair. pair.0) (picked (option_copied pattern.entry) (finite.entries (elements_of frames.now name.now))))) }
+{
+    let pairs = frames.elements(name)?;
+    let words = indexes(alloc, &pairs, pattern)?;
+    quote(alloc, &words)
+}
+
+/// `array size a`.
+fn size(alloc: Global, frames: &Frames, name: &Text) -> Result<Text, NoMemory>
+    ensures { IfOk result (λ text. text ≡ decimal (length (finite.entries (elements_of frames.now name.now)))) }
+{
+    digits(alloc, frames.elements(name)?.len())
+}
+
+/// `array unset a`.
+fn unset(alloc: Global, frames: &mut Frames, name: &Text) -> Result<Text, Fault>
+    ensures came { Answers (unset_array frames.old name.now) result frames.new }
+    ensures kept { IfNoMemory result (frames.new ≡ frames.old) }
+    ensures depth { length frames.new.above ≡ length frames.old.above }
+{
+    if frames.is_array(name) {
+        remove(alloc, frames, name)?;
+    }
+    Ok(Text::empty(alloc))
+}
+
+/// Whether a list has an index without a value.
+fn is_uneven(list: &Words) -> bool
+    ensures { result ≡ (length list.now % 2 == 1) }
+{
+    list.len() % 2 == 1
+}
+
+/// The indexes and values of a text that is a list of as many values as indexes.
+fn pairs_in(alloc: Global, text: &Text) -> Result<Words, Fault>
+    ensures { Tried (pairs_error text.now) (λ list. list ≡ items text.now) result }
+{
+    let list = list_in(alloc, text)?;
+    if is_uneven(&list) {
+        return Err(bad_word(alloc, text.bytes(), "array"));
+    }
+    Ok(list)
+}
+
+/// Whether an array of this name is there or can be made.
+fn check_array(alloc: Global, frames: &Frames, name: &Text) -> Result<(), Fault>
+    ensures { Tried (array_error frames.now name.now) (λ _. Unit {0}) result }
+{
+    if is_element_name(name) {
+        return Err(refusal(alloc, VarFault::NotArray, name));
+    }
+    if frames.is_array(name) {
+        return Ok(());
+    }
+    if frames.has(name) {
+        return Err(refusal(alloc, VarFault::NotArray, name));
+    }
+    Ok(())
+}
+
+/// `array set a list`.
+fn set(alloc: Global, frames: &mut Frames, name: &Text, list: &Text) -> Result<Text, Fault>
+    ensures came { Answers (array_set frames.old name.now list.now) result frames.new }
+    ensures kept { IfNoMemory result (frames.new ≡ frames.old) }
+    ensures depth { length frames.new.above ≡ length frames.old.above }
+{
+    check_array(alloc, frames, name)?;
+    let list = pairs_in(alloc, list)?;
+    write_array(alloc, frames, name, list.as_slice())?;
+    Ok(Text::empty(alloc))
+}
+
+/// A subcommand of `array` with three or four words.
+fn run_part(alloc: Global, frames: &mut Frames, part: Part, words: &Words) -> Result<Text, Fault>
+    requires { (3 ≤ length words.now) × (length words.now ≤ 4) }
+    ensures came { Answers (array_part frames.old (Some part) words.now) result frames.new }
+    ensures kept { IfNoMemory result (frames.new ≡ frames.old) }
+    ensures depth { length frames.new.above ≡ length frames.old.above }
+{
+    let name = word_at(words, 2);
+    match part {
+        Part::Exists => {
+            check_count(alloc, words, 3, 3, "array")?;
+            Ok(truth(alloc, frames.is_array(name))?)
+        }
+        Part::Size => {
+            check_count(alloc, words, 3, 3, "array")?;
+            Ok(size(alloc, frames, name)?)
+        }
+        Part::Unset => {
+            check_count(alloc, words, 3, 3, "array")?;
+            unset(alloc, frames, name)
+        }
+        Part::Get => Ok(get(alloc, frames, name, words.get(3))?),
+        Part::Names => Ok(names(alloc, frames, name, words.get(3))?),
+        Part::Set => {
+            check_count(alloc, words, 4, 4, "array")?;
+            set(alloc, frames, name, word_at(words, 3))
+        }
+    }
+}
+
+/// `array` with its subcommands.
+pub(crate) fn array(alloc: Global, frames: &mut Frames, words: &Words) -> Result<Text, Fault>
+    ensures came { Answers (array_came frames.old words.now) result frames.new }
+    ensures kept { IfNoMemory result (frames.new ≡ frames.old) }
+    ensures depth { length frames.new.above ≡ length frames.old.above }
+{
+    check_count(alloc, words, 3, 4, "array")?;
+    let word = word_at(words, 1).bytes();
+    match part_of(word) {
+        Some(part) => run_part(alloc, frames, part, words),
+        None => Err(no_subcommand(alloc, word, "array")),
+    }
+}
+
+/// `info exists name`.
+pub(crate) fn info(alloc: Global, frames: &Frames, words: &Words) -> Result<Text, Fault>
+    ensures { Answers (info_came frames.now words.now) result frames.now }
+{
+    check_count(alloc, words, 3, 3, "info")?;
+    Ok(truth(alloc, frames.has(word_at(words, 2)))?)
+}

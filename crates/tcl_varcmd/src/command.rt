@@ -1,0 +1,86 @@
+//! The variable commands by their names.
+
+ghost use Rattle.std.specs.Prelude.{◌≡◌, Some, codes, bytes_eq};
+ghost use Rattle.tcl_varcmd.specs.Scalars.{word};
+ghost use Rattle.tcl_varcmd.specs.Commands.{command_named, goes_on, begins_var_command};
+
+use txt_core::Words;
+
+/// A command on variables.
+#[derive(Clone, Copy, Debug)]
+pub enum Command {
+    Set,
+    Unset,
+    Incr,
+    Append,
+    Lappend,
+    Global,
+    Array,
+    Info,
+}
+
+/// The command of a name; `None` exactly where there is none.
+pub(crate) fn command_of(name: &[u8]) -> Option<Command>
+    ensures { result ≡ command_named name.now }
+{
+    if name == b"set".as_slice() {
+        Some(Command::Set)
+    } else if name == b"unset".as_slice() {
+        Some(Command::Unset)
+    } else if name == b"incr".as_slice() {
+        Some(Command::Incr)
+    } else if name == b"append".as_slice() {
+        Some(Command::Append)
+    } else if name == b"lappend".as_slice() {
+        Some(Command::Lappend)
+    } else if name == b"global".as_slice() {
+        Some(Command::Global)
+    } else if name == b"array".as_slice() {
+        Some(Command::Array)
+    } else if name == b"info".as_slice() {
+        Some(Command::Info)
+    } else {
+        None
+    }
+}
+
+/// The command that words begin with; `None` exactly where there is none.
+pub(crate) fn command_in(words: &Words) -> Option<Command>
+    ensures { result ≡ command_named (word words.now 0) }
+{
+    match words.get(0) {
+        Some(first) => command_of(first.bytes()),
+        None => None,
+    }
+}
+
+/// Whether the second word is `exists`.
+fn is_exists(words: &Words) -> bool
+    ensures { result ≡ bytes_eq (word words.now 1) (codes "exists") }
+{
+    match words.get(1) {
+        Some(second) => second.bytes() == b"exists".as_slice(),
+        None => false,
+    }
+}
+
+/// Whether words go on as the command's.
+fn goes_on(command: Command, words: &Words) -> bool
+    ensures { result ≡ goes_on (Some command) words.now }
+{
+    match command {
+        Command::Info => is_exists(words),
+        _ => true,
+    }
+}
+
+/// Whether words begin with a command on variables: `set`, `unset`, `incr`, `append`, `lappend`,
+/// `global`, `array` or `info exists`.
+pub fn is_var_command(words: &Words) -> bool
+    ensures { result ≡ begins_var_command words.now }
+{
+    match command_in(words) {
+        Some(command) => goes_on(command, words),
+        None => false,
+    }
+}

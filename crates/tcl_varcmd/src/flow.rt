@@ -1,0 +1,85 @@
+//! Variable commands.
+
+ghost use Rattle.std.specs.Prelude.{◌≡◌, length, Some, false, IsTrue};
+ghost use Rattle.tcl_frame.specs.Stack.{Stack};
+ghost use Rattle.tcl_varcmd.specs.Answers.{Came, Answers, IfNoMemory};
+ghost use Rattle.tcl_varcmd.specs.Scalars.{word};
+ghost use Rattle.tcl_varcmd.specs.Texts.{too_long};
+ghost use Rattle.tcl_varcmd.specs.Commands.{command_came, command_named, goes_in_turn, bounded, var_came, begins_var_command};
+
+use crate::array::{array, info};
+use crate::command::{Command, command_in};
+use crate::fault::Fault;
+use crate::message::is_over;
+use crate::names::{global, unset};
+use crate::scalar::{append, incr, lappend, set};
+use std::alloc::Global;
+use tcl_frame::Frames;
+use txt_core::{Text, Words};
+
+/// What a command answers, before its length is judged.
+fn answer(
+    alloc: Global,
+    frames: &mut Frames,
+    command: Command,
+    words: &Words,
+) -> Result<Text, Fault>
+    ensures came { Answers (command_came frames.old (Some command) words.now) result frames.new }
+    ensures kept { goes_in_turn (Some command) ≡ false → IfNoMemory result (frames.new ≡ frames.old) }
+    ensures depth { length frames.new.above ≡ length frames.old.above }
+{
+    match command {
+        Command::Set => set(alloc, frames, words),
+        Command::Unset => unset(alloc, frames, words),
+        Command::Incr => incr(alloc, frames, words),
+        Command::Append => append(alloc, frames, words),
+        Command::Lappend => lappend(alloc, frames, words),
+        Command::Global => global(alloc, frames, words),
+        Command::Array => array(alloc, frames, words),
+        Command::Info => info(alloc, frames, words),
+    }
+}
+
+/// An answer, or the error of one that is over the limit, whose text is handed in.
+fn within_limit(answer: Result<Text, Fault>, over: Text) -> Result<Text, Fault>
+    requires { over ≡ too_long }
+    ensures answers { (came : Came) (stack : Stack) → Answers came answer stack → Answers (bounded came) result stack }
+    ensures kept { (old new : Stack) → IfNoMemory answer (new ≡ old) → IfNoMemory result (new ≡ old) }
+{
+    match answer {
+        Ok(text) | Err(Fault::Error(text)) if is_over(&text) => Err(Fault::Error(over)),
+        answer => answer,
+    }
+}
+
+/// Does one of the commands on variables: `set`, `unset`, `incr`, `append`, `lappend`, `global`,
+/// `array` and `info exists`. The condition is that the words begin with one of these
+/// (`is_var_command`).
+///
+/// The result is a text: of `set`, `incr`, `append` and `lappend` the variable's new value, of
+/// `array exists` and `info exists` 1 or 0, of `array size` a number, of `array get` and `array
+/// names` a list in byte order of the indexes; else it is empty.
+///
+/// # Errors
+///
+/// `Error` exactly where the command's rule has an error, with its text: first a wrong number of
+/// words or an unknown subcommand, then what the arguments, from left to right, don't allow. The
+/// variables are then as they were, but for the names before the failing one in `unset` and
+/// `global`. `NoMemory` for want of memory alone; the variables are then as they were, but for names
+/// that `unset` and `global` had already done, and no frame was pushed or popped.
+pub fn var_command(alloc: Global, frames: &mut Frames, words: &Words) -> Result<Text, Fault>
+    requires { IsTrue (begins_var_command words.now) }
+    ensures came { Answers (var_came frames.old words.now) result frames.new }
+    ensures kept { goes_in_turn (command_named (word words.now 0)) ≡ false → IfNoMemory result (frames.new ≡ frames.old) }
+    ensures depth { length frames.new.above ≡ length frames.old.above }
+{
+    match command_in(words) {
+        Some(command) => {
+            // The text is had before anything changes, so that want of memory for it changes nothing.
+            let over = Text::new(alloc, b"value too long")?;
+            let answer = answer(alloc, frames, command, words);
+            within_limit(answer, over)
+        }
+        None => unreachable!(),
+    }
+}

@@ -1,0 +1,19 @@
+//! The commands on variables.
+#![tactic(auto)]
+
+mod array;
+mod command;
+mod fault;
+mod flow;
+mod message;
+mod names;
+mod part;
+mod scalar;
+#[cfg(test)]
+mod tests;
+mod value;
+mod variable;
+
+pub use command::is_var_command;
+pub use fault::Fault;
+pub use flow::var_command;

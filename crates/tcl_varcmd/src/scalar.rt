@@ -1,0 +1,175 @@
+//! The commands that read or write one variable.
+
+ghost use Rattle.std.specs.Prelude.{◌≡◌, ◌<◌, ◌++◌, length, IfOk, OnOk};
+ghost use Rattle.std.specs.Option.{option_copied};
+ghost use Rattle.tcl_varcmd.specs.Answers.{Answers, IfNoMemory, Tried};
+ghost use Rattle.tcl_varcmd.specs.Scalars.{word, stored, set_to, set_came, step_error, step_of, incr_by, incr_came, joined, append_to, append_came, lappend_to, lappend_came};
+
+use crate::fault::Fault;
+use crate::message::{check_count, check_least, is_over, over};
+use crate::value::{list_in, number_in, push_copy, sum};
+use crate::variable::{read, read_or_empty, write};
+use std::alloc::Global;
+use tcl_frame::Frames;
+use tcl_list::quote;
+use txt_core::{NoMemory, Text, Words, write_int};
+
+/// The word at a place.
+pub(crate) fn word_at(words: &Words, at: usize) -> &Text
+    requires { at < length words.now }
+    ensures { result.now ≡ word words.now at }
+{
+    &words.as_slice()[at]
+}
+
+/// Writes a value, which is the result.
+fn store(alloc: Global, frames: &mut Frames, name: &Text, value: Text) -> Result<Text, Fault>
+    ensures came { Answers (stored frames.old name.now value) result frames.new }
+    ensures kept { IfNoMemory result (frames.new ≡ frames.old) }
+    ensures depth { length frames.new.above ≡ length frames.old.above }
+{
+    if is_over(&value) {
+        return Err(over(alloc));
+    }
+    let copy = Text::new(alloc, value.bytes())?;
+    write(alloc, frames, name, copy)?;
+    Ok(value)
+}
+
+/// Reads a variable, or writes it where there is a value.
+fn set_value(
+    alloc: Global,
+    frames: &mut Frames,
+    name: &Text,
+    value: Option<&Text>,
+) -> Result<Text, Fault>
+    ensures came { Answers (set_to frames.old name.now (option_copied value.entry)) result frames.new }
+    ensures kept { IfNoMemory result (frames.new ≡ frames.old) }
+    ensures depth { length frames.new.above ≡ length frames.old.above }
+{
+    match value {
+        None => read(alloc, frames, name),
+        Some(value) => {
+            let value = Text::new(alloc, value.bytes())?;
+            store(alloc, frames, name, value)
+        }
+    }
+}
+
+/// `set name ?value?`.
+pub(crate) fn set(alloc: Global, frames: &mut Frames, words: &Words) -> Result<Text, Fault>
+    ensures came { Answers (set_came frames.old words.now) result frames.new }
+    ensures kept { IfNoMemory result (frames.new ≡ frames.old) }
+    ensures depth { length frames.new.above ≡ length frames.old.above }
+{
+    check_count(alloc, words, 2, 3, "set")?;
+    set_value(alloc, frames, word_at(words, 1), words.get(2))
+}
+
+/// The number by which `incr` changes a variable: 1 where it is left out.
+fn step(alloc: Global, n: Option<&Text>) -> Result<i64, Fault>
+    ensures { Tried (step_error (option_copied n.entry)) (λ number. number ≡ step_of (option_copied n.entry)) result }
+{
+    match n {
+        None => Ok(1),
+        Some(n) => number_in(alloc, n),
+    }
+}
+
+/// Adds to a variable.
+fn add(alloc: Global, frames: &mut Frames, name: &Text, n: Option<&Text>) -> Result<Text, Fault>
+    ensures came { Answers (incr_by frames.old name.now (option_copied n.entry)) result frames.new }
+    ensures kept { IfNoMemory result (frames.new ≡ frames.old) }
+    ensures depth { length frames.new.above ≡ length frames.old.above }
+{
+    let old = read(alloc, frames, name)?;
+    let number = number_in(alloc, &old)?;
+    let by = step(alloc, n)?;
+    let total = sum(alloc, number, by)?;
+    let value = write_int(alloc, total)?;
+    store(alloc, frames, name, value)
+}
+
+/// `incr name ?n?`.
+pub(crate) fn incr(alloc: Global, frames: &mut Frames, words: &Words) -> Result<Text, Fault>
+    ensures came { Answers (incr_came frames.old words.now) result frames.new }
+    ensures kept { IfNoMemory result (frames.new ≡ frames.old) }
+    ensures depth { length frames.new.above ≡ length frames.old.above }
+{
+    check_count(alloc, words, 2, 3, "incr")?;
+    add(alloc, frames, word_at(words, 1), words.get(2))
+}
+
+/// Puts texts behind a text.
+fn append_all(text: &mut Text, values: &[Text]) -> Result<(), NoMemory>
+    ensures { OnOk result (text.new ≡ joined text.old values.now) }
+{
+    'values: for value in values {
+        text.append(value.bytes())?;
+    }
+    Ok(())
+}
+
+/// Puts values behind a variable's own.
+fn append_values(
+    alloc: Global,
+    frames: &mut Frames,
+    name: &Text,
+    values: &[Text],
+) -> Result<Text, Fault>
+    ensures came { Answers (append_to frames.old name.now values.now) result frames.new }
+    ensures kept { IfNoMemory result (frames.new ≡ frames.old) }
+    ensures depth { length frames.new.above ≡ length frames.old.above }
+{
+    let mut value = read_or_empty(alloc, frames, name)?;
+    append_all(&mut value, values)?;
+    store(alloc, frames, name, value)
+}
+
+/// `append name value*`.
+pub(crate) fn append(alloc: Global, frames: &mut Frames, words: &Words) -> Result<Text, Fault>
+    ensures came { Answers (append_came frames.old words.now) result frames.new }
+    ensures kept { IfNoMemory result (frames.new ≡ frames.old) }
+    ensures depth { length frames.new.above ≡ length frames.old.above }
+{
+    check_least(alloc, words, 2, "append")?;
+    append_values(alloc, frames, word_at(words, 1), &words.as_slice()[2..])
+}
+
+/// Puts copies of texts at the end of a list.
+fn push_all(alloc: Global, list: &mut Words, values: &[Text]) -> Result<(), NoMemory>
+    ensures { OnOk result (list.new ≡ list.old ++ values.now) }
+{
+    'values: for value in values {
+        push_copy(alloc, list, value)?;
+    }
+    Ok(())
+}
+
+/// Puts values at the end of a variable's list.
+fn lappend_values(
+    alloc: Global,
+    frames: &mut Frames,
+    name: &Text,
+    values: &[Text],
+) -> Result<Text, Fault>
+    ensures came { Answers (lappend_to frames.old name.now values.now) result frames.new }
+    ensures kept { IfNoMemory result (frames.new ≡ frames.old) }
+    ensures depth { length frames.new.above ≡ length frames.old.above }
+{
+    let old = read_or_empty(alloc, frames, name)?;
+    let mut list = list_in(alloc, &old)?;
+    push_all(alloc, &mut list, values)?;
+    let value = quote(alloc, &list)?;
+    store(alloc, frames, name, value)
+}
+
+/// `lappend name value*`.
+pub(crate) fn lappend(alloc: Global, frames: &mut Frames, words: &Words) -> Result<Text, Fault>
+    ensures came { Answers (lappend_came frames.old words.now) result frames.new }
+    ensures kept { IfNoMemory result (frames.new ≡ frames.old) }
+    ensures depth { length frames.new.above ≡ length frames.old.above }
+{
+    check_least(alloc, words, 2, "lappend")?;
+    lappend_values(alloc, frames, word_at(words, 1), &words.as_slice()[2..])
+}

@@ -1,0 +1,72 @@
+//! Values as numbers and lists.
+
+ghost use Rattle.std.specs.Prelude.{◌≡◌, ◌++◌, ◌∷◌, [], ◌+ℤ◌, IfOk, OnOk, decimal};
+ghost use Rattle.tcl_varcmd.specs.Answers.{Tried};
+ghost use Rattle.tcl_varcmd.specs.Reading.{SaysOfList};
+ghost use Rattle.tcl_varcmd.specs.Errors.{integer_error, integer, sum_error, list_error, items};
+
+use crate::fault::Fault;
+use crate::message::{named, plain};
+use std::alloc::Global;
+use tcl_list::{ListFault, split};
+use txt_core::{NoMemory, Text, Words, read_int};
+
+/// The number that a text is.
+pub(crate) fn number_in(alloc: Global, text: &Text) -> Result<i64, Fault>
+    ensures { Tried (integer_error text.now) (λ n. n ≡ integer text.now) result }
+{
+    match read_int(text) {
+        Some(number) => Ok(number),
+        None => Err(named(alloc, "expected integer but got \"", text.bytes(), "\"")),
+    }
+}
+
+/// The sum of two numbers.
+pub(crate) fn sum(alloc: Global, left: i64, right: i64) -> Result<i64, Fault>
+    ensures { Tried (sum_error (left +ℤ right)) (λ n. n ≡ left +ℤ right) result }
+{
+    match left.checked_add(right) {
+        Some(sum) => Ok(sum),
+        None => Err(plain(alloc, "integer overflow")),
+    }
+}
+
+/// A number in decimal digits.
+pub(crate) fn digits(alloc: Global, number: usize) -> Result<Text, NoMemory>
+    ensures { IfOk result (λ text. text ≡ decimal number) }
+{
+    Ok(Text::from_vec(format!(in alloc; "{number}")?.into_bytes()))
+}
+
+/// The error of a text that is no list.
+fn bad_list(alloc: Global, fault: ListFault) -> Fault
+    ensures { SaysOfList fault result }
+{
+    match fault {
+        ListFault::Bad { at } => match format!(in alloc; "bad list at {at}") {
+            Ok(text) => Fault::Error(Text::from_vec(text.into_bytes())),
+            Err(_) => Fault::NoMemory,
+        },
+        ListFault::NoMemory => Fault::NoMemory,
+    }
+}
+
+/// The elements of a text that is a list.
+pub(crate) fn list_in(alloc: Global, text: &Text) -> Result<Words, Fault>
+    ensures { Tried (list_error text.now) (λ list. list ≡ items text.now) result }
+{
+    match split(alloc, text) {
+        Ok(list) => Ok(list),
+        Err(fault) => Err(bad_list(alloc, fault)),
+    }
+}
+
+/// Puts a copy of a text at the end of a list.
+pub(crate) fn push_copy(alloc: Global, list: &mut Words, text: &Text) -> Result<(), NoMemory>
+    ensures { OnOk result (list.new ≡ list.old ++ text.now ∷ []) }
+{
+    match list.push(Text::new(alloc, text.bytes())?) {
+        Ok(()) => Ok(()),
+        Err(_) => Err(NoMemory),
+    }
+}
