@@ -1,0 +1,8 @@
+use Rattle.std.proofs.Common.{◌≡◌, ◌++◌}
+use Rattle.std.specs.Option.{option_copied}
+use Rattle.nsv_bucket.specs.Listings.{pairs_in}
+use Rattle.nsv_bucket.proofs.listing.pairs.Given as goal
+
+-- what is found, and what is left to find
+abbrev pub invariant-loop-key : goal.invariant-loop-key
+invariant-loop-key l = l.found ++ pairs_in (option_copied l.pattern) l.key-iterator ≡ pairs_in (option_copied l.pattern) l.map.entries

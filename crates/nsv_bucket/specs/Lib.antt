@@ -1,0 +1,9 @@
+pub mod Arrays
+pub mod Listings
+pub mod Replies
+pub mod Questions
+pub mod Reads
+pub mod Writes
+pub mod Lists
+pub mod Steps
+pub mod Laws

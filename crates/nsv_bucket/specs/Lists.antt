@@ -1,0 +1,50 @@
+-- What the questions do that take a list.
+use Rattle.std.specs.Prelude.{ℕ, ◌%◌, ◌==◌, List, [], ◌∷◌, ◌++◌, length, drop, Bool, false, ◌||◌, if◌then◌else◌}
+use Rattle.std.specs.FinMap as map
+use Rattle.std.specs.Option.{unwrap_or}
+use Rattle.txt_core.specs.Lists.{Listing, elements, bad_at}
+use Rattle.txt_core.specs.Listing.{listing}
+use Rattle.txt_core.specs.Quoting.{quoting}
+use Rattle.nsv_bucket.specs.declared.reply.NsvReply.TheVariants.{Said}
+use Rattle.nsv_bucket.specs.Arrays.{Array, Arrays, array_of, value_of}
+use Rattle.nsv_bucket.specs.Questions.{word_at}
+use Rattle.nsv_bucket.specs.Replies.{Outcome, is_too_long, too_long, refused, bad_list, bad_pairs}
+use Rattle.nsv_bucket.specs.Writes.{stored}
+
+-- `nsv_lappend ARRAY KEY VALUE VALUE*` puts the values as elements behind those of the value, or of the empty list
+-- where the key is absent, and gives the new list
+abbrev pub lappended : Arrays → List (List ℕ) → Listing → Outcome
+lappended arrays words (bad_at place) = refused arrays (bad_list place)
+lappended arrays words (elements standing) = stored arrays (word_at words 1) (word_at words 2) (quoting (standing ++ drop 3 words))
+
+abbrev pub lappend_step : Arrays → List (List ℕ) → Outcome
+lappend_step arrays words = lappended arrays words (listing (unwrap_or (value_of arrays (word_at words 1) (word_at words 2)) []))
+
+-- whether a list is one of pairs
+abbrev pub is_even : List (List ℕ) → Bool
+is_even list = length list % 2 == 0
+
+-- whether a value of the pairs is too long
+abbrev pub has_long_value : List (List ℕ) → Bool
+has_long_value (key ∷ value ∷ rest) = is_too_long value || has_long_value rest
+has_long_value _ = false
+
+-- the array with the pairs written in turn, so of a key that comes twice the last value stands
+abbrev pub with_pairs : Array → List (List ℕ) → Array
+with_pairs array (key ∷ value ∷ rest) = with_pairs (map.insert array key value) rest
+with_pairs array _ = array
+
+-- the pairs are written over the array, which takes this name; a list of uneven length and a value that is too long are refused
+abbrev pub paired : Arrays → List (List ℕ) → Array → Listing → Outcome
+paired arrays words array (bad_at place) = refused arrays (bad_list place)
+paired arrays words array (elements pairs) =
+    if is_even pairs then (if has_long_value pairs then too_long arrays else (Said [], map.insert arrays (word_at words 2) (with_pairs array pairs)))
+    else refused arrays (bad_pairs (word_at words 3))
+
+-- `nsv_array set ARRAY LIST` writes each key of the list with the value behind it; an absent array is made, also by an empty list
+abbrev pub array_set_step : Arrays → List (List ℕ) → Outcome
+array_set_step arrays words = paired arrays words (array_of arrays (word_at words 2)) (listing (word_at words 3))
+
+-- `nsv_array reset ARRAY LIST` makes the array anew, with the keys of the list alone
+abbrev pub array_reset_step : Arrays → List (List ℕ) → Outcome
+array_reset_step arrays words = paired arrays words map.empty (listing (word_at words 3))

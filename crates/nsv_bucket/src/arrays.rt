@@ -1,0 +1,107 @@
+//! The arrays of a bucket, by name.
+
+ghost use Rattle.std.specs.Prelude.{◌≡◌, OnOk, OnErr, IsSome};
+ghost use Rattle.std.specs.FinMap as map;
+ghost use Rattle.std.specs.Option.{option_copied};
+ghost use Rattle.nsv_bucket.specs.Arrays.{seen, value_of, with_value, without_key};
+
+use crate::array::{NsvArray, copied};
+use std::alloc::Global;
+use std::collections::BTreeMap;
+use txt_core::{NoMemory, Text};
+
+/// Arrays by name.
+pub(crate) type Arrays = BTreeMap<Text, NsvArray>;
+
+/// Gives an array this name, in place of the one that had it. Its only error is want of memory, and
+/// the arrays are then as they were.
+pub(crate) fn place(
+    alloc: Global,
+    arrays: &mut Arrays,
+    name: &Text,
+    array: NsvArray,
+) -> Result<(), NoMemory>
+    ensures ok { OnOk result (seen arrays.new ≡ map.insert (seen arrays.old) name.now array) }
+    ensures err { OnErr result (seen arrays.new ≡ seen arrays.old) }
+{
+    let name = copied(alloc, name)?;
+    arrays.insert(name, array)?;
+    Ok(())
+}
+
+/// Makes an array of this name that holds one key.
+fn place_first(
+    alloc: Global,
+    arrays: &mut Arrays,
+    name: &Text,
+    key: &Text,
+    value: Text,
+) -> Result<(), NoMemory>
+    ensures ok { OnOk result (seen arrays.new ≡ map.insert (seen arrays.old) name.now (map.insert map.empty key.now value)) }
+    ensures err { OnErr result (seen arrays.new ≡ seen arrays.old) }
+{
+    let mut array = NsvArray::new(alloc);
+    array.put(alloc, key, value)?;
+    place(alloc, arrays, name, array)
+}
+
+/// Puts a value at a key of the array of this name; an absent array is made. Its only error is want
+/// of memory, and the arrays are then as they were.
+pub(crate) fn put_value(
+    alloc: Global,
+    arrays: &mut Arrays,
+    name: &Text,
+    key: &Text,
+    value: Text,
+) -> Result<(), NoMemory>
+    ensures ok { OnOk result (seen arrays.new ≡ with_value (seen arrays.old) name.now key.now value) }
+    ensures err { OnErr result (seen arrays.new ≡ seen arrays.old) }
+{
+    match arrays.get_mut(name) {
+        Some(array) => array.put(alloc, key, value),
+        None => place_first(alloc, arrays, name, key, value),
+    }
+}
+
+/// Takes a key out of the array of this name, where the array stands.
+pub(crate) fn remove_key(arrays: &mut Arrays, name: &Text, key: &Text)
+    requires { IsSome (map.get (seen arrays.old) name.now) }
+    ensures { seen arrays.new ≡ without_key (seen arrays.old) name.now key.now }
+{
+    match arrays.get_mut(name) {
+        Some(array) => array.remove(key),
+        None => {}
+    }
+}
+
+/// Takes the array of this name out, where it stands.
+pub(crate) fn remove_array(arrays: &mut Arrays, name: &Text)
+    ensures { seen arrays.new ≡ map.remove (seen arrays.old) name.now }
+{
+    arrays.remove(name);
+}
+
+/// The array of this name; `None` exactly where there is none.
+pub(crate) fn array_named<'a>(arrays: &'a Arrays, name: &Text) -> Option<&'a NsvArray>
+    ensures { option_copied result ≡ map.get (seen arrays.now) name.now }
+{
+    arrays.get(name)
+}
+
+/// Whether there is an array of this name.
+pub(crate) fn has_array(arrays: &Arrays, name: &Text) -> bool
+    ensures { result ≡ map.contains_key (seen arrays.now) name.now }
+{
+    arrays.contains_key(name)
+}
+
+/// The value of a key in the array of this name; `None` exactly where the array or the key is
+/// absent.
+pub(crate) fn value<'a>(arrays: &'a Arrays, name: &Text, key: &Text) -> Option<&'a Text>
+    ensures { option_copied result ≡ value_of (seen arrays.now) name.now key.now }
+{
+    match array_named(arrays, name) {
+        Some(array) => array.get(key),
+        None => None,
+    }
+}

@@ -1,0 +1,67 @@
+//! The keys of a map that a pattern picks.
+
+ghost use Rattle.std.specs.Prelude.{◌≡◌, ◌++◌, ◌∷◌, [], IfOk, OnOk};
+ghost use Rattle.std.specs.Option.{option_copied};
+ghost use Rattle.std.specs.FinMap as fin;
+ghost use Rattle.nsv_bucket.specs.Arrays.{text_cmp};
+ghost use Rattle.nsv_bucket.specs.Listings.{picks, names_in, pairs_in};
+
+use crate::array::copied;
+use std::alloc::Global;
+use std::collections::BTreeMap;
+use txt_core::{NoMemory, Text, Words, glob};
+
+/// Whether the pattern matches the text; without a pattern, every text is picked.
+fn is_picked(pattern: Option<&Text>, text: &Text) -> bool
+    ensures { result ≡ picks (option_copied pattern.entry) text.now }
+{
+    match pattern {
+        None => true,
+        Some(pattern) => glob(pattern, text),
+    }
+}
+
+/// Puts a copy of a text at the end of a list.
+fn push_copy(alloc: Global, words: &mut Words, text: &Text) -> Result<(), NoMemory>
+    ensures { OnOk result (words.new ≡ words.old ++ text.now ∷ []) }
+{
+    match words.push(copied(alloc, text)?) {
+        Ok(()) => Ok(()),
+        Err(_) => Err(NoMemory),
+    }
+}
+
+/// The keys that the pattern picks, in byte order.
+pub(crate) fn names<V>(
+    alloc: Global,
+    map: &BTreeMap<Text, V>,
+    pattern: Option<&Text>,
+) -> Result<Words, NoMemory>
+    ensures { IfOk result (λ found. found ≡ names_in (option_copied pattern.entry) (fin.entries (fin.from_entries {R = text_cmp} map.now.entries))) }
+{
+    let mut found = Words::new(alloc);
+    for (key, _) in map {
+        if is_picked(pattern, key) {
+            push_copy(alloc, &mut found, key)?;
+        }
+    }
+    Ok(found)
+}
+
+/// The keys that the pattern picks, each followed by its value, in byte order.
+pub(crate) fn pairs(
+    alloc: Global,
+    map: &BTreeMap<Text, Text>,
+    pattern: Option<&Text>,
+) -> Result<Words, NoMemory>
+    ensures { IfOk result (λ found. found ≡ pairs_in (option_copied pattern.entry) (fin.entries (fin.from_entries {R = text_cmp} map.now.entries))) }
+{
+    let mut found = Words::new(alloc);
+    for (key, value) in map {
+        if is_picked(pattern, key) {
+            push_copy(alloc, &mut found, key)?;
+            push_copy(alloc, &mut found, value)?;
+        }
+    }
+    Ok(found)
+}

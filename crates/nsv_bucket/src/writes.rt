@@ -1,0 +1,204 @@
+//! The questions that write or remove keys.
+
+ghost use Rattle.std.specs.Prelude.{◌≡◌, ◌≤◌, ◌++◌, length, drop, slice_get, IfOk, OnOk, OnErr, codes};
+ghost use Rattle.std.specs.List.{concat};
+ghost use Rattle.std.specs.Option.{unwrap_or};
+ghost use Rattle.nsv_bucket.specs.Questions.{word_at};
+ghost use Rattle.nsv_bucket.specs.Arrays.{seen, value_of};
+ghost use Rattle.nsv_bucket.specs.Writes.{stored, set_step, sum_of, incr_step, append_step, unset_key, unset_array, unset_step};
+ghost use Rattle.nsv_bucket.specs.Lists.{lappend_step};
+
+use crate::array::copied;
+use crate::arrays::{Arrays, has_array, put_value, remove_array, remove_key, value};
+use crate::message::{bad_list, no_array, no_integer, no_key, refuse, refuse_long};
+use crate::question::word;
+use crate::reply::{MOST_BYTES, NsvReply};
+use std::alloc::Global;
+use tcl_list::{ListFault, quote, split};
+use txt_core::{NoMemory, Text, Words, read_int, write_int};
+
+/// Stores a value and gives it; one that is too long is refused.
+fn store(
+    alloc: Global,
+    arrays: &mut Arrays,
+    name: &Text,
+    key: &Text,
+    value: Text,
+) -> Result<NsvReply, NoMemory>
+    ensures reply { IfOk result (λ reply. reply ≡ (stored (seen arrays.old) name.now key.now value).0) }
+    ensures ok { OnOk result (seen arrays.new ≡ (stored (seen arrays.old) name.now key.now value).1) }
+    ensures err { OnErr result (seen arrays.new ≡ seen arrays.old) }
+{
+    if value.len() > MOST_BYTES {
+        return refuse_long(alloc);
+    }
+    let said = copied(alloc, &value)?;
+    put_value(alloc, arrays, name, key, value)?;
+    Ok(NsvReply::Said(said))
+}
+
+/// Answers `nsv_set`: stores the value.
+pub(crate) fn set(alloc: Global, arrays: &mut Arrays, words: &Words) -> Result<NsvReply, NoMemory>
+    requires { 4 ≤ length words.now }
+    ensures reply { IfOk result (λ reply. reply ≡ (set_step (seen arrays.old) words.now).0) }
+    ensures ok { OnOk result (seen arrays.new ≡ (set_step (seen arrays.old) words.now).1) }
+    ensures err { OnErr result (seen arrays.new ≡ seen arrays.old) }
+{
+    let value = copied(alloc, word(words, 3))?;
+    store(alloc, arrays, word(words, 1), word(words, 2), value)
+}
+
+/// The value of a key, or another text where the key is absent.
+fn standing(alloc: Global, arrays: &Arrays, words: &Words, absent: &[u8]) -> Result<Text, NoMemory>
+    requires { 3 ≤ length words.now }
+    ensures { IfOk result (λ text. text ≡ unwrap_or (value_of (seen arrays.now) (word_at words.now 1) (word_at words.now 2)) absent.now) }
+{
+    match value(arrays, word(words, 1), word(words, 2)) {
+        Some(value) => copied(alloc, value),
+        None => Text::new(alloc, absent),
+    }
+}
+
+/// The number that is added: the word behind the key, or 1.
+fn added(alloc: Global, words: &Words) -> Result<Text, NoMemory>
+    ensures { IfOk result (λ text. text ≡ unwrap_or (slice_get words.now 3) (codes "1")) }
+{
+    match words.get(3) {
+        Some(number) => copied(alloc, number),
+        None => Text::new(alloc, b"1"),
+    }
+}
+
+/// Answers `nsv_incr`: adds to the number that stands, which is looked at before the one that is
+/// added.
+pub(crate) fn incr(alloc: Global, arrays: &mut Arrays, words: &Words) -> Result<NsvReply, NoMemory>
+    requires { 3 ≤ length words.now }
+    ensures reply { IfOk result (λ reply. reply ≡ (incr_step (seen arrays.old) words.now).0) }
+    ensures ok { OnOk result (seen arrays.new ≡ (incr_step (seen arrays.old) words.now).1) }
+    ensures err { OnErr result (seen arrays.new ≡ seen arrays.old) }
+{
+    let old = standing(alloc, arrays, words, b"0")?;
+    let Some(number) = read_int(&old) else {
+        return refuse(alloc, no_integer(alloc, &old)?);
+    };
+    let more = added(alloc, words)?;
+    let Some(step) = read_int(&more) else {
+        return refuse(alloc, no_integer(alloc, &more)?);
+    };
+    match number.checked_add(step) {
+        None => refuse(alloc, Text::new(alloc, b"integer overflow")?),
+        Some(sum) => {
+            let value = write_int(alloc, sum)?;
+            store(alloc, arrays, word(words, 1), word(words, 2), value)
+        }
+    }
+}
+
+/// Puts texts at the end of a text.
+fn append_all(value: &mut Text, rest: &[Text]) -> Result<(), NoMemory>
+    ensures { OnOk result (value.new ≡ value.old ++ concat rest.now) }
+{
+    for more in rest {
+        value.append(more.bytes())?;
+    }
+    Ok(())
+}
+
+/// Answers `nsv_append`: puts the values behind the one that stands.
+pub(crate) fn append(
+    alloc: Global,
+    arrays: &mut Arrays,
+    words: &Words,
+) -> Result<NsvReply, NoMemory>
+    requires { 4 ≤ length words.now }
+    ensures reply { IfOk result (λ reply. reply ≡ (append_step (seen arrays.old) words.now).0) }
+    ensures ok { OnOk result (seen arrays.new ≡ (append_step (seen arrays.old) words.now).1) }
+    ensures err { OnErr result (seen arrays.new ≡ seen arrays.old) }
+{
+    let mut value = standing(alloc, arrays, words, b"")?;
+    append_all(&mut value, &words.as_slice()[3..])?;
+    store(alloc, arrays, word(words, 1), word(words, 2), value)
+}
+
+/// Puts copies of the words from a place on at the end of a list.
+fn push_rest(alloc: Global, list: &mut Words, rest: &[Text]) -> Result<(), NoMemory>
+    ensures { OnOk result (list.new ≡ list.old ++ rest.now) }
+{
+    for word in rest {
+        if list.push(copied(alloc, word)?).is_err() {
+            return Err(NoMemory);
+        }
+    }
+    Ok(())
+}
+
+/// Answers `nsv_lappend`: puts the values as elements behind the list that stands.
+pub(crate) fn lappend(
+    alloc: Global,
+    arrays: &mut Arrays,
+    words: &Words,
+) -> Result<NsvReply, NoMemory>
+    requires { 4 ≤ length words.now }
+    ensures reply { IfOk result (λ reply. reply ≡ (lappend_step (seen arrays.old) words.now).0) }
+    ensures ok { OnOk result (seen arrays.new ≡ (lappend_step (seen arrays.old) words.now).1) }
+    ensures err { OnErr result (seen arrays.new ≡ seen arrays.old) }
+{
+    let old = standing(alloc, arrays, words, b"")?;
+    match split(alloc, &old) {
+        Err(ListFault::NoMemory) => Err(NoMemory),
+        Err(ListFault::Bad { at }) => refuse(alloc, bad_list(alloc, at)?),
+        Ok(mut list) => {
+            push_rest(alloc, &mut list, &words.as_slice()[3..])?;
+            let value = quote(alloc, &list)?;
+            store(alloc, arrays, word(words, 1), word(words, 2), value)
+        }
+    }
+}
+
+/// Removes a key that has to stand.
+fn unset_of_key(
+    alloc: Global,
+    arrays: &mut Arrays,
+    name: &Text,
+    key: &Text,
+) -> Result<NsvReply, NoMemory>
+    ensures reply { IfOk result (λ reply. reply ≡ (unset_key (seen arrays.old) name.now key.now).0) }
+    ensures ok { OnOk result (seen arrays.new ≡ (unset_key (seen arrays.old) name.now key.now).1) }
+    ensures err { OnErr result (seen arrays.new ≡ seen arrays.old) }
+{
+    if !has_array(arrays, name) {
+        return refuse(alloc, no_array(alloc, name)?);
+    }
+    if value(arrays, name, key).is_none() {
+        return refuse(alloc, no_key(alloc, key, name)?);
+    }
+    remove_key(arrays, name, key);
+    Ok(NsvReply::Said(Text::empty(alloc)))
+}
+
+/// Removes an array that has to stand.
+fn unset_of_array(alloc: Global, arrays: &mut Arrays, name: &Text) -> Result<NsvReply, NoMemory>
+    ensures reply { IfOk result (λ reply. reply ≡ (unset_array (seen arrays.old) name.now).0) }
+    ensures ok { OnOk result (seen arrays.new ≡ (unset_array (seen arrays.old) name.now).1) }
+    ensures err { OnErr result (seen arrays.new ≡ seen arrays.old) }
+{
+    if !has_array(arrays, name) {
+        return refuse(alloc, no_array(alloc, name)?);
+    }
+    remove_array(arrays, name);
+    Ok(NsvReply::Said(Text::empty(alloc)))
+}
+
+/// Answers `nsv_unset`: removes the key, or the array where no key is named.
+pub(crate) fn unset(alloc: Global, arrays: &mut Arrays, words: &Words) -> Result<NsvReply, NoMemory>
+    requires { 2 ≤ length words.now }
+    ensures reply { IfOk result (λ reply. reply ≡ (unset_step (seen arrays.old) words.now).0) }
+    ensures ok { OnOk result (seen arrays.new ≡ (unset_step (seen arrays.old) words.now).1) }
+    ensures err { OnErr result (seen arrays.new ≡ seen arrays.old) }
+{
+    let name = word(words, 1);
+    match words.get(2) {
+        Some(key) => unset_of_key(alloc, arrays, name, key),
+        None => unset_of_array(alloc, arrays, name),
+    }
+}
