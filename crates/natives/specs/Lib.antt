@@ -1,0 +1,16 @@
+pub mod Answers
+pub mod Texts
+pub mod Words
+pub mod Checks
+pub mod Indexes
+pub mod Lists
+pub mod Sorting
+pub mod Searching
+pub mod Cutting
+pub mod Parts
+pub mod Formatting
+pub mod Strings
+pub mod Pure
+pub mod Ranges
+pub mod Names
+pub mod SortingLaws

@@ -1,0 +1,18 @@
+//! Commands that look at their words alone, as stored functions beside what they answer.
+#![tactic(auto)]
+
+mod fault;
+mod index;
+mod law;
+mod native;
+mod natives;
+#[cfg(test)]
+mod tests;
+mod word;
+
+pub use fault::Fault;
+pub use index::{cut_place, index_in, read_index};
+pub use law::{elements_have_an_order, sorting_is_stable};
+pub use native::{Call, Native};
+pub use natives::Natives;
+pub use word::{MOST_BYTES, is_too_long, number_in, within_limit, word_at};

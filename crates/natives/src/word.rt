@@ -1,0 +1,54 @@
+//! Words of a command, and the length of what it comes to.
+
+ghost use Rattle.std.specs.Prelude.{◌≡◌, ◌<◌, length};
+ghost use Rattle.natives.specs.Answers.{Reply, Answers, Tried, limited, is_long};
+ghost use Rattle.natives.specs.Checks.{integer_error, integer};
+ghost use Rattle.natives.specs.Words.{arg};
+
+use crate::fault::Fault;
+use std::alloc::Global;
+use txt_core::{Text, Words, read_int};
+
+/// How many bytes a value may have.
+pub const MOST_BYTES: usize = 1_048_576;
+
+/// The word at a place, counted from the command's name at 0.
+pub fn word_at(words: &Words, at: usize) -> &Text
+    requires { at < length words.now }
+    ensures { result.now ≡ arg words.now at }
+{
+    &words.as_slice()[at]
+}
+
+/// The number that a word is.
+///
+/// # Errors
+///
+/// `Error` exactly where it is none, with the text `expected integer but got "WORD"`; `NoMemory`
+/// for want of memory alone.
+pub fn number_in(alloc: Global, word: &Text) -> Result<i64, Fault>
+    ensures { Tried (integer_error word.now) (λ n. n ≡ integer word.now) result }
+{
+    match read_int(word) {
+        Some(number) => Ok(number),
+        None => Err(Fault::no_integer(alloc, word.bytes())),
+    }
+}
+
+/// Whether a text is over the limit of a value.
+pub fn is_too_long(text: &Text) -> bool
+    ensures { result ≡ is_long text.now }
+{
+    text.len() > MOST_BYTES
+}
+
+/// What a command answers, or the error `value too long` where its result or its error's text is
+/// over the limit.
+pub fn within_limit(alloc: Global, answer: Result<Text, Fault>) -> Result<Text, Fault>
+    ensures { (reply : Reply) → Answers reply answer → Answers (limited reply) result }
+{
+    match answer {
+        Ok(text) | Err(Fault::Error(text)) if is_too_long(&text) => Err(Fault::too_long(alloc)),
+        answer => answer,
+    }
+}
