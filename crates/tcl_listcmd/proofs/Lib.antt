@@ -1,0 +1,6 @@
+pub mod Joining
+pub mod Leading
+pub mod Numbers
+pub mod Parts
+pub mod Saying
+pub mod Sorted

@@ -1,0 +1,14 @@
+-- Texts that are joined one behind the other.
+use Rattle.std.specs.Prelude.{ℕ, List, [], ◌∷◌, ◌++◌}
+
+-- A text behind what is joined already, with a space between the two; an empty text changes nothing,
+-- and the first that isn't empty stands alone.
+abbrev pub with_word : List ℕ → List ℕ → List ℕ
+with_word joined [] = joined
+with_word [] (b ∷ word) = b ∷ word
+with_word (a ∷ joined) (b ∷ word) = (a ∷ joined) ++ (32 ∷ b ∷ word)
+
+-- texts, each behind those before it
+abbrev pub with_words : List ℕ → List (List ℕ) → List ℕ
+with_words joined [] = joined
+with_words joined (word ∷ words) = with_words (with_word joined word) words

@@ -1,0 +1,100 @@
+//! A word as a list, a list as a text, and copies of elements.
+
+ghost use Rattle.std.specs.Prelude.{◌≡◌, ◌∷◌, ◌++◌, [], IfOk, OnOk, length, min, pos, ◌+ℤ◌, Ok};
+ghost use Rattle.txt_core.specs.Quoting.{quoting};
+ghost use Rattle.natives.specs.Answers.{Answers, Tried};
+ghost use Rattle.natives.specs.Checks.{items, list_error};
+ghost use Rattle.natives.specs.Indexes.{cut, last_of};
+
+use natives::{Fault, cut_place};
+use std::alloc::Global;
+use tcl_list::{ListFault, quote, split};
+use txt_core::{NoMemory, Text, Words};
+
+/// The elements of a word that must be a list.
+///
+/// # Errors
+///
+/// `Error` exactly where it is none, with the text `bad list at PLACE`; `NoMemory` for want of
+/// memory alone.
+pub fn list_in(alloc: Global, word: &Text) -> Result<Words, Fault>
+    ensures { Tried (list_error word.now) (λ list. list ≡ items word.now) result }
+{
+    match split(alloc, word) {
+        Ok(list) => Ok(list),
+        Err(ListFault::Bad { at }) => Err(Fault::no_list(alloc, at)),
+        Err(ListFault::NoMemory) => Err(Fault::NoMemory),
+    }
+}
+
+/// The text of a list. Its only error is want of memory.
+pub fn text_of(alloc: Global, list: &Words) -> Result<Text, Fault>
+    ensures { Answers (Ok (quoting list.now)) result }
+{
+    match quote(alloc, list) {
+        Ok(text) => Ok(text),
+        Err(NoMemory) => Err(Fault::NoMemory),
+    }
+}
+
+/// The last place of a list: -1 where it is empty.
+pub fn last_of(list: &Words) -> i64
+    ensures { result ≡ last_of (length list.now) }
+{
+    list.as_slice().len() as i64 - 1
+}
+
+/// The place behind another, cut to the first one and to `most`.
+pub fn cut_behind(place: i128, most: usize) -> usize
+    ensures { result ≡ min (cut (place +ℤ pos 1)) most }
+{
+    if place < 0 {
+        return 0;
+    }
+    let at = cut_place(place, most);
+    if at < most { at + 1 } else { most }
+}
+
+/// Puts a copy of an element at the end of a list.
+fn push_copy(alloc: Global, list: &mut Words, element: &Text) -> Result<(), NoMemory>
+    ensures { OnOk result (list.new ≡ list.old ++ element.now ∷ []) }
+{
+    match list.push(Text::new(alloc, element.bytes())?) {
+        Ok(()) => Ok(()),
+        Err(_) => Err(NoMemory),
+    }
+}
+
+/// Puts copies of elements at the end of a list.
+pub fn push_copies(alloc: Global, list: &mut Words, elements: &[Text]) -> Result<(), NoMemory>
+    ensures { OnOk result (list.new ≡ list.old ++ elements.now) }
+{
+    'elements: for element in elements {
+        push_copy(alloc, list, element)?;
+    }
+    Ok(())
+}
+
+/// A list of copies of elements.
+pub fn copies(alloc: Global, elements: &[Text]) -> Result<Words, NoMemory>
+    ensures { IfOk result (λ list. list ≡ elements.now) }
+{
+    let mut list = Words::new(alloc);
+    push_copies(alloc, &mut list, elements)?;
+    Ok(list)
+}
+
+/// The text of a list of three parts. Its only error is want of memory.
+pub fn text_of_parts(
+    alloc: Global,
+    front: &[Text],
+    middle: &[Text],
+    back: &[Text],
+) -> Result<Text, Fault>
+    ensures { Answers (Ok (quoting (front.now ++ middle.now ++ back.now))) result }
+{
+    let mut list = copies(alloc, front)?;
+    push_copies(alloc, &mut list, middle)?;
+    push_copies(alloc, &mut list, back)?;
+    text_of(alloc, &list)
+}

@@ -1,0 +1,112 @@
+//! `lsearch`.
+
+ghost use Rattle.std.specs.Prelude.{◌≡◌, ◌<◌, length, position, codes, Ok};
+ghost use Rattle.std.specs.List.{prefix_len};
+ghost use Rattle.natives.specs.Answers.{Answers};
+ghost use Rattle.natives.specs.Searching.{is_found, is_search_option, place_text, lsearch_list, lsearch_behind, lsearch_reply};
+ghost use Rattle.natives.specs.Pure.{pure_of};
+ghost use Rattle.natives.specs.Ranges.{InRange};
+
+use crate::elements::list_in;
+use crate::options::{is_word, last_is};
+use natives::{Fault, within_limit};
+use std::alloc::Global;
+use txt_core::{Text, Words, glob};
+
+/// Whether a word is an option of `lsearch`.
+fn is_option(word: &Text) -> bool
+    ensures { result ≡ is_search_option word.now }
+{
+    is_word(word, b"-exact") || is_word(word, b"-glob")
+}
+
+/// How many options stand at the front.
+fn count_options(words: &[Text]) -> usize
+    ensures { result ≡ prefix_len is_search_option words.now }
+{
+    let mut count = 0;
+    'options: for word in words {
+        if !is_option(word) {
+            break;
+        }
+        count += 1;
+    }
+    count
+}
+
+/// Whether an element is the one that is looked for.
+fn is_found(exact: bool, pattern: &Text, element: &Text) -> bool
+    ensures { result ≡ is_found exact pattern.now element.now }
+{
+    if exact {
+        element == pattern
+    } else {
+        glob(pattern, element)
+    }
+}
+
+/// The place of the first element that is looked for.
+fn place_of(list: &Words, exact: bool, pattern: &Text) -> Option<usize>
+    ensures { result ≡ position (is_found exact pattern.now) list.now }
+{
+    list.as_slice()
+        .iter()
+        .position(|element| is_found(exact, pattern, element))
+}
+
+/// A place in decimal, or -1 where there is none. Its only error is want of memory.
+fn place_text(alloc: Global, place: Option<usize>) -> Result<Text, Fault>
+    ensures { Answers (Ok (place_text place)) result }
+{
+    match place {
+        None => Ok(Text::new(alloc, b"-1")?),
+        Some(place) => Ok(Text::from_vec(format!(in alloc; "{place}")?.into_bytes())),
+    }
+}
+
+/// Searches a word that must be a list.
+fn searched(alloc: Global, options: &[Text], list: &Text, pattern: &Text) -> Result<Text, Fault>
+    ensures { Answers (lsearch_list options.now list.now pattern.now) result }
+{
+    let exact = last_is(options, b"-exact", b"-glob");
+    let list = list_in(alloc, list)?;
+    place_text(alloc, place_of(&list, exact, pattern))
+}
+
+/// What stands behind the options: the list and the pattern.
+fn behind(alloc: Global, options: &[Text], words: &[Text]) -> Result<Text, Fault>
+    ensures { Answers (lsearch_behind options.now words.now) result }
+{
+    match words {
+        [] | [_] => Err(Fault::wrong_words(alloc, "lsearch")),
+        [list, pattern] => searched(alloc, options, list, pattern),
+        [word, _, _, ..] => Err(Fault::bad_value(alloc, word.bytes(), "lsearch")),
+    }
+}
+
+/// Reads the options, and searches.
+fn lsearch(alloc: Global, words: &Words) -> Result<Text, Fault>
+    requires { 0 < length words.now }
+    ensures { Answers (lsearch_reply words.now) result }
+{
+    let words = &words.as_slice()[1..];
+    let (options, others) = words.split_at(count_options(words));
+    behind(alloc, options, others)
+}
+
+/// `lsearch ?-exact? ?-glob? list pattern`: the place of the first element that the pattern matches
+/// or, behind `-exact`, that is the text itself; -1 where there is none. Words that are options are
+/// read as options from the left as long as they come.
+///
+/// # Errors
+///
+/// In this order: `wrong number of words for "lsearch"` where fewer than two words stand behind the
+/// options, `bad value "WORD" for "lsearch"` where more do, of the first of them; `bad list at
+/// PLACE` where the list is none. `NoMemory` for want of memory alone.
+#[tactic(auto, unfolding(natives::specs::Ranges::range_of))]
+pub fn lsearch_command(alloc: Global, words: &Words) -> Result<Text, Fault>
+    requires { InRange (codes "lsearch") words.now }
+    ensures { Answers (pure_of (codes "lsearch") words.now) result }
+{
+    within_limit(alloc, lsearch(alloc, words))
+}
