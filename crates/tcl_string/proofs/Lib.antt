@@ -1,0 +1,12 @@
+pub mod Filled
+pub mod Joined
+pub mod Naming
+pub mod Parts
+pub mod PatternParts
+pub mod Pieces
+pub mod Places
+pub mod Saying
+pub mod Sets
+pub mod Times
+pub mod Widths
+pub mod Written

@@ -1,0 +1,20 @@
+-- What the parts of a pattern write, each by itself.
+use Rattle.std.specs.Prelude.{◌≡◌, ℕ, List, [], ◌∷◌, ◌++◌, Option, None, Result, ◌==◌, if◌then◌else◌, codes}
+use Rattle.natives.specs.Answers.{Tried}
+use Rattle.natives.specs.declared.fault.Fault.{Fault}
+use Rattle.natives.specs.Parts.{Part, itself, form}
+use Rattle.natives.specs.Formatting.{filled, form_error, form_text}
+
+-- a text is put behind what was there, or the error is told where there is one
+abbrev pub Puts : {A : Type 0} → Option (List ℕ) → List ℕ → List ℕ → List ℕ → Result A Fault → Type 0
+Puts error old text new result = Tried error (λ _. new ≡ old ++ text) result
+
+-- what is wrong with the word that a part takes
+abbrev pub part_error : Part → List ℕ → Option (List ℕ)
+part_error (itself b) word = None
+part_error (form f) word = if f.letter == 37 then None else form_error f.letter word
+
+-- what it writes
+abbrev pub part_text : Part → List ℕ → List ℕ
+part_text (itself b) word = b ∷ []
+part_text (form f) word = if f.letter == 37 then filled f [] (codes "%") else form_text f word

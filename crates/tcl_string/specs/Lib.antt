@@ -1,0 +1,6 @@
+pub mod Early
+pub mod Filling
+pub mod Joins
+pub mod Patterns
+pub mod Sets
+pub mod Subcommands
