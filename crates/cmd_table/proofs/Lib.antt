@@ -1,4 +1,5 @@
 mod Changes
 mod Maps
+mod Builts
 mod Orders
 mod Renames

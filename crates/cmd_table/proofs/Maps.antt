@@ -1,5 +1,5 @@
 -- A table is a map: a change of one name changes that name alone.
-use Rattle.std.proofs.Common.{◌≡◌, ℕ, Bool, true, false, cond, List, [], ◌∷◌, Option, Some, None, refl, sym, ap, ◌∙◌, subst}
+use Rattle.std.proofs.Common.{◌≡◌, ℕ, Bool, true, false, cond, ◌||◌, ◌++◌, List, [], ◌∷◌, Option, Some, None, refl, sym, ap, ◌∙◌, subst}
 use Rattle.std.specs.declared.cmp.Ordering.{Ordering}
 use Rattle.std.specs.declared.cmp.Ordering.TheVariants.{Less, Equal, Greater}
 use Rattle.std.specs.Cmp.Lexicographic.{nat_list_eq_equiv}
@@ -11,9 +11,13 @@ use Rattle.std.specs.Str.{bytes_eq}
 use Rattle.std.proofs.lemmas.Map.{lookup-remove_entry}
 use Rattle.std.proofs.lemmas.Map.Keys.{IsDistinct-from_sorted}
 use Rattle.std.proofs.lemmas.Map.Text.{is_eq-slice_cmp}
+use Rattle.std.proofs.lemmas.Slice.Eq.{bytes_eq-Decides}
+use Rattle.natives.specs.Names.{has_name}
 use Rattle.cmd_table.specs.declared.command.Cmd.{Cmd}
+use Rattle.cmd_table.specs.declared.command.Cmd.TheVariants as commands
 use Rattle.cmd_table.specs.Table.{Table, name_order, names_of, IsInOrder, command_of, with_command, without_command}
-use Rattle.cmd_table.specs.Laws.{PuttingSetsOneName, RemovingDropsOneName}
+use Rattle.cmd_table.specs.Commands.{with_built}
+use Rattle.cmd_table.specs.Laws.{PuttingSetsOneName, RemovingDropsOneName, BuiltInsAreThere}
 
 -- the test of a look-up, by the order
 test_at : (k n : List ℕ) (o : Ordering) → name_order k n ≡ o → bytes_eq k n ≡ is_eq o
@@ -53,3 +57,26 @@ distinct table s = subst (λ (e : List ℕ → List ℕ → Bool). IsDistinct e 
 pub removing : RemovingDropsOneName
 unfolding command_of without_command
 removing table name other s = lookup-remove_entry nat_list_eq_equiv (bytes_eq name) (λ x y at. nat_list_eq_equiv.congr name x y at) other table (distinct table s)
+
+-- a name and the others: whichever of them is asked for has its own built-in
+built_step : (n name : List ℕ) (b c : Bool) (rest : Option Cmd) → bytes_eq n name ≡ b → cond c (Some (commands.Built name)) (cond b (Some (commands.Built n)) rest) ≡ cond (b || c) (Some (commands.Built name)) rest
+built_step n name true true rest same = refl
+built_step n name true false rest same = ap (λ (k : List ℕ). Some (commands.Built k)) ((bytes_eq-Decides n name).0 same)
+built_step n name false c rest same = refl
+
+-- what is found once these names have their built-ins
+built_found : (table : Table) (names : List (List ℕ)) (name : List ℕ) → command_of (with_built table names) name ≡ cond (has_name names name) (Some (commands.Built name)) (command_of table name)
+built_found table [] name = refl
+built_found table (n ∷ names) name =
+    built_found (with_command table n (commands.Built n)) names name
+    ∙ (ap (λ (r : Option Cmd). cond (has_name names name) (Some (commands.Built name)) r) (putting table n name (commands.Built n))
+    ∙ built_step n name (bytes_eq n name) (has_name names name) (command_of table name) refl)
+
+nothing_found : (name : List ℕ) → command_of [] name ≡ None
+unfolding command_of
+nothing_found name = refl
+
+pub all_built : BuiltInsAreThere
+all_built names natives name =
+    built_found [] (names ++ natives) name
+    ∙ ap (λ (r : Option Cmd). cond (has_name (names ++ natives) name) (Some (commands.Built name)) r) (nothing_found name)

@@ -1,5 +1,5 @@
 -- Each change keeps the names in their order.
-use Rattle.std.proofs.Common.{◌≡◌, ℕ, Bool, true, false, cond, List, [], ◌∷◌, Option, Some, None, refl, ap, ◌∙◌, fold}
+use Rattle.std.proofs.Common.{◌≡◌, ℕ, Bool, true, false, cond, List, [], ◌∷◌, ◌++◌, Option, Some, None, refl, ap, ◌∙◌, fold}
 use Rattle.std.specs.declared.cmp.Ordering.{Ordering}
 use Rattle.std.specs.declared.cmp.Ordering.TheVariants.{Less, Equal, Greater}
 use Rattle.std.specs.Cmp.Lexicographic.{nat_list_cmp_total}
@@ -99,4 +99,4 @@ unfolding IsStrictlySortedBy
 nothing_in_order = tt
 
 pub in_order : CommandsAreInOrder
-in_order names defs = all_in_order (built names) defs (names_in_order [] names nothing_in_order)
+in_order names natives defs = all_in_order (built names natives) defs (names_in_order [] (names ++ natives) nothing_in_order)

@@ -5,13 +5,15 @@ ghost use Rattle.std.specs.Option.{option_copied};
 ghost use Rattle.cmd_table.specs.Table.{command_of, with_command, without_command, names_of, IsInOrder};
 ghost use Rattle.cmd_table.specs.Renaming.{rename_answer, renamed, renaming_steps};
 ghost use Rattle.cmd_table.specs.Slots.{with_option};
-ghost use Rattle.cmd_table.specs.Commands.{built, defined, Applies, writes};
+ghost use Rattle.cmd_table.specs.Commands.{built, with_built, defined, Applies, writes};
+ghost use Rattle.natives.specs.Names.{names_of as native_names};
 
 use crate::command::Cmd;
 use crate::definition::Def;
 use crate::renaming::Renamed;
 use crate::slots::{Slots, fill, find, present_names, put, reserve, take};
 use crate::steps::Steps;
+use natives::Natives;
 use std::alloc::Global;
 use std::collections::BTreeMap;
 use std::marker::Model;
@@ -40,28 +42,69 @@ impl Model for CmdTable {
 }
 
 impl CmdTable {
-    /// The table of built-in names: each has its built-in, and no other name a command. Each name is
-    /// one step. Its only error is want of memory, and no more steps were then counted than there
-    /// are names.
+    /// The table of the built-in names, those of the natives among them: each has its built-in, and
+    /// no other name a command. Each name is one step. Its only error is want of memory, and no more
+    /// steps were then counted than there are names.
     pub fn new<L: Ledger>(
         alloc: Global,
         names: &Words,
+        natives: &Natives,
         steps: &mut Steps<L>,
     ) -> Result<CmdTable, NoMemory>
-        ensures table { IfOk result (λ made. made.table ≡ built names.now) }
-        ensures steps { OnOk result (steps.new ≡ steps.old + length names.now) }
+        ensures table { IfOk result (λ made. made.table ≡ built names.now (native_names natives.now)) }
+        ensures steps { OnOk result (steps.new ≡ steps.old + (length names.now + length (native_names natives.now))) }
         ensures least { steps.old ≤ steps.new }
-        ensures most { steps.new ≤ steps.old + length names.now }
+        ensures most { steps.new ≤ steps.old + (length names.now + length (native_names natives.now)) }
     {
         let mut table = CmdTable {
             alloc,
             slots: BTreeMap::new(alloc),
         };
-        for name in names.as_slice() {
-            let built = Cmd::Built(Text::new(alloc, name.bytes())?);
-            table.put(Text::new(alloc, name.bytes())?, built, steps)?;
-        }
+        table.put_names(names, steps)?;
+        table.put_natives(natives, steps)?;
         Ok(table)
+    }
+
+    /// Gives each of these names its built-in.
+    fn put_names<L: Ledger>(&mut self, names: &Words, steps: &mut Steps<L>) -> Result<(), NoMemory>
+        ensures table { OnOk result (self.new.table ≡ with_built self.old.table names.now) }
+        ensures steps { OnOk result (steps.new ≡ steps.old + length names.now) }
+        ensures least { steps.old ≤ steps.new }
+        ensures most { steps.new ≤ steps.old + length names.now }
+    {
+        for name in names.as_slice() {
+            self.put_built(name, steps)?;
+        }
+        Ok(())
+    }
+
+    /// Gives the name of each of the natives its built-in.
+    fn put_natives<L: Ledger>(
+        &mut self,
+        natives: &Natives,
+        steps: &mut Steps<L>,
+    ) -> Result<(), NoMemory>
+        ensures table { OnOk result (self.new.table ≡ with_built self.old.table (native_names natives.now)) }
+        ensures steps { OnOk result (steps.new ≡ steps.old + length (native_names natives.now)) }
+        ensures least { steps.old ≤ steps.new }
+        ensures most { steps.new ≤ steps.old + length (native_names natives.now) }
+    {
+        for at in 0..natives.len() {
+            if let Some(native) = natives.get(at) {
+                self.put_built(native.name(), steps)?;
+            }
+        }
+        Ok(())
+    }
+
+    /// Gives a name its built-in.
+    fn put_built<L: Ledger>(&mut self, name: &Text, steps: &mut Steps<L>) -> Result<(), NoMemory>
+        ensures table { OnOk result (self.new.table ≡ with_command self.old.table name.now (Cmd.Built name.now)) }
+        ensures steps { OnOk result (steps.new ≡ steps.old + 1) }
+        ensures err { OnErr result ((self.new ≡ self.old) × (steps.new ≡ steps.old)) }
+    {
+        let built = Cmd::Built(Text::new(self.alloc, name.bytes())?);
+        self.put(Text::new(self.alloc, name.bytes())?, built, steps)
     }
 
     /// The command of a name; `None` exactly where the table hasn't the name.

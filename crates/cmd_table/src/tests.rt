@@ -1,21 +1,46 @@
-ghost use Rattle.std.specs.Prelude.{◌≡◌, ◌<◌};
+ghost use Rattle.std.specs.Prelude.{◌≡◌, ◌<◌, ◌∷◌, ◌++◌, [], false, OnOk};
+ghost use Rattle.natives.specs.Answers.{Reply, Answers};
+ghost use Rattle.natives.specs.Names.{name_of, names_of, has_name};
 
 use super::*;
+use natives::{Fault, Native, Natives};
 use std::alloc::Global;
 use std::marker::Brand;
 use std::sync::ledger::{Blank, Ledger};
 use std::test::Fail;
 use txt_core::{NoMemory, Text, Words};
 
-/// A table of the built-ins `b` and `a`.
-fn example<L: Ledger>(alloc: Global, steps: &mut Steps<L>) -> Result<CmdTable, NoMemory> {
+/// What any native may answer.
+fn gives_up(_alloc: Global, _words: &Words) -> Result<Text, Fault>
+    ensures { (reply : Reply) → Answers reply result }
+{
+    Err(Fault::NoMemory)
+}
+
+/// Adds a native.
+fn add(natives: &mut Natives, native: Native) -> Result<(), NoMemory>
+    requires { has_name (names_of natives.old) (name_of native) ≡ false }
+    ensures { OnOk result (names_of natives.new ≡ names_of natives.old ++ name_of native ∷ []) }
+{
+    match natives.add(native) {
+        Ok(()) => Ok(()),
+        Err(_) => Err(NoMemory),
+    }
+}
+
+/// A table of the built-ins `b` and `a`, and of these natives.
+fn example<L: Ledger>(
+    alloc: Global,
+    natives: &Natives,
+    steps: &mut Steps<L>,
+) -> Result<CmdTable, NoMemory> {
     let mut names = Words::new(alloc);
     for name in [b"b", b"a"] {
         if names.push(Text::new(alloc, name)?).is_err() {
             return Err(NoMemory);
         }
     }
-    CmdTable::new(alloc, &names, steps)
+    CmdTable::new(alloc, &names, natives, steps)
 }
 
 /// Defines a procedure `c` of this body.
@@ -70,6 +95,7 @@ fn rename<L: Ledger>(
 fn listing<L: Ledger>(
     alloc: Global,
     blank: Blank,
+    natives: &Natives,
     renames: &[(&str, &str)],
 ) -> Result<Text, NoMemory>
     requires name { blank.name ≡ L.name }
@@ -77,7 +103,7 @@ fn listing<L: Ledger>(
     requires some { 0 < blank.parts }
 {
     let mut steps = Steps::<L>::new(blank);
-    let mut table = example(alloc, &mut steps)?;
+    let mut table = example(alloc, natives, &mut steps)?;
     let first = Cmd::Built(Text::new(alloc, b"1")?);
     table.put(Text::new(alloc, b"c")?, first, &mut steps)?;
     define(alloc, &mut table, "2", &mut steps)?;
@@ -91,7 +117,14 @@ fn listing<L: Ledger>(
 }
 
 #[test]
+#[tactic(auto, unfolding(natives::specs::Ranges::range_of))]
 fn renames(rt: HostRuntime) -> Result<(), Fail> {
+    let alloc = rt.alloc();
+    let mut natives = Natives::new(alloc);
+    let list = Native::new(Text::new(alloc, b"list")?, 1, 200_001, gives_up);
+    add(&mut natives, list)?;
+    let join = Native::new(Text::new(alloc, b"join")?, 2, 3, gives_up);
+    add(&mut natives, join)?;
     let rows = [
         ("d", "a"),
         ("d", ""),
@@ -101,10 +134,27 @@ fn renames(rt: HostRuntime) -> Result<(), Fail> {
         ("b", ""),
         ("b", "c"),
         ("c", "b"),
+        ("list", "e"),
+        ("join", ""),
     ];
-    let came = listing::<Brand>(rt.alloc(), Blank::new(1), &rows)?;
-    let want =
-        "aa bb c2 absent aa bb c2 absent aa bb c2 taken aa bb c2 taken aa bb c2 done bb c2 da done c2 da absent c2 da done b2 da ";
-    assert_eq!(rt; came.bytes(), want.as_bytes());
+    let came = listing::<Brand>(alloc, Blank::new(1), &natives, &rows)?;
+    let want = [
+        "aa bb c2 joinjoin listlist ",
+        "absent aa bb c2 joinjoin listlist ",
+        "absent aa bb c2 joinjoin listlist ",
+        "taken aa bb c2 joinjoin listlist ",
+        "taken aa bb c2 joinjoin listlist ",
+        "done bb c2 da joinjoin listlist ",
+        "done c2 da joinjoin listlist ",
+        "absent c2 da joinjoin listlist ",
+        "done b2 da joinjoin listlist ",
+        "done b2 da elist joinjoin ",
+        "done b2 da elist ",
+    ];
+    let mut all = Text::empty(alloc);
+    for part in want {
+        all.append(part.as_bytes())?;
+    }
+    assert_eq!(rt; came.bytes(), all.bytes());
     Ok(())
 }

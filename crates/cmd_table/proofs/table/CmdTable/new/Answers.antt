@@ -1,7 +1,11 @@
-use Rattle.std.proofs.Common.{arith, ap, ◌∙◌}
+use Rattle.std.proofs.Common.{ap, ◌∙◌}
+use Rattle.natives.specs.Names.{names_of as native_names}
 use Rattle.cmd_table.specs.Slots.{present}
 use Rattle.cmd_table.proofs.Changes.{none_present}
+use Rattle.cmd_table.proofs.Builts.{one_after_the_other}
 use Rattle.cmd_table.proofs.table.CmdTable.new.Goals as goal
 
-pub loop-name-init : goal.loop-name-init
-loop-name-init g c = (c.as_slice-name-items.ensures, ap present c.new.ensures.empty ∙ none_present, omega arith)
+pub returns-clause-table : goal.returns-clause-table
+returns-clause-table g c =
+    one_after_the_other (present c.new.result.entries) c.put_names.new.self.table c.put_natives.new.self.table c.args.names.now (native_names c.args.natives.now)
+    (ap present c.new.ensures.empty ∙ none_present) c.in_ok-put_names.ensures.table c.in_ok-put_natives.ensures.table
