@@ -10,3 +10,4 @@ pub mod Stack
 pub mod Answers
 pub mod Laws
 pub mod Reading
+pub mod Places

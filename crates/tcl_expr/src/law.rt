@@ -6,6 +6,7 @@ ghost use Rattle.tcl_expr.specs.Trees.{Tree};
 ghost use Rattle.tcl_expr.specs.Outcome.{Answer};
 ghost use Rattle.tcl_expr.specs.Grammar.{Reads};
 ghost use Rattle.tcl_expr.specs.Reading.{expression_of, IsTree, IsBad};
+ghost use Rattle.tcl_expr.specs.Places.{NoneGoesPast, SomeReaches};
 
 /// Each text is an expression or is bad at a place of it, and never two of these.
 pub fn one_answer()
@@ -19,6 +20,13 @@ pub fn one_answer()
 pub fn one_reading()
     ensures gives { (t : List ℕ) → Reads t (expression_of t) }
     ensures only { (t : List ℕ) (a : Answer) → Reads t a → expression_of t ≡ a }
+{}
+
+/// The bad place is the least one that no expression can go past: with the byte that stands there
+/// no expression can go on, and some expression begins with the bytes before it.
+pub fn least_place()
+    ensures none { (t : List ℕ) (place : ℕ) → IsBad place t → NoneGoesPast place t }
+    ensures some { (t : List ℕ) (place : ℕ) → IsBad place t → SomeReaches place t }
 {}
 
 /// The divisor times the quotient, and the remainder, make the number that was divided; and the

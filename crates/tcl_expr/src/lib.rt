@@ -16,7 +16,7 @@ mod token;
 pub use apply::{apply_binary, apply_unary, expression_value};
 pub use expr::Expr;
 pub use fault::ExprText;
-pub use law::{division, one_answer, one_reading};
+pub use law::{division, least_place, one_answer, one_reading};
 pub use operator::{ExprFault, Op};
 pub use reading::{MOST_OPERATORS, MOST_PARENTHESES, parse_expr};
 

@@ -8,6 +8,7 @@ ghost use Rattle.tcl_expr.specs.Grammar.{InParens, SignedAt, LevelAt, Expression
 ghost use Rattle.tcl_expr.specs.View.{tree_of};
 ghost use Rattle.tcl_expr.specs.Stack.{frame_of, stack, IsStack, IsLoose, AtLeast, FromOperand, parts, Waits, IsSettled, with_signs};
 ghost use Rattle.tcl_expr.specs.Answers.{Gives, GivesAny, stopped_word, WordGives, PartGives, ClosedGives, OperandGives, BareGives, Answers};
+ghost use Rattle.tcl_expr.specs.Places.{AnswersLeast, AnswersReached};
 
 use crate::expr::Expr;
 use crate::fault::{ExprText, Stop};
@@ -334,7 +335,9 @@ fn settle(alloc: Global, asked: &mut Vec<Asked>, tree: Expr) -> Result<Settled, 
 /// others and an operator after [`MOST_OPERATORS`] others are bad at their place.
 /// `ExprText::NoMemory` where memory ran out.
 pub fn parse_expr(alloc: Global, text: &Text) -> Result<Expr, ExprText>
-    ensures { Answers text.now result }
+    ensures same { Answers text.now result }
+    ensures least { AnswersLeast text.now result }
+    ensures reached { AnswersReached text.now result }
 {
     let bytes = text.bytes();
     match choice(alloc, MOST_PARENTHESES, MOST_OPERATORS, skip(bytes)) {
