@@ -1,0 +1,136 @@
+-- What expressions come to.
+use Rattle.std.proofs.Common.{◌≡◌, ◌≤◌, ℕ, ◌+◌, ◌-◌, List, [], ◌∷◌, ◌++◌, length, drop, Bool, Option, Err, cond, sym, ap, ◌∙◌, arith}
+use Rattle.std.proofs.lemmas.Bool.{le-ltb}
+use Rattle.txt_core.specs.Truth.{truth}
+use Rattle.tcl_expr.specs.Outcome.{Answer, tree, bad_from}
+use Rattle.tcl_expr.specs.Reading.{IsBad, expression_of, expression_is}
+use Rattle.tcl_expr.specs.Answers.{Answers}
+use Rattle.tcl_expr.specs.declared.fault.ExprText.{ExprText}
+use Rattle.tcl_expr.specs.declared.fault.ExprText.TheVariants.{Bad}
+use Rattle.tcl_expr.specs.declared.operator.Op.{Op}
+use Rattle.tcl_expr.specs.Grammar.{Reads}
+use Rattle.tcl_expr.specs.declared.expr.Expr.{Expr}
+use Rattle.tcl_expr.specs.View.{tree_of}
+use Rattle.tcl_eval.specs.Natives.{Names}
+use Rattle.tcl_eval.specs.State.{State, LeafTable, Given, Out, spent, Rest, Next}
+use Rattle.tcl_parse.specs.Tree.{Parts}
+use Rattle.tcl_eval.specs.Messages.{bad_expression}
+use Rattle.tcl_eval.specs.Eval.{Inner, ended, error_of, give, on_ok, by_truth, nested, run_parts}
+use Rattle.tcl_eval.specs.Expressions.{run_expression, run_answer, evaluate, value_end, do_expr, way_of, behind_left}
+use Rattle.tcl_eval.specs.Words.{joined}
+use Rattle.tcl_eval.specs.Results.{wrong_words}
+use Rattle.tcl_eval.specs.Going.{decided}
+use Rattle.tcl_eval.specs.Engine.{state_of}
+use Rattle.tcl_eval.specs.declared.engine.Engine.{Engine}
+use Rattle.tcl_eval.specs.declared.operation.Way.{Way}
+use Rattle.tcl_eval.specs.declared.operation.Way.TheVariants.{Both, IfTrue, IfFalse}
+use Rattle.std.specs.Prelude.{codes}
+use Rattle.tcl_eval.specs.Stack.{frame_next, step_next, stack_next}
+use Rattle.tcl_eval.specs.declared.stack.Ended.{Ended}
+use Rattle.tcl_eval.specs.declared.stack.Frame.{Frame}
+use Rattle.tcl_eval.specs.declared.stack.Frame.TheVariants.{Expression, Operand, Right, Value}
+use Rattle.tcl_eval.specs.declared.stack.Step.{Step}
+use Rattle.tcl_eval.specs.declared.stack.Step.TheVariants.{Value as Value_step}
+use Rattle.tcl_eval.proofs.Stacks.{pushed}
+
+module _ {H : Type 0} (ns : Names) (t : LeafTable H) where
+  -- an expression begins
+  pub expression_step : (fs fs1 : List Frame) (expr expr' : Expr) (levels : ℕ) (value : Ended) (s : State H) (b : ℕ) (g : Given) → fs1 ≡ fs ++ Expression expr' levels ∷ [] → expr' ≡ expr → value ≡ ended 0 [] → give value (stack_next ns t fs1) s b g ≡ run_expression (nested ns t levels) (tree_of expr) (stack_next ns t fs) s b g
+  expression_step fs fs1 expr expr' levels value s b g e same is =
+      ap (λ (v : Ended). give v (stack_next ns t fs1) s b g) is
+      ∙ ap (λ (k : Next H). k 0 [] s b g) (pushed ns t fs fs1 (Expression expr' levels) e)
+      ∙ ap (λ (x : Expr). run_expression (nested ns t levels) (tree_of x) (stack_next ns t fs) s b g) same
+
+  -- a part of an expression begins, for whose value a frame waits
+  pub part_step : (fs fs1 fs2 : List Frame) (f : Frame) (expr expr' : Expr) (levels : ℕ) (value : Ended) (s : State H) (b : ℕ) (g : Given) → fs1 ≡ fs ++ f ∷ [] → fs2 ≡ fs1 ++ Expression expr' levels ∷ [] → expr' ≡ expr → value ≡ ended 0 [] → give value (stack_next ns t fs2) s b g ≡ run_expression (nested ns t levels) (tree_of expr) (frame_next ns t f (stack_next ns t fs)) s b g
+  part_step fs fs1 fs2 f expr expr' levels value s b g e1 e2 same is =
+      expression_step fs1 fs2 expr expr' levels value s b g e2 same is
+      ∙ ap (λ (k : Next H). run_expression (nested ns t levels) (tree_of expr) k s b g) (pushed ns t fs fs1 f e1)
+
+  -- a word of an expression begins
+  pub operand_step : (inner : Inner H) (fs fs1 : List Frame) (p p' : Parts) (e : List ℕ) (s : State H) (b : ℕ) (g : Given) → fs1 ≡ fs ++ Operand ∷ [] → p ≡ p' → e ≡ [] → run_parts inner p e (stack_next ns t fs1) s b g ≡ run_parts inner p' [] (frame_next ns t Operand (stack_next ns t fs)) s b g
+  operand_step inner fs fs1 p p' e s b g push isp ise =
+      ap (λ (k : Next H). run_parts inner p e k s b g) (pushed ns t fs fs1 Operand push)
+      ∙ ap (λ (x : Parts). run_parts inner x e (frame_next ns t Operand (stack_next ns t fs)) s b g) isp
+      ∙ ap (λ (x : List ℕ). run_parts inner p' x (frame_next ns t Operand (stack_next ns t fs)) s b g) ise
+
+  -- an expression begins, behind a good end
+  pub begun : (expr expr' : Expr) (levels code : ℕ) (result : List ℕ) (k : Next H) (s : State H) (b : ℕ) (g : Given) (x : Out H) → code ≡ 0 → expr ≡ expr' → x ≡ run_expression (nested ns t levels) (tree_of expr') k s b g → x ≡ on_ok (λ r. run_expression (nested ns t levels) (tree_of expr) k) k code result s b g
+  begun expr expr' levels code result k s b g x z is e =
+      e ∙ sym (ap (λ (y : Expr). run_expression (nested ns t levels) (tree_of y) k s b g) is)
+      ∙ sym (ap (λ (n : ℕ). on_ok (λ r. run_expression (nested ns t levels) (tree_of expr) k) k n result s b g) z)
+
+  -- an evaluation is paid for, and the text is read
+  pub evaluated : (inner : Inner H) (old paid : Engine H) (cost : ℕ) (text : List ℕ) (answer : Answer) (g : Given) (x : Out H) → cost ≡ 1 → cost ≤ old.budget → paid ≡ record old { budget = old.budget - cost } → Reads text answer → x ≡ run_answer inner text answer (stack_next ns t paid.stack.items) (state_of paid) paid.budget g → x ≡ evaluate inner text (stack_next ns t old.stack.items) (state_of old) old.budget g
+  evaluated inner old paid cost text answer g x one enough is reads e =
+      let k = stack_next ns t old.stack.items in
+      let less : 1 ≤ old.budget = omega (arith, one, enough) in
+      e ∙ ap (λ (p : Engine H). run_answer inner text answer (stack_next ns t p.stack.items) (state_of p) p.budget g) is
+      ∙ ap (λ (n : ℕ). run_answer inner text answer k (state_of old) (old.budget - n) g) one
+      ∙ sym (ap (λ (a : Answer). run_answer inner text a k (state_of old) (old.budget - 1) g) (expression_is text answer reads))
+      ∙ sym (ap (λ (c : Bool). cond c (spent (state_of old)) (run_answer inner text (expression_of text) k (state_of old) (old.budget - 1) g)) (le-ltb old.budget 1 less))
+
+  -- the text is an expression, which begins
+  pub read_step : (old paid : Engine H) (fs1 : List Frame) (expr expr' : Expr) (levels cost : ℕ) (text : List ℕ) (value : Ended) (g : Given) → cost ≡ 1 → cost ≤ old.budget → paid ≡ record old { budget = old.budget - cost } → Reads text (tree (tree_of expr)) → fs1 ≡ paid.stack.items ++ Expression expr' levels ∷ [] → expr' ≡ expr → value ≡ ended 0 [] → give value (stack_next ns t fs1) (state_of paid) paid.budget g ≡ evaluate (nested ns t levels) text (stack_next ns t old.stack.items) (state_of old) old.budget g
+  read_step old paid fs1 expr expr' levels cost text value g one enough is reads push same done =
+      evaluated (nested ns t levels) old paid cost text (tree (tree_of expr)) g _ one enough is reads
+      (expression_step paid.stack.items fs1 expr expr' levels value (state_of paid) paid.budget g push same done)
+
+  -- the text is none
+  pub bad_step : (old paid : Engine H) (inner : Inner H) (cost at left : ℕ) (text message : List ℕ) (value : Ended) (g : Given) → cost ≡ 1 → cost ≤ old.budget → paid ≡ record old { budget = old.budget - cost } → at + left ≡ length text → Reads text (bad_from left) → message ≡ bad_expression at → value ≡ error_of message → give value (stack_next ns t paid.stack.items) (state_of paid) paid.budget g ≡ evaluate inner text (stack_next ns t old.stack.items) (state_of old) old.budget g
+  bad_step old paid inner cost at left text message value g one enough is whole reads says error =
+      let place : at ≡ length text - left = omega (arith, whole) in
+      evaluated inner old paid cost text (bad_from left) g _ one enough is reads
+      (ap (λ (v : Ended). give v (stack_next ns t paid.stack.items) (state_of paid) paid.budget g) error
+      ∙ ap (λ (m : List ℕ). give (error_of m) (stack_next ns t paid.stack.items) (state_of paid) paid.budget g) says
+      ∙ ap (λ (n : ℕ). give (error_of (bad_expression n)) (stack_next ns t paid.stack.items) (state_of paid) paid.budget g) place)
+
+  -- an expression begins, on which all hangs
+  pub chosen_step : (old : Engine H) (fs1 : List Frame) (expr expr' : Expr) (levels : ℕ) (value : Ended) (g : Given) → fs1 ≡ old.stack.items ++ Expression expr' levels ∷ [] → expr' ≡ expr → value ≡ ended 0 [] → give value (stack_next ns t fs1) (state_of old) old.budget g ≡ run_expression (nested ns t levels) (tree_of expr) (stack_next ns t old.stack.items) (state_of old) old.budget g
+  chosen_step old fs1 expr expr' levels value g push same is = expression_step old.stack.items fs1 expr expr' levels value (state_of old) old.budget g push same is
+
+  -- the value of the left operand is there
+  pub left_step : (op : Op) (way : Way) (right : Expr) (left : List ℕ) (levels code : ℕ) (k : Next H) (s : State H) (b : ℕ) (g : Given) (x : Out H) → code ≡ 0 → way ≡ way_of op → x ≡ behind_left way left (run_expression (nested ns t levels) (tree_of right) (frame_next ns t (Right op left) k)) k s b g → x ≡ on_ok (λ v. behind_left (way_of op) v (run_expression (nested ns t levels) (tree_of right) (frame_next ns t (Right op v) k)) k) k code left s b g
+  left_step op way right left levels code k s b g x z is e =
+      e ∙ ap (λ (w : Way). behind_left w left (run_expression (nested ns t levels) (tree_of right) (frame_next ns t (Right op left) k)) k s b g) is
+      ∙ sym (ap (λ (n : ℕ). on_ok (λ v. behind_left (way_of op) v (run_expression (nested ns t levels) (tree_of right) (frame_next ns t (Right op v) k)) k) k n left s b g) z)
+
+  -- the value of the condition of a choice is there
+  pub choice_step : (found : Option Bool) (first second : Expr) (value : List ℕ) (levels code : ℕ) (k : Next H) (s : State H) (b : ℕ) (g : Given) (x : Out H) → code ≡ 0 → found ≡ truth value → x ≡ decided found value (run_expression (nested ns t levels) (tree_of first) k) (run_expression (nested ns t levels) (tree_of second) k) k s b g → x ≡ on_ok (λ v. by_truth v (run_expression (nested ns t levels) (tree_of first) k) (run_expression (nested ns t levels) (tree_of second) k) k) k code value s b g
+  choice_step found first second value levels code k s b g x z is e =
+      e ∙ ap (λ (f : Option Bool). decided f value (run_expression (nested ns t levels) (tree_of first) k) (run_expression (nested ns t levels) (tree_of second) k) k s b g) is
+      ∙ sym (ap (λ (n : ℕ). on_ok (λ v. by_truth v (run_expression (nested ns t levels) (tree_of first) k) (run_expression (nested ns t levels) (tree_of second) k) k) k n value s b g) z)
+
+  -- an `expr` goes on with its words, joined
+  pub expr_step : (inner : Inner H) (fs fs1 : List Frame) (words behind : List (List ℕ)) (text : List ℕ) (s : State H) (b : ℕ) (g : Given) (x : Out H) → 2 ≤ length words → fs1 ≡ fs ++ Value ∷ [] → text ≡ joined behind → behind ≡ drop 1 words → x ≡ evaluate inner text (stack_next ns t fs1) s b g → x ≡ do_expr inner words (stack_next ns t fs) s b g
+  expr_step inner fs fs1 words behind text s b g x enough push is same e =
+      let k = stack_next ns t fs in
+      e ∙ ap (λ (y : Next H). evaluate inner text y s b g) (pushed ns t fs fs1 Value push)
+      ∙ ap (λ (y : List ℕ). evaluate inner y (value_end k) s b g) (is ∙ ap joined same)
+      ∙ sym (ap (λ (c : Bool). (cond c (give (wrong_words words) k) (evaluate inner (joined (drop 1 words)) (value_end k))) s b g) (le-ltb (length words) 2 enough))
+
+module _ {H : Type 0} (ns : Names) (t : LeafTable H) where
+  -- a step that is this value
+  pub value_is : (step : Step) (value : Ended) (k : Next H) (s : State H) (b : ℕ) (g : Given) → step ≡ Value_step value → step_next ns t step k s b g ≡ give value k s b g
+  value_is step value k s b g is = ap (λ (x : Step). step_next ns t x k s b g) is
+
+module _ {H : Type 0} where
+  -- the right operand is always evaluated
+  pub if_both : (way : Way) (left : List ℕ) (right : Rest H) (k : Next H) (s : State H) (b : ℕ) (g : Given) (x : Out H) → way ≡ Both → x ≡ right s b g → x ≡ behind_left way left right k s b g
+  if_both way left right k s b g x is e = e ∙ sym (ap (λ (w : Way). behind_left w left right k s b g) is)
+
+  -- only where the left one is true
+  pub if_true : (way : Way) (found : Option Bool) (left : List ℕ) (right : Rest H) (k : Next H) (s : State H) (b : ℕ) (g : Given) (x : Out H) → way ≡ IfTrue → found ≡ truth left → x ≡ decided found left right (k 0 (codes "0")) k s b g → x ≡ behind_left way left right k s b g
+  if_true way found left right k s b g x is has e =
+      e ∙ ap (λ (f : Option Bool). decided f left right (k 0 (codes "0")) k s b g) has
+      ∙ sym (ap (λ (w : Way). behind_left w left right k s b g) is)
+
+  -- only where the left one is false
+  pub if_false : (way : Way) (found : Option Bool) (left : List ℕ) (right : Rest H) (k : Next H) (s : State H) (b : ℕ) (g : Given) (x : Out H) → way ≡ IfFalse → found ≡ truth left → x ≡ decided found left (k 0 (codes "1")) right k s b g → x ≡ behind_left way left right k s b g
+  if_false way found left right k s b g x is has e =
+      e ∙ ap (λ (f : Option Bool). decided f left (k 0 (codes "1")) right k s b g) has
+      ∙ sym (ap (λ (w : Way). behind_left w left right k s b g) is)
+
+-- what is bad of a text
+pub bad_read : (text : List ℕ) (why : ExprText) (at : ℕ) → Answers text (Err why) → why ≡ Bad at → IsBad at text
+bad_read text why at h e = rw e at h

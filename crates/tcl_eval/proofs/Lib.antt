@@ -1,0 +1,9 @@
+pub mod Acts
+pub mod Alike
+pub mod Branches
+pub mod Expressions
+pub mod Turns
+pub mod Pairs
+pub mod Rows
+pub mod Stacks
+pub mod Steps

@@ -1,0 +1,21 @@
+use Rattle.std.proofs.Common.{◌∙◌}
+use Rattle.tcl_eval.specs.Eval.{nested, unread}
+use Rattle.tcl_eval.specs.Engine.{state_of}
+use Rattle.tcl_eval.proofs.Acts.{called}
+use Rattle.tcl_eval.proofs.engine.Engine.call_proc.Goals as goal
+
+pub returns-in-Some-clause-means : goal.returns-in-Some-clause-means
+returns-in-Some-clause-means g c = λ ns others gv.
+    let t = g.H.Host.table in
+    let e = c.args.self.now in
+    let inner = nested ns t c.args.levels in
+    let wrote = rw c.in-Some.is at (c.in_ok-refused.ensures.means ns (λ k. inner.run (unread c.args.body.now) k) gv) in
+    called ns t inner e.stack.items c.push-2.new.self.items c.args.params.now c.args.body.now c.args.words.now c.in-Ok.values c.push.new.self (state_of e) e.budget gv _ c.in_ok-push-2.ensures.items c.in_ok-push.ensures.ok (c.in_ok-message.ensures ∙ c.in-Ok.is) wrote
+
+pub returns-in_ok-acted-in-None-clause-means : goal.returns-in_ok-acted-in-None-clause-means
+returns-in_ok-acted-in-None-clause-means g c = λ ns others gv.
+    let t = g.H.Host.table in
+    let e = c.args.self.now in
+    let inner = nested ns t c.args.levels in
+    let wrote = rw c.in-None.is at (c.in_ok-refused.ensures.means ns (λ k. inner.run (unread c.args.body.now) k) gv) in
+    called ns t inner e.stack.items c.push-2.new.self.items c.args.params.now c.args.body.now c.args.words.now c.in-Ok.values c.push.new.self (state_of e) e.budget gv _ c.in_ok-push-2.ensures.items c.in_ok-push.ensures.ok (c.in_ok-message.ensures ∙ c.in-Ok.is) (c.in_ok-acted-in-None.ensures.means ns others gv ∙ wrote)

@@ -1,0 +1,264 @@
+-- What an engine stands for.
+use Rattle.std.specs.Prelude.{◌≡◌, ◌<◌, ◌≤◌, ◌⊎◌, ℕ, ◌+◌, ◌*◌, ◌-◌, Bool, true, false, ◌++◌, List, [], ◌∷◌, Option, Some, None}
+use Rattle.outside.specs.declared.question.Answer.{Answer}
+use Rattle.outside.specs.declared.question.Question.{Question}
+use Rattle.outside.specs.declared.question.Service.{Service}
+use Rattle.tcl_eval.specs.State.{State, LeafTable, wants, Given, Out, done, spent, too_deep, Rest, Next}
+use Rattle.tcl_eval.specs.Eval.{give, standing, eval}
+use Rattle.tcl_eval.specs.Natives.{Names}
+use Rattle.tcl_eval.specs.Stack.{stack_next, stack_free, step_free}
+use Rattle.tcl_eval.specs.declared.engine.Engine.{Engine}
+use Rattle.tcl_eval.specs.declared.engine.OpenQuestion.{OpenQuestion}
+use Rattle.tcl_eval.specs.declared.stack.Settled.{Settled}
+use Rattle.tcl_eval.specs.declared.stack.Settled.TheVariants as settled
+use Rattle.tcl_eval.specs.declared.stack.Step.{Step}
+use Rattle.tcl_eval.specs.declared.stack.Acted.{Acted}
+use Rattle.tcl_eval.specs.declared.stack.Acted.TheVariants as acted
+use Rattle.tcl_eval.specs.declared.host.HostReply.{HostReply}
+use Rattle.tcl_eval.specs.declared.host.HostReply.TheVariants.{Ask}
+use Rattle.tcl_eval.specs.declared.stack.Ended.{Ended}
+use Rattle.tcl_eval.specs.declared.outcome.Work.{Work}
+use Rattle.tcl_eval.specs.declared.outcome.Outcome.{Outcome}
+use Rattle.tcl_eval.specs.declared.outcome.Outcome.TheVariants.{Done, Asks, Spent, TooDeep, NoMemory}
+
+-- the words of the command whose question is open
+abbrev pub words_of : Option OpenQuestion → List (List ℕ)
+words_of None = []
+words_of (Some now) = now.words
+
+-- the levels that are left to what that command may run
+abbrev pub levels_of : Option OpenQuestion → ℕ
+levels_of None = 0
+levels_of (Some now) = now.levels
+
+-- a question to this service is open
+abbrev pub IsOpenTo : Service → Option OpenQuestion → Type 0
+IsOpenTo service None = ⊥
+IsOpenTo service (Some now) = now.service ≡ service
+
+-- Where memory didn't want, this holds.
+abbrev pub IfRan : Outcome → Type 0 → Type 0
+IfRan (Done code result) fact = fact
+IfRan (Asks question) fact = fact
+IfRan Spent fact = fact
+IfRan TooDeep fact = fact
+IfRan NoMemory fact = Unit {0}
+
+-- where a text is run, or a value is there, this holds; no question is asked
+abbrev pub Enters : Acted → Type 0 → Type 0
+Enters (acted.Gives value) fact = fact
+Enters (acted.Asks question) fact = ⊥
+Enters acted.TooDeep fact = Unit {0}
+Enters acted.Spent fact = Unit {0}
+
+module _ {H : Type 0} where
+  -- what comes after the values of parameters were written, or one was refused
+  abbrev pub after_writes : Option Ended → (Next H → Rest H) → Next H → Rest H
+  after_writes None go k = go k
+  after_writes (Some refused) go k = give refused k
+
+  -- the state that an engine holds
+  abbrev pub state_of : Engine H → State H
+  state_of engine = record {
+    commands = engine.table.table;
+    frames = engine.frames;
+    host = engine.host;
+    made = engine.made;
+  }
+
+  -- the words of the command whose question is open
+  abbrev pub open_words : Engine H → List (List ℕ)
+  open_words engine = words_of engine.question
+
+  -- the state with the global frame alone
+  abbrev pub at_global : State H → State H
+  at_global state = record state { frames = record state.frames { above = [] } }
+
+  -- nothing is suspended
+  abbrev pub IsIdle : Engine H → Type 0
+  IsIdle engine = (engine.stack.items ≡ []) × (engine.question ≡ None)
+
+module _ {H : Type 0} (table : LeafTable H) where
+  -- what a run makes of answers that stands at a question, which is open so
+  abbrev pub asking : Option OpenQuestion → Question → Next H → Rest H
+  asking opened question k = standing table (levels_of opened) (words_of opened) question k
+
+  -- what comes after a command that was done
+  abbrev pub acted_next : Acted → Option OpenQuestion → Next H → Rest H
+  acted_next (acted.Gives value) opened k = k value.code value.result
+  acted_next (acted.Asks question) opened k = asking opened question k
+  acted_next acted.TooDeep opened k = λ state budget given. too_deep state
+  acted_next acted.Spent opened k = λ state budget given. spent state
+
+  -- what comes after an outcome
+  abbrev pub outcome_next : Outcome → Option OpenQuestion → Next H → Rest H
+  outcome_next (Done code result) opened k = done code result
+  outcome_next (Asks question) opened k = asking opened question k
+  outcome_next Spent opened k = λ state budget given. spent state
+  outcome_next TooDeep opened k = λ state budget given. too_deep state
+  outcome_next NoMemory opened k = λ state budget given. spent state
+
+module _ {H : Type 0} (names : Names) (table : LeafTable H) where
+  -- what a way to go on comes to from an engine, with these answers
+  abbrev pub gives : (Next H → Rest H) → Engine H → Given → Out H
+  gives way engine = way (stack_next names table engine.stack.items) (state_of engine) engine.budget
+
+  -- one way to go on from the new engine comes to the same as another one from the old engine
+  abbrev pub Same : Engine H → Engine H → (Next H → Rest H) → (Next H → Rest H) → Type 0
+  Same new old new_way old_way = (given : Given) → gives new_way new given ≡ gives old_way old given
+
+  -- What comes of an engine that came to this outcome, with these answers. Want of memory has no meaning: no clause looks at what
+  -- stands for it here.
+  abbrev pub comes_to : Outcome → Engine H → Given → Out H
+  comes_to outcome engine = gives (outcome_next table outcome engine.question) engine
+
+module _ {H : Type 0} where
+  -- an engine with this host
+  abbrev pub hosted_by : Engine H → H → Engine H
+  hosted_by engine host = record engine { host = host }
+
+  -- an engine with so much more budget
+  abbrev pub with_more : Engine H → ℕ → Engine H
+  with_more engine more = record engine { budget = engine.budget + more }
+
+  -- What an outcome leaves: after an end nothing is suspended, and at a question this question is open.
+  abbrev pub Leaves : Outcome → Engine H → Type 0
+  Leaves (Done code result) engine = IsIdle engine
+  Leaves (Asks question) engine = IsOpenTo question.service engine.question
+  Leaves Spent engine = Unit {0}
+  Leaves TooDeep engine = Unit {0}
+  Leaves NoMemory engine = Unit {0}
+
+  -- the budget didn't rise, nor did the number of texts that may be run for nothing, and the same question is open, or none
+  abbrev pub Keeps : Engine H → Engine H → Type 0
+  Keeps new old =
+      (new.budget ≤ old.budget) × (new.question ≡ old.question) × (stack_free new.stack.items ≤ stack_free old.stack.items)
+
+  -- the same after a step
+  abbrev pub Stays : Step → Engine H → Engine H → Type 0
+  Stays step new old =
+      (new.budget ≤ old.budget) × (new.question ≡ old.question) × (stack_free new.stack.items + step_free step ≤ stack_free old.stack.items)
+
+  -- the same without that number
+  abbrev pub Remains : Engine H → Engine H → Type 0
+  Remains new old = (new.budget ≤ old.budget) × (new.question ≡ old.question)
+
+  -- What falls from one text that is run to the next: what is paid for counts twice, since each payment may put a text on the stack
+  -- that is run for nothing.
+  abbrev pub credit : Engine H → ℕ
+  credit engine = 2 * engine.budget + stack_free engine.stack.items
+
+  -- the budget didn't rise, and what falls rose by so much at most
+  abbrev pub Lower : Engine H → Engine H → ℕ → Type 0
+  Lower new old more = (new.budget ≤ old.budget) × (credit new ≤ credit old + more)
+
+  -- where all has ended, nothing is suspended
+  abbrev pub Emptied : Settled → Engine H → Type 0
+  Emptied (settled.Ended value) engine = engine.stack.items ≡ []
+  Emptied (settled.Ready what) engine = Unit {0}
+
+  -- what a command that asks leaves: its question is open, and else the same one as before
+  abbrev pub Opens : Acted → Engine H → Engine H → Type 0
+  Opens (acted.Gives value) new old = new.question ≡ old.question
+  Opens (acted.Asks question) new old = IsOpenTo question.service new.question
+  Opens acted.TooDeep new old = new.question ≡ old.question
+  Opens acted.Spent new old = new.question ≡ old.question
+
+  -- what a command costs falls off the budget, wherever the run goes on
+  abbrev pub PaidFor : Acted → Engine H → Engine H → Type 0
+  PaidFor (acted.Gives value) new old = (new.budget < old.budget) × (credit new < credit old)
+  PaidFor (acted.Asks question) new old = new.budget < old.budget
+  PaidFor acted.TooDeep new old = new.budget ≤ old.budget
+  PaidFor acted.Spent new old = new.budget ≤ old.budget
+
+  -- The budget didn't rise, and where the run goes on, what falls fell, with so many texts that may be run for nothing. Where a
+  -- question is asked, the budget fell.
+  abbrev pub Moves : Acted → ℕ → Engine H → Engine H → Type 0
+  Moves (acted.Gives value) free new old = (new.budget ≤ old.budget) × (credit new < credit old + free)
+  Moves (acted.Asks question) free new old = new.budget < old.budget
+  Moves acted.TooDeep free new old = new.budget ≤ old.budget
+  Moves acted.Spent free new old = new.budget ≤ old.budget
+
+  -- the question that is open where a run goes on from here
+  abbrev pub Begins : Acted → Engine H → Type 0
+  Begins (acted.Gives value) engine = engine.question ≡ None
+  Begins (acted.Asks question) engine = IsOpenTo question.service engine.question
+  Begins acted.TooDeep engine = Unit {0}
+  Begins acted.Spent engine = Unit {0}
+
+  -- the budget fell, where a question is asked
+  abbrev pub FellTo : Outcome → Engine H → Engine H → Type 0
+  FellTo (Done code result) new old = new.budget ≤ old.budget
+  FellTo (Asks question) new old = new.budget < old.budget
+  FellTo Spent new old = new.budget ≤ old.budget
+  FellTo TooDeep new old = new.budget ≤ old.budget
+  FellTo NoMemory new old = new.budget ≤ old.budget
+
+  -- the same of a run that goes on from here; a question that is asked at once changes nothing
+  abbrev pub FellFrom : Acted → Outcome → Engine H → Engine H → Type 0
+  FellFrom (acted.Gives value) outcome new old = FellTo outcome new old
+  FellFrom (acted.Asks question) outcome new old = (outcome ≡ Asks question) × (new ≡ old)
+  FellFrom acted.TooDeep outcome new old = (outcome ≡ TooDeep) × (new ≡ old)
+  FellFrom acted.Spent outcome new old = (outcome ≡ Spent) × (new ≡ old)
+
+  -- what a command asks is what its host asks
+  abbrev pub AskedBy : Acted → HostReply → List (List ℕ) → Engine H → Engine H → Type 0
+  AskedBy (acted.Gives value) reply words new old = Unit {0}
+  AskedBy (acted.Asks question) reply words new old =
+      ((raw : Question) × (reply ≡ Ask raw)) × (open_words new ≡ words) × (new.host ≡ old.host)
+  AskedBy acted.TooDeep reply words new old = Unit {0}
+  AskedBy acted.Spent reply words new old = Unit {0}
+
+  -- the budget was lowered by this cost, or it is less than that and nothing changed
+  abbrev pub Pays : Bool → ℕ → Engine H → Engine H → Type 0
+  Pays true cost old new = (cost ≤ old.budget) × (new ≡ record old { budget = old.budget - cost })
+  Pays false cost old new = (old.budget < cost) × (new ≡ old)
+
+-- how a run began
+pub record Start (H : Type 0) : Type 0 where
+  pub work : Work
+  pub depth : ℕ
+  pub budget : ℕ
+  pub state : State H
+
+module _ {H : Type 0} (names : Names) (table : LeafTable H) where
+  -- the run that began so, with these answers
+  abbrev pub run_of : Start H → Given → Out H
+  run_of start = eval names table start.depth start.work start.state start.budget
+
+  -- An engine that came to this outcome stands for a start and a list that was given: whatever is given further, the
+  -- evaluation of the whole list is what the engine's own stack gives on the further one.
+  abbrev pub Stands : Outcome → Engine H → Start H → Given → Type 0
+  Stands outcome engine start given = (further : Given) → run_of start (given ++ further) ≡ comes_to names table outcome engine further
+
+  -- What comes of an answer: with its charge, by which the budget was lowered since its question, it is the first of the
+  -- answers that the old engine is given, and the new engine, which came to this outcome, is given those behind it.
+  abbrev pub Answered : Outcome → Engine H → Engine H → Answer → Type 0
+  Answered outcome new old answer =
+      (question : Question) (charge : ℕ) (further : Given)
+      → comes_to names table outcome new further ≡ comes_to names table (Asks question) (with_more old charge) ((answer, charge) ∷ further)
+
+  -- the same, where nothing was charged since the question
+  abbrev pub AnsweredAt : Outcome → Engine H → Engine H → Answer → Type 0
+  AnsweredAt outcome new old answer =
+      (question : Question) (further : Given)
+      → comes_to names table outcome new further ≡ comes_to names table (Asks question) old ((answer, 0) ∷ further)
+
+  -- The same of all that was given since the start: where the old engine, at its question, stood for a start and a list, the new
+  -- one stands for that start and the list followed by the answer.
+  abbrev pub StandsOn : Outcome → Engine H → Engine H → Answer → Type 0
+  StandsOn outcome new old answer =
+      (question : Question) (start : Start H) (given : Given) (charge : ℕ)
+      → Stands (Asks question) (with_more old charge) start given → Stands outcome new start (given ++ (answer, charge) ∷ [])
+
+module _ {H : Type 0} (table : LeafTable H) where
+  -- What falls from one question to the next: the budget; or else the same command asks again, as the host says of its words,
+  -- the answer and its state.
+  abbrev pub Falls : Outcome → Engine H → Engine H → Answer → Type 0
+  Falls (Done code result) new old answer = new.budget ≤ old.budget
+  Falls (Asks question) new old answer =
+      (new.budget < old.budget)
+      ⊎ ((new.budget ≤ old.budget) × (open_words new ≡ open_words old) × ((raw : Question) × (table.answers (open_words old) answer old.host ≡ wants raw new.host)))
+  Falls Spent new old answer = new.budget ≤ old.budget
+  Falls TooDeep new old answer = new.budget ≤ old.budget
+  Falls NoMemory new old answer = Unit {0}

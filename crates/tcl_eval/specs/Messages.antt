@@ -1,0 +1,125 @@
+-- What is said of an error.
+use Rattle.std.specs.Prelude.{ℕ, List, [], ◌++◌, decimal, codes}
+use Rattle.tcl_parse.specs.declared.fault.Kind.{Kind}
+use Rattle.tcl_parse.specs.declared.fault.Kind.TheVariants.{Quote, Brace, Bracket, Variable, Extra, Deep}
+use Rattle.tcl_frame.specs.declared.fault.VarFault.{VarFault}
+use Rattle.tcl_frame.specs.declared.fault.VarFault.TheVariants.{NoVariable, IsArray, NotArray, Exists, NoMemory}
+use Rattle.tcl_expr.specs.declared.operator.ExprFault.{ExprFault}
+use Rattle.tcl_expr.specs.declared.operator.ExprFault.TheVariants as faults
+use Rattle.tcl_expr.specs.declared.operator.Op.{Op}
+use Rattle.tcl_expr.specs.declared.operator.Op.TheVariants as operators
+
+-- a text in double quotes
+abbrev pub quoted : List ℕ → List ℕ
+quoted text = codes "\"" ++ text ++ codes "\""
+
+-- a command has the wrong number of words
+abbrev pub wrong_count : List ℕ → List ℕ
+wrong_count name = codes "wrong number of words for " ++ quoted name
+
+-- a command doesn't take this value
+abbrev pub bad_value : List ℕ → List ℕ → List ℕ
+bad_value value name = codes "bad value " ++ quoted value ++ codes " for " ++ quoted name
+
+-- no command has this name
+abbrev pub unknown_command : List ℕ → List ℕ
+unknown_command name = codes "invalid command name " ++ quoted name
+
+-- a name is that of a command, or of none
+abbrev pub command_exists : List ℕ → List ℕ
+command_exists name = codes "command " ++ quoted name ++ codes " exists"
+
+abbrev pub no_command : List ℕ → List ℕ
+no_command name = codes "no command " ++ quoted name
+
+-- a text is no list: it is bad at this place
+abbrev pub bad_list : ℕ → List ℕ
+bad_list place = codes "bad list at " ++ decimal place
+
+-- a word, a stored value, a result or the text of an error is too long
+abbrev pub too_long : List ℕ
+too_long = codes "value too long"
+
+-- a procedure ends by `break` or `continue`
+abbrev pub outside_loop : List ℕ → List ℕ
+outside_loop name = codes "invoked " ++ quoted name ++ codes " outside of a loop"
+
+-- what is wrong with a script
+abbrev pub fault_name : Kind → List ℕ
+fault_name Quote = codes "unclosed quote"
+fault_name Brace = codes "unclosed brace"
+fault_name Bracket = codes "unclosed bracket"
+fault_name Variable = codes "unclosed variable"
+fault_name Extra = codes "extra bytes"
+fault_name Deep = codes "nested too deep"
+
+-- a text is no script: its fault stands at this place
+abbrev pub fault_text : Kind → ℕ → List ℕ
+fault_text kind place = fault_name kind ++ codes " at " ++ decimal place
+
+abbrev pub no_variable : List ℕ → List ℕ
+no_variable name = codes "can't read " ++ quoted name ++ codes ": no such variable"
+
+abbrev pub of_variable : List ℕ → List ℕ → List ℕ
+of_variable name what = codes "variable " ++ quoted name ++ what
+
+-- why a variable of this name isn't read or written (want of memory is no such reason, and its text is never looked at)
+abbrev pub variable_fault : VarFault → List ℕ → List ℕ
+variable_fault NoVariable name = no_variable name
+variable_fault IsArray name = of_variable name (codes " is an array")
+variable_fault NotArray name = of_variable name (codes " is no array")
+variable_fault Exists name = of_variable name (codes " exists")
+variable_fault NoMemory name = []
+
+-- the second word is none of a command's subcommands
+abbrev pub unknown_subcommand : List ℕ → List ℕ → List ℕ
+unknown_subcommand name command = codes "unknown subcommand " ++ quoted name ++ codes " of " ++ quoted command
+
+-- a name is that of no procedure
+abbrev pub no_procedure : List ℕ → List ℕ
+no_procedure name = codes "no procedure " ++ quoted name
+
+-- a text is no expression: it is bad at this place
+abbrev pub bad_expression : ℕ → List ℕ
+bad_expression place = codes "syntax error in expression at " ++ decimal place
+
+-- a value has no truth
+abbrev pub no_boolean : List ℕ → List ℕ
+no_boolean value = codes "expected boolean but got " ++ quoted value
+
+-- how an operator is written
+abbrev pub operator_name : Op → List ℕ
+operator_name operators.Minus = codes "-"
+operator_name operators.Plus = codes "+"
+operator_name operators.Invert = codes "~"
+operator_name operators.Not = codes "!"
+operator_name operators.Mul = codes "*"
+operator_name operators.Div = codes "/"
+operator_name operators.Rem = codes "%"
+operator_name operators.Add = codes "+"
+operator_name operators.Sub = codes "-"
+operator_name operators.Shl = codes "<<"
+operator_name operators.Shr = codes ">>"
+operator_name operators.Lt = codes "<"
+operator_name operators.Gt = codes ">"
+operator_name operators.Le = codes "<="
+operator_name operators.Ge = codes ">="
+operator_name operators.EqNumber = codes "=="
+operator_name operators.NeNumber = codes "!="
+operator_name operators.EqText = codes "eq"
+operator_name operators.NeText = codes "ne"
+operator_name operators.BitAnd = codes "&"
+operator_name operators.BitXor = codes "^"
+operator_name operators.BitOr = codes "|"
+operator_name operators.And = codes "&&"
+operator_name operators.Or = codes "||"
+
+-- why an operator gives no value, where this operand has no truth (want of memory is no such reason, and its text is never
+-- looked at)
+abbrev pub operator_fault : ExprFault → Op → List ℕ → List ℕ
+operator_fault faults.NotNumber op operand = codes "can't use non-numeric string as operand of " ++ quoted (operator_name op)
+operator_fault faults.NotBoolean op operand = no_boolean operand
+operator_fault faults.DivZero op operand = codes "divide by zero"
+operator_fault faults.Overflow op operand = codes "integer overflow"
+operator_fault faults.Shift op operand = codes "bad shift count"
+operator_fault faults.NoMemory op operand = []

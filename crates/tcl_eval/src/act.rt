@@ -1,0 +1,505 @@
+//! What a command does.
+
+ghost use Rattle.std.specs.Prelude.{◌≡◌, ◌<◌, ◌≤◌, ◌++◌, ◌∷◌, [], Option, IfOk, OnOk, IsSome, None, true};
+ghost use Rattle.cmd_table.specs.Commands.{defined};
+ghost use Rattle.natives.specs.Names.{name_of, names_of};
+ghost use Rattle.tcl_varcmd.specs.Commands.{begins_var_command, var_came};
+ghost use Rattle.tcl_eval.specs.Natives.{Names};
+ghost use Rattle.tcl_eval.specs.State.{Leaf, Next, Rest};
+ghost use Rattle.tcl_eval.specs.Eval.{Inner, addressed, nested, answer_cost, write_all, call_proc, call_native, do_proc, do_rename, do_eval, do_catch, catch_end, came_next, word_at, leaf, built_in, built, act, run_script, unread, stored, stored_of, proc_of, give, error_of};
+ghost use Rattle.tcl_eval.specs.Engine.{Same, Keeps, Opens, Enters, Lower, credit, acted_next, AskedBy, after_writes};
+ghost use Rattle.tcl_eval.specs.Verbs.{IsRunning, ValueOf};
+ghost use Rattle.tcl_eval.specs.Answers.{Replies};
+ghost use Rattle.tcl_eval.specs.declared.stack.Acted.{Acted};
+ghost use Rattle.tcl_eval.specs.declared.verb.Verb.{Verb};
+ghost use Rattle.tcl_eval.specs.declared.engine.OpenQuestion.{OpenQuestion};
+
+use crate::engine::{Engine, OpenQuestion};
+use crate::host::{Host, HostReply};
+use crate::message::{command_exists, fault_text, no_command, unknown_command, variable_fault};
+use crate::parameter::{bound, parameters};
+use crate::stack::{Acted, Ended, Frame};
+use crate::value::{
+    MOST_BYTES, OK, do_break, do_continue, do_error, do_return, done, error, failed, too_long,
+    wrong_words,
+};
+use crate::verb::{Verb, find_verb};
+use crate::words::{BYTES_FOR_ONE, behind_name, copy_word, joined, push_word, with_name, word_at};
+use cmd_table::{Cmd, Def, Renamed, Steps};
+use natives::{Native, Natives};
+use outside::{Answer, Question, Service};
+use std::alloc::Global;
+use std::rc::Rc;
+use std::sync::ledger::Ledger;
+use tcl_frame::VarFault;
+use tcl_parse::{ParseFault, parse};
+use tcl_varcmd::{Fault, is_var_command, var_command};
+use txt_core::{NoMemory, Pairs, Text, Words};
+
+/// How deep scripts may stand in one another.
+pub const MOST_LEVELS: u32 = 200;
+
+/// What an answer costs.
+pub fn answer_cost(answer: &Answer) -> u128
+    ensures { result ≡ answer_cost answer.now }
+{
+    let bytes = match answer {
+        Answer::Said(text) | Answer::Failed(text) | Answer::Page(text) => text.len(),
+        Answer::NoPage | Answer::PageFault => 0,
+    };
+    bytes as u128 / BYTES_FOR_ONE as u128
+}
+
+/// A question as it is handed out: one for a run inside this one has, behind its words, the depth at
+/// which that stands.
+fn addressed(alloc: Global, question: Question, levels: u32) -> Result<Question, NoMemory>
+    ensures { IfOk result (λ asked. asked ≡ addressed levels question) }
+{
+    match question.service {
+        Service::Inner => {
+            let depth = (MOST_LEVELS + 1).saturating_sub(levels);
+            let depth = Text::new(alloc, format!(in alloc; "{depth}")?.as_bytes())?;
+            let Question { service, mut words } = question;
+            push_word(&mut words, depth)?;
+            Ok(Question { service, words })
+        }
+        Service::Page | Service::Nsv | Service::Schedule | Service::Publish | Service::Save => Ok(
+            question,
+        ),
+    }
+}
+
+#[tactic(auto, using(crate::proofs::Stacks::frees_push))]
+impl<H: Host> Engine<H> {
+    /// Runs a text as a script.
+    pub(crate) fn enter_text(&mut self, text: &Text, levels: u32) -> Result<Acted, NoMemory>
+        ensures means { IfOk result (λ acted. (names : Names) (opened : Option OpenQuestion) → Same names H.table self.new self.old (acted_next H.table acted opened) (run_script names H.table levels (unread text.now))) }
+        ensures lower { OnOk result (Lower self.new self.old 0) }
+        ensures enters { IfOk result (λ acted. Enters acted (credit self.new ≤ credit self.old)) }
+        ensures opens { IfOk result (λ acted. Opens acted self.new self.old) }
+    {
+        if levels == 0 {
+            return Ok(Acted::TooDeep);
+        }
+        match parse(self.alloc, text) {
+            Err(ParseFault::NoMemory) => Err(NoMemory),
+            Err(ParseFault::Unclosed { at, kind }) => {
+                let message = fault_text(self.alloc, kind, at)?;
+                Ok(Acted::Gives(error(self.alloc, message)?))
+            }
+            Ok(script) => {
+                self.stack.push(Frame::Script {
+                    script: Rc::new(self.alloc, script)?,
+                    next: 0,
+                    levels: levels - 1,
+                })?;
+                Ok(Acted::Gives(done(self.alloc)))
+            }
+        }
+    }
+
+    /// Gives an error with this text.
+    pub(crate) fn fails(&self, message: Text) -> Result<Acted, NoMemory>
+        ensures { IfOk result (λ acted. acted ≡ Acted.Gives (error_of message)) }
+    {
+        Ok(Acted::Gives(error(self.alloc, message)?))
+    }
+
+    /// Writes a variable, and then this is the result.
+    pub(crate) fn store(&mut self, name: &Text, value: Text, after: Text) -> Result<Ended, NoMemory>
+        ensures answer { IfOk result (λ x. x ≡ stored_of self.old.frames name.now value after) }
+        ensures frames { OnOk result (self.new ≡ record self.old { frames = stored self.old.frames name.now value }) }
+    {
+        if value.len() > MOST_BYTES {
+            return too_long(self.alloc);
+        }
+        match self.frames.write(name, value) {
+            Ok(()) => Ok(Ended {
+                code: OK,
+                result: after,
+            }),
+            Err(VarFault::NoMemory) => Err(NoMemory),
+            Err(why) => error(self.alloc, variable_fault(self.alloc, why, name.bytes())?),
+        }
+    }
+
+    /// Lists a definition as made.
+    fn list(&mut self, def: Def) -> Result<(), NoMemory>
+        ensures { OnOk result (self.new ≡ record self.old { made = self.old.made ++ def ∷ [] }) }
+    {
+        self.made.push(def).map_err(|_| NoMemory)
+    }
+
+    /// What the host said of a command, or of an answer to its question.
+    pub(crate) fn replied(
+        &mut self,
+        reply: HostReply,
+        words: Words,
+        levels: u32,
+    ) -> Result<Acted, NoMemory>
+        ensures means { IfOk result (λ acted. (names : Names) (said : Leaf H) → Replies reply self.old.host said → Same names H.table self.new self.old (acted_next H.table acted self.new.question) (leaf H.table levels words said)) }
+        ensures lower { OnOk result (Lower self.new self.old 1) }
+        ensures opens { IfOk result (λ acted. Opens acted self.new self.old) }
+        ensures asks { IfOk result (λ acted. AskedBy acted reply words self.new self.old) }
+    {
+        match reply {
+            HostReply::Done { code, result } => Ok(Acted::Gives(Ended { code, result })),
+            HostReply::Define(def) => {
+                self.list(def)?;
+                Ok(Acted::Gives(done(self.alloc)))
+            }
+            HostReply::Store {
+                name,
+                value,
+                result,
+            } => {
+                let value = self.store(&name, value, result)?;
+                Ok(Acted::Gives(value))
+            }
+            HostReply::NotMine => {
+                let message = unknown_command(self.alloc, word_at(&words, 0))?;
+                Ok(Acted::Gives(error(self.alloc, message)?))
+            }
+            HostReply::Ask(question) => {
+                let question = addressed(self.alloc, question, levels)?;
+                self.question = Some(OpenQuestion {
+                    service: question.service,
+                    words,
+                    levels,
+                });
+                Ok(Acted::Asks(question))
+            }
+            HostReply::NoMemory => Err(NoMemory),
+        }
+    }
+
+    /// Does a command of the host's.
+    fn call_host(&mut self, words: Words, levels: u32) -> Result<Acted, NoMemory>
+        ensures means { IfOk result (λ acted. (names : Names) → Same names H.table self.new self.old (acted_next H.table acted self.new.question) (λ k state. leaf H.table levels words (H.table.calls words state.host) k state)) }
+        ensures lower { OnOk result (Lower self.new self.old 1) }
+        ensures opens { IfOk result (λ acted. Opens acted self.new self.old) }
+    {
+        let reply = self.host.call(&words);
+        let acted = self.replied(reply, words, levels)?;
+        Ok(acted)
+    }
+
+    /// Makes a procedure.
+    fn make_proc<L: Ledger>(&mut self, words: &Words, steps: &mut Steps<L>) -> Result<(), NoMemory>
+        ensures made { OnOk result (self.new ≡ record self.old { table = record self.old.table { table = defined self.old.table.table (proc_of words.now) }; made = self.old.made ++ proc_of words.now ∷ [] }) }
+        ensures steps { steps.old ≤ steps.new }
+    {
+        let def = Def::Proc {
+            name: copy_word(self.alloc, words, 1)?,
+            params: copy_word(self.alloc, words, 2)?,
+            body: copy_word(self.alloc, words, 3)?,
+        };
+        self.table.apply(&def, steps)?;
+        self.list(def)
+    }
+
+    /// `proc name params body`.
+    fn do_proc<L: Ledger>(&mut self, words: &Words, steps: &mut Steps<L>) -> Result<Ended, NoMemory>
+        ensures means { IfOk result (λ value. (names : Names) → Same names H.table self.new self.old (give value) (do_proc words.now)) }
+        ensures keeps { OnOk result (Keeps self.new self.old) }
+        ensures steps { steps.old ≤ steps.new }
+    {
+        if words.len() != 4 {
+            return wrong_words(self.alloc, words);
+        }
+        let params = copy_word(self.alloc, words, 2)?;
+        match parameters(self.alloc, &params)? {
+            Err(message) => error(self.alloc, message),
+            Ok(_) => {
+                self.make_proc(words, steps)?;
+                Ok(done(self.alloc))
+            }
+        }
+    }
+
+    /// `rename old new`.
+    fn do_rename<L: Ledger>(
+        &mut self,
+        words: &Words,
+        steps: &mut Steps<L>,
+    ) -> Result<Ended, NoMemory>
+        ensures means { IfOk result (λ value. (names : Names) → Same names H.table self.new self.old (give value) (do_rename words.now)) }
+        ensures keeps { OnOk result (Keeps self.new self.old) }
+        ensures steps { steps.old ≤ steps.new }
+    {
+        if words.len() != 3 {
+            return wrong_words(self.alloc, words);
+        }
+        let old = copy_word(self.alloc, words, 1)?;
+        let new = copy_word(self.alloc, words, 2)?;
+        match self.table.rename(&old, &new, steps)? {
+            Renamed::NoOld => {
+                let refused = error(self.alloc, no_command(self.alloc, old.bytes())?)?;
+                Ok(refused)
+            }
+            Renamed::NewExists => {
+                let refused = error(self.alloc, command_exists(self.alloc, new.bytes())?)?;
+                Ok(refused)
+            }
+            Renamed::Done => {
+                self.list(Def::Rename { old, new })?;
+                Ok(done(self.alloc))
+            }
+        }
+    }
+
+    /// `eval word word*`.
+    fn do_eval(&mut self, words: &Words, levels: u32) -> Result<Acted, NoMemory>
+        ensures means { IfOk result (λ acted. (names : Names) (opened : Option OpenQuestion) → Same names H.table self.new self.old (acted_next H.table acted opened) (do_eval (nested names H.table levels) words.now)) }
+        ensures lower { OnOk result (Lower self.new self.old 1) }
+        ensures opens { IfOk result (λ acted. Opens acted self.new self.old) }
+    {
+        if words.len() < 2 {
+            return Ok(Acted::Gives(wrong_words(self.alloc, words)?));
+        }
+        let text = joined(self.alloc, behind_name(words))?;
+        let acted = self.enter_text(&text, levels)?;
+        Ok(acted)
+    }
+
+    /// Runs the script of a `catch`, with the variable for its result, where one is named.
+    fn catch_script(
+        &mut self,
+        words: &Words,
+        name: Option<Text>,
+        levels: u32,
+    ) -> Result<Acted, NoMemory>
+        ensures means { IfOk result (λ acted. (names : Names) (opened : Option OpenQuestion) → Same names H.table self.new self.old (acted_next H.table acted opened) (λ k. run_script names H.table levels (unread (word_at words.now 1)) (catch_end name k))) }
+        ensures lower { OnOk result (Lower self.new self.old 1) }
+        ensures opens { IfOk result (λ acted. Opens acted self.new self.old) }
+    {
+        let text = copy_word(self.alloc, words, 1)?;
+        self.stack.push(Frame::Caught { name })?;
+        let acted = self.enter_text(&text, levels)?;
+        Ok(acted)
+    }
+
+    /// `catch script ?name?`.
+    fn do_catch(&mut self, words: &Words, levels: u32) -> Result<Acted, NoMemory>
+        ensures means { IfOk result (λ acted. (names : Names) (opened : Option OpenQuestion) → Same names H.table self.new self.old (acted_next H.table acted opened) (do_catch (nested names H.table levels) words.now)) }
+        ensures lower { OnOk result (Lower self.new self.old 1) }
+        ensures opens { IfOk result (λ acted. Opens acted self.new self.old) }
+    {
+        if words.len() == 2 {
+            let acted = self.catch_script(words, None, levels)?;
+            return Ok(acted);
+        }
+        if words.len() == 3 {
+            let name = copy_word(self.alloc, words, 2)?;
+            let acted = self.catch_script(words, Some(name), levels)?;
+            return Ok(acted);
+        }
+        Ok(Acted::Gives(wrong_words(self.alloc, words)?))
+    }
+
+    /// Does a command on variables.
+    fn do_variables(&mut self, words: &Words) -> Result<Ended, NoMemory>
+        requires { begins_var_command words.now ≡ true }
+        ensures means { IfOk result (λ value. (names : Names) → Same names H.table self.new self.old (give value) (λ k state. came_next (var_came state.frames words.now) k state)) }
+        ensures keeps { OnOk result (Keeps self.new self.old) }
+    {
+        match var_command(self.alloc, &mut self.frames, words) {
+            Ok(result) => Ok(Ended { code: OK, result }),
+            Err(Fault::Error(message)) => Ok(failed(message)),
+            Err(Fault::NoMemory) => Err(NoMemory),
+        }
+    }
+
+    /// Calls a native, whose own name is the first word.
+    fn call_native(&self, native: &Native, words: &Words) -> Result<Ended, NoMemory>
+        requires { name_of native.now ≡ word_at words.now 0 }
+        ensures means { IfOk result (λ value. (k : Next H) → give value k ≡ call_native words.now k) }
+    {
+        let count = words.len();
+        if count < (native.least() as usize) || (native.most() as usize) < count {
+            return wrong_words(self.alloc, words);
+        }
+        match native.call(self.alloc, words) {
+            Ok(result) => Ok(Ended { code: OK, result }),
+            Err(natives::Fault::Error(message)) => Ok(failed(message)),
+            Err(natives::Fault::NoMemory) => Err(NoMemory),
+        }
+    }
+
+    /// Does a built-in that comes to a value at once.
+    fn do_value<L: Ledger>(
+        &mut self,
+        verb: Verb,
+        words: &Words,
+        steps: &mut Steps<L>,
+    ) -> Result<Option<Ended>, NoMemory>
+        ensures means { IfOk result (λ value. (names : Names) (inner : Inner H) → ValueOf value (λ given. Same names H.table self.new self.old (give given) (built_in names H.table inner verb words.now)) (IsRunning verb × (self.new ≡ self.old))) }
+        ensures keeps { OnOk result (Keeps self.new self.old) }
+        ensures steps { steps.old ≤ steps.new }
+    {
+        let value = match verb {
+            Verb::Proc => self.do_proc(words, steps)?,
+            Verb::Return => do_return(self.alloc, words)?,
+            Verb::Error => do_error(self.alloc, words)?,
+            Verb::Break => do_break(self.alloc, words)?,
+            Verb::Continue => do_continue(self.alloc, words)?,
+            Verb::Rename => self.do_rename(words, steps)?,
+            Verb::Info => self.do_info(words)?,
+            Verb::Eval
+            | Verb::Catch
+            | Verb::Expr
+            | Verb::If
+            | Verb::While
+            | Verb::For
+            | Verb::Foreach
+            | Verb::Switch
+            | Verb::Other => return Ok(None),
+        };
+        Ok(Some(value))
+    }
+
+    /// Does a built-in that runs a text, or one of the host's.
+    fn do_running(&mut self, verb: Verb, words: Words, levels: u32) -> Result<Acted, NoMemory>
+        requires { IsRunning verb }
+        ensures means { IfOk result (λ acted. (names : Names) → Same names H.table self.new self.old (acted_next H.table acted self.new.question) (built_in names H.table (nested names H.table levels) verb words)) }
+        ensures lower { OnOk result (Lower self.new self.old 1) }
+        ensures opens { IfOk result (λ acted. Opens acted self.new self.old) }
+    {
+        let acted = match verb {
+            Verb::Eval => self.do_eval(&words, levels)?,
+            Verb::Catch => self.do_catch(&words, levels)?,
+            Verb::Expr => self.do_expr(&words, levels)?,
+            Verb::If => self.do_if(&words, levels)?,
+            Verb::While => self.do_while(&words, levels)?,
+            Verb::For => self.do_for(&words, levels)?,
+            Verb::Foreach => self.do_foreach(&words, levels)?,
+            Verb::Switch => self.do_switch(&words, levels)?,
+            _ => self.call_host(words, levels)?,
+        };
+        Ok(acted)
+    }
+
+    /// Does a built-in of a kind, whose own name is the first word.
+    fn built_in<L: Ledger>(
+        &mut self,
+        verb: Verb,
+        words: Words,
+        levels: u32,
+        steps: &mut Steps<L>,
+    ) -> Result<Acted, NoMemory>
+        ensures means { IfOk result (λ acted. (names : Names) → Same names H.table self.new self.old (acted_next H.table acted self.new.question) (built_in names H.table (nested names H.table levels) verb words)) }
+        ensures lower { OnOk result (Lower self.new self.old 1) }
+        ensures opens { IfOk result (λ acted. Opens acted self.new self.old) }
+        ensures steps { steps.old ≤ steps.new }
+    {
+        match self.do_value(verb, &words, steps)? {
+            Some(value) => Ok(Acted::Gives(value)),
+            None => {
+                let acted = self.do_running(verb, words, levels)?;
+                Ok(acted)
+            }
+        }
+    }
+
+    /// Does a built-in, whose own name is the first word.
+    fn built<L: Ledger>(
+        &mut self,
+        natives: &Natives,
+        words: Words,
+        levels: u32,
+        steps: &mut Steps<L>,
+    ) -> Result<Acted, NoMemory>
+        ensures means { IfOk result (λ acted. Same (names_of natives.now) H.table self.new self.old (acted_next H.table acted self.new.question) (built (names_of natives.now) H.table (nested (names_of natives.now) H.table levels) words)) }
+        ensures lower { OnOk result (Lower self.new self.old 1) }
+        ensures opens { IfOk result (λ acted. Opens acted self.new self.old) }
+        ensures steps { steps.old ≤ steps.new }
+    {
+        let name = copy_word(self.alloc, &words, 0)?;
+        if let Some(native) = natives.find(&name) {
+            let value = self.call_native(native, &words)?;
+            return Ok(Acted::Gives(value));
+        }
+        if is_var_command(&words) {
+            let value = self.do_variables(&words)?;
+            return Ok(Acted::Gives(value));
+        }
+        let verb = find_verb(name.bytes());
+        let acted = self.built_in(verb, words, levels, steps)?;
+        Ok(acted)
+    }
+
+    /// Writes the values of parameters; where one is refused, that is the error.
+    pub(crate) fn write_all(&mut self, values: Pairs) -> Result<Option<Ended>, NoMemory>
+        ensures means { IfOk result (λ refused. (names : Names) (go : Next H → Rest H) → Same names H.table self.new self.old (after_writes refused go) (λ k. write_all values (go k) k)) }
+        ensures keeps { OnOk result (Keeps self.new self.old) }
+    {
+        'values: for pair in values.as_slice() {
+            let value = Text::new(self.alloc, pair.1.bytes())?;
+            let written = self.store(&pair.0, value, Text::empty(self.alloc))?;
+            if written.code != OK {
+                return Ok(Some(written));
+            }
+        }
+        Ok(None)
+    }
+
+    /// Calls a procedure.
+    fn call_proc(
+        &mut self,
+        params: &Text,
+        body: &Text,
+        words: &Words,
+        levels: u32,
+    ) -> Result<Acted, NoMemory>
+        ensures means { IfOk result (λ acted. (names : Names) (opened : Option OpenQuestion) → Same names H.table self.new self.old (acted_next H.table acted opened) (call_proc (nested names H.table levels) params.now body.now words.now)) }
+        ensures lower { OnOk result (Lower self.new self.old 1) }
+        ensures opens { IfOk result (λ acted. Opens acted self.new self.old) }
+    {
+        let values = match bound(self.alloc, params, words)? {
+            Err(message) => return Ok(Acted::Gives(error(self.alloc, message)?)),
+            Ok(values) => values,
+        };
+        self.frames.push()?;
+        self.stack.push(Frame::Procedure)?;
+        match self.write_all(values)? {
+            Some(refused) => Ok(Acted::Gives(refused)),
+            None => {
+                let acted = self.enter_text(body, levels)?;
+                Ok(acted)
+            }
+        }
+    }
+
+    /// Does a command that was paid for.
+    pub(crate) fn act<L: Ledger>(
+        &mut self,
+        natives: &Natives,
+        words: Words,
+        levels: u32,
+        steps: &mut Steps<L>,
+    ) -> Result<Acted, NoMemory>
+        ensures means { IfOk result (λ acted. Same (names_of natives.now) H.table self.new self.old (acted_next H.table acted self.new.question) (act (names_of natives.now) H.table (nested (names_of natives.now) H.table levels) words)) }
+        ensures lower { OnOk result (Lower self.new self.old 1) }
+        ensures opens { IfOk result (λ acted. Opens acted self.new self.old) }
+        ensures steps { steps.old ≤ steps.new }
+    {
+        let name = copy_word(self.alloc, &words, 0)?;
+        match self.table.get(&name) {
+            None => {
+                let message = unknown_command(self.alloc, name.bytes())?;
+                Ok(Acted::Gives(error(self.alloc, message)?))
+            }
+            Some(Cmd::Built(own)) => {
+                let words = with_name(self.alloc, own, &words)?;
+                let acted = self.built(natives, words, levels, steps)?;
+                Ok(acted)
+            }
+            Some(Cmd::Proc { params, body }) => {
+                let params = Text::new(self.alloc, params.bytes())?;
+                let body = Text::new(self.alloc, body.bytes())?;
+                let acted = self.call_proc(&params, &body, &words, levels)?;
+                Ok(acted)
+            }
+        }
+    }
+}

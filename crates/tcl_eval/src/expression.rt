@@ -1,0 +1,331 @@
+//! Expressions under way.
+
+ghost use Rattle.std.specs.Prelude.{◌≡◌, ◌<◌, ◌≤◌, ◌+◌, IfOk, OnOk, Option};
+ghost use Rattle.tcl_expr.specs.View.{tree_of};
+ghost use Rattle.tcl_eval.specs.Natives.{Names};
+ghost use Rattle.tcl_eval.specs.Messages.{no_boolean};
+ghost use Rattle.tcl_eval.specs.Eval.{nested, ended, error_of};
+ghost use Rattle.tcl_eval.specs.Expressions.{behind_left, run_expression, evaluate, do_expr};
+ghost use Rattle.tcl_eval.specs.Places.{tree_size};
+ghost use Rattle.tcl_eval.specs.Stack.{frame_next, step_next, frame_weight, stack_weight, step_weight, frame_free, step_free};
+ghost use Rattle.tcl_eval.specs.Engine.{Same, Stays, Opens, Enters, Lower, acted_next, credit};
+ghost use Rattle.tcl_eval.specs.declared.stack.Frame.{Frame};
+ghost use Rattle.tcl_eval.specs.declared.stack.Step.{Step};
+ghost use Rattle.tcl_eval.specs.declared.engine.OpenQuestion.{OpenQuestion};
+
+use crate::engine::Engine;
+use crate::host::Host;
+use crate::message::{bad_expression, no_boolean};
+use crate::operation::{Way, way_of, with_one, with_two};
+use crate::place::alone;
+use crate::stack::{Acted, Ended, Frame, Ready, Step};
+use crate::value::{MOST_BYTES, OK, done, error, too_long, wrong_words};
+use crate::words::{behind_name, joined};
+use std::boxed::Box;
+use tcl_expr::{Expr, ExprText, Op, expression_value, parse_expr};
+use tcl_parse::Piece;
+use txt_core::{NoMemory, Text, Words, read_truth};
+
+/// What an evaluation of an expression costs.
+const EVALUATION_COST: u128 = 1;
+
+#[tactic(auto, using(crate::proofs::Stacks::frees_push))]
+impl<H: Host> Engine<H> {
+    /// Goes on with a word of an expression.
+    fn enter_operand(&mut self, pieces: Vec<Piece>, levels: u32) -> Result<Step, NoMemory>
+        ensures means { IfOk result (λ step. (names : Names) → Same names H.table self.new self.old (step_next names H.table step) (run_expression (nested names H.table levels) (tree_of (Expr.Word pieces)))) }
+        ensures weighs { IfOk result (λ step. stack_weight self.new.stack.items + step_weight step < stack_weight self.old.stack.items + tree_size (tree_of (Expr.Word pieces))) }
+        ensures keeps { IfOk result (λ step. Stays step self.new self.old) }
+    {
+        let place = alone(self.alloc, pieces)?;
+        self.stack.push(Frame::Operand)?;
+        Ok(Step::Pieces {
+            place,
+            so_far: Text::empty(self.alloc),
+            levels,
+        })
+    }
+
+    /// Goes on with a part of an expression, for whose value this frame waits.
+    fn enter_part(&mut self, frame: Frame, part: Box<Expr>, levels: u32) -> Result<Step, NoMemory>
+        ensures means { IfOk result (λ step. (names : Names) → Same names H.table self.new self.old (step_next names H.table step) (λ k. run_expression (nested names H.table levels) (tree_of part.value) (frame_next names H.table frame k))) }
+        ensures weighs { IfOk result (λ step. stack_weight self.new.stack.items + step_weight step ≤ stack_weight self.old.stack.items + (frame_weight frame + tree_size (tree_of part.value))) }
+        ensures keeps { IfOk result (λ step. frame_free frame ≡ 0 → Stays step self.new self.old) }
+    {
+        self.stack.push(frame)?;
+        self.stack.push(Frame::Expression {
+            expr: Box::into_inner(part),
+            levels,
+        })?;
+        Ok(Step::Value(done(self.alloc)))
+    }
+
+    /// Evaluates an expression.
+    pub(crate) fn give_expression(
+        &mut self,
+        expr: Expr,
+        levels: u32,
+        value: Ended,
+    ) -> Result<Step, NoMemory>
+        ensures means { IfOk result (λ step. (names : Names) → Same names H.table self.new self.old (step_next names H.table step) (λ k. frame_next names H.table (Frame.Expression expr levels) k value.code value.result)) }
+        ensures falls { IfOk result (λ step. stack_weight self.new.stack.items + step_weight step < stack_weight self.old.stack.items + frame_weight (Frame.Expression expr levels)) }
+        ensures keeps { IfOk result (λ step. Stays step self.new self.old) }
+    {
+        if value.code != OK {
+            return Ok(Step::Value(value));
+        }
+        match expr {
+            Expr::Value(result) => Ok(Step::Value(Ended { code: OK, result })),
+            Expr::Word(pieces) => {
+                let step = self.enter_operand(pieces, levels)?;
+                Ok(step)
+            }
+            Expr::Unary(op, operand) => {
+                let step = self.enter_part(Frame::Operation { op }, operand, levels)?;
+                Ok(step)
+            }
+            Expr::Binary(op, left, right) => {
+                let step = self.enter_part(Frame::Left { op, right, levels }, left, levels)?;
+                Ok(step)
+            }
+            Expr::Choice(test, first, second) => {
+                let frame = Frame::Choice {
+                    first,
+                    second,
+                    levels,
+                };
+                let step = self.enter_part(frame, test, levels)?;
+                Ok(step)
+            }
+        }
+    }
+
+    /// Ends a word of an expression, which may be too long.
+    pub(crate) fn give_operand(&self, value: Ended) -> Result<Step, NoMemory>
+        ensures means { IfOk result (λ step. (names : Names) → Same names H.table self.now self.now (step_next names H.table step) (λ k. frame_next names H.table Frame.Operand k value.code value.result)) }
+        ensures light { IfOk result (λ step. step_weight step + step_free step ≡ 0) }
+    {
+        if value.code == OK && value.result.len() > MOST_BYTES {
+            return Ok(Step::Value(too_long(self.alloc)?));
+        }
+        Ok(Step::Value(value))
+    }
+
+    /// Applies an operator to its operand.
+    pub(crate) fn give_operation(&self, op: Op, value: Ended) -> Result<Step, NoMemory>
+        ensures means { IfOk result (λ step. (names : Names) → Same names H.table self.now self.now (step_next names H.table step) (λ k. frame_next names H.table (Frame.Operation op) k value.code value.result)) }
+        ensures light { IfOk result (λ step. step_weight step + step_free step ≡ 0) }
+    {
+        if value.code != OK {
+            return Ok(Step::Value(value));
+        }
+        Ok(Step::Value(with_one(self.alloc, op, &value.result)?))
+    }
+
+    /// Goes on with the right operand of an operator.
+    fn enter_right(
+        &mut self,
+        op: Op,
+        left: Text,
+        right: Box<Expr>,
+        levels: u32,
+    ) -> Result<Step, NoMemory>
+        ensures means { IfOk result (λ step. (names : Names) → Same names H.table self.new self.old (step_next names H.table step) (λ k. run_expression (nested names H.table levels) (tree_of right.value) (frame_next names H.table (Frame.Right op left) k))) }
+        ensures weighs { IfOk result (λ step. stack_weight self.new.stack.items + step_weight step < stack_weight self.old.stack.items + frame_weight (Frame.Left op right levels)) }
+        ensures keeps { IfOk result (λ step. Stays step self.new self.old) }
+    {
+        let step = self.enter_part(Frame::Right { op, left }, right, levels)?;
+        Ok(step)
+    }
+
+    /// Ends an expression at a value that has no truth.
+    fn no_truth(&self, value: &Text) -> Result<Step, NoMemory>
+        ensures { IfOk result (λ step. step ≡ Step.Value (error_of (no_boolean value.now))) }
+    {
+        let message = no_boolean(self.alloc, value.bytes())?;
+        Ok(Step::Value(error(self.alloc, message)?))
+    }
+
+    /// Ends an expression at this value.
+    fn value_step(&self, text: &[u8]) -> Result<Step, NoMemory>
+        ensures { IfOk result (λ step. step ≡ Step.Value (ended 0 text.now)) }
+    {
+        let result = Text::new(self.alloc, text)?;
+        Ok(Step::Value(Ended { code: OK, result }))
+    }
+
+    /// Goes on with the right operand of an operator, where the left one asks for it.
+    fn enter_behind(
+        &mut self,
+        way: Way,
+        op: Op,
+        left: Text,
+        right: Box<Expr>,
+        levels: u32,
+    ) -> Result<Step, NoMemory>
+        ensures means { IfOk result (λ step. (names : Names) → Same names H.table self.new self.old (step_next names H.table step) (λ k. behind_left way left (run_expression (nested names H.table levels) (tree_of right.value) (frame_next names H.table (Frame.Right op left) k)) k)) }
+        ensures weighs { IfOk result (λ step. stack_weight self.new.stack.items + step_weight step < stack_weight self.old.stack.items + frame_weight (Frame.Left op right levels)) }
+        ensures keeps { IfOk result (λ step. Stays step self.new self.old) }
+    {
+        match way {
+            Way::Both => {
+                let step = self.enter_right(op, left, right, levels)?;
+                Ok(step)
+            }
+            Way::IfTrue => match read_truth(&left) {
+                None => {
+                    let step = self.no_truth(&left)?;
+                    Ok(step)
+                }
+                Some(true) => {
+                    let step = self.enter_right(op, left, right, levels)?;
+                    Ok(step)
+                }
+                Some(false) => {
+                    let step = self.value_step(b"0")?;
+                    Ok(step)
+                }
+            },
+            Way::IfFalse => match read_truth(&left) {
+                None => {
+                    let step = self.no_truth(&left)?;
+                    Ok(step)
+                }
+                Some(true) => {
+                    let step = self.value_step(b"1")?;
+                    Ok(step)
+                }
+                Some(false) => {
+                    let step = self.enter_right(op, left, right, levels)?;
+                    Ok(step)
+                }
+            },
+        }
+    }
+
+    /// Goes on behind the left operand of an operator.
+    pub(crate) fn give_left(
+        &mut self,
+        op: Op,
+        right: Box<Expr>,
+        levels: u32,
+        value: Ended,
+    ) -> Result<Step, NoMemory>
+        ensures means { IfOk result (λ step. (names : Names) → Same names H.table self.new self.old (step_next names H.table step) (λ k. frame_next names H.table (Frame.Left op right levels) k value.code value.result)) }
+        ensures falls { IfOk result (λ step. stack_weight self.new.stack.items + step_weight step < stack_weight self.old.stack.items + frame_weight (Frame.Left op right levels)) }
+        ensures keeps { IfOk result (λ step. Stays step self.new self.old) }
+    {
+        if value.code != OK {
+            return Ok(Step::Value(value));
+        }
+        let step = self.enter_behind(way_of(op), op, value.result, right, levels)?;
+        Ok(step)
+    }
+
+    /// Applies an operator to its operands.
+    pub(crate) fn give_right(&self, op: Op, left: Text, value: Ended) -> Result<Step, NoMemory>
+        ensures means { IfOk result (λ step. (names : Names) → Same names H.table self.now self.now (step_next names H.table step) (λ k. frame_next names H.table (Frame.Right op left) k value.code value.result)) }
+        ensures light { IfOk result (λ step. step_weight step + step_free step ≡ 0) }
+    {
+        if value.code != OK {
+            return Ok(Step::Value(value));
+        }
+        Ok(Step::Value(with_two(self.alloc, op, &left, &value.result)?))
+    }
+
+    /// Goes on with a part of an expression, whose value is that of the whole.
+    fn enter_chosen(&mut self, part: Box<Expr>, levels: u32) -> Result<Step, NoMemory>
+        ensures means { IfOk result (λ step. (names : Names) → Same names H.table self.new self.old (step_next names H.table step) (run_expression (nested names H.table levels) (tree_of part.value))) }
+        ensures weighs { IfOk result (λ step. stack_weight self.new.stack.items + step_weight step ≤ stack_weight self.old.stack.items + tree_size (tree_of part.value)) }
+        ensures keeps { IfOk result (λ step. Stays step self.new self.old) }
+    {
+        self.stack.push(Frame::Expression {
+            expr: Box::into_inner(part),
+            levels,
+        })?;
+        Ok(Step::Value(done(self.alloc)))
+    }
+
+    /// Goes on with the part that is chosen.
+    pub(crate) fn give_choice(
+        &mut self,
+        first: Box<Expr>,
+        second: Box<Expr>,
+        levels: u32,
+        value: Ended,
+    ) -> Result<Step, NoMemory>
+        ensures means { IfOk result (λ step. (names : Names) → Same names H.table self.new self.old (step_next names H.table step) (λ k. frame_next names H.table (Frame.Choice first second levels) k value.code value.result)) }
+        ensures falls { IfOk result (λ step. stack_weight self.new.stack.items + step_weight step < stack_weight self.old.stack.items + frame_weight (Frame.Choice first second levels)) }
+        ensures keeps { IfOk result (λ step. Stays step self.new self.old) }
+    {
+        if value.code != OK {
+            return Ok(Step::Value(value));
+        }
+        match read_truth(&value.result) {
+            None => {
+                let step = self.no_truth(&value.result)?;
+                Ok(step)
+            }
+            Some(true) => {
+                let step = self.enter_chosen(first, levels)?;
+                Ok(step)
+            }
+            Some(false) => {
+                let step = self.enter_chosen(second, levels)?;
+                Ok(step)
+            }
+        }
+    }
+
+    /// Ends an `expr`.
+    pub(crate) fn give_value(&self, value: Ended) -> Result<Step, NoMemory>
+        ensures means { IfOk result (λ step. (names : Names) → Same names H.table self.now self.now (step_next names H.table step) (λ k. frame_next names H.table Frame.Value k value.code value.result)) }
+        ensures light { IfOk result (λ step. step_weight step + step_free step ≡ 0) }
+    {
+        if value.code != OK {
+            return Ok(Step::Value(value));
+        }
+        Ok(Step::Value(Ended {
+            code: OK,
+            result: expression_value(self.alloc, &value.result)?,
+        }))
+    }
+
+    /// Pays for the evaluation of a text as an expression, which is then read and begins.
+    pub(crate) fn evaluate(&mut self, text: &Text, levels: u32) -> Result<Acted, NoMemory>
+        ensures means { IfOk result (λ acted. (names : Names) (opened : Option OpenQuestion) → Same names H.table self.new self.old (acted_next H.table acted opened) (evaluate (nested names H.table levels) text.now)) }
+        ensures lower { OnOk result (Lower self.new self.old 0) }
+        ensures opens { IfOk result (λ acted. Opens acted self.new self.old) }
+        ensures enters { IfOk result (λ acted. Enters acted (credit self.new + 2 ≤ credit self.old)) }
+    {
+        if !self.pay(EVALUATION_COST) {
+            return Ok(Acted::Spent);
+        }
+        match parse_expr(self.alloc, text) {
+            Err(ExprText::NoMemory) => Err(NoMemory),
+            Err(ExprText::Bad { at }) => {
+                let message = bad_expression(self.alloc, at)?;
+                Ok(Acted::Gives(error(self.alloc, message)?))
+            }
+            Ok(expr) => {
+                self.stack.push(Frame::Expression { expr, levels })?;
+                Ok(Acted::Gives(done(self.alloc)))
+            }
+        }
+    }
+
+    /// `expr word word*`.
+    pub(crate) fn do_expr(&mut self, words: &Words, levels: u32) -> Result<Acted, NoMemory>
+        ensures means { IfOk result (λ acted. (names : Names) (opened : Option OpenQuestion) → Same names H.table self.new self.old (acted_next H.table acted opened) (do_expr (nested names H.table levels) words.now)) }
+        ensures lower { OnOk result (Lower self.new self.old 1) }
+        ensures opens { IfOk result (λ acted. Opens acted self.new self.old) }
+    {
+        if words.len() < 2 {
+            return Ok(Acted::Gives(wrong_words(self.alloc, words)?));
+        }
+        let text = joined(self.alloc, behind_name(words))?;
+        self.stack.push(Frame::Value)?;
+        let acted = self.evaluate(&text, levels)?;
+        Ok(acted)
+    }
+}

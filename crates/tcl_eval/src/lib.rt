@@ -1,0 +1,34 @@
+//! The evaluation of scripts, which can stand at a question.
+#![tactic(auto)]
+
+mod act;
+mod branch;
+mod condition;
+#[cfg(test)]
+mod core_tests;
+mod engine;
+mod expression;
+mod host;
+mod info;
+mod law;
+mod lend;
+mod loops;
+mod message;
+mod operation;
+mod outcome;
+mod parameter;
+mod place;
+mod run;
+mod settle;
+mod stack;
+mod switch;
+#[cfg(test)]
+mod tests;
+mod value;
+mod verb;
+mod words;
+
+pub use engine::Engine;
+pub use host::{Host, HostReply};
+pub use law::turns_suffice;
+pub use outcome::{Outcome, Work};

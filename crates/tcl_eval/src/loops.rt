@@ -1,0 +1,453 @@
+//! Loops under way.
+
+ghost use Rattle.std.specs.Prelude.{◌≡◌, ◌<◌, ◌≤◌, ◌+◌, IfOk, OnOk, List, ℕ, Option, drop, length};
+ghost use Rattle.tcl_eval.specs.State.{Next, Rest};
+ghost use Rattle.tcl_eval.specs.Natives.{Names};
+ghost use Rattle.tcl_eval.specs.Parameters.{Values};
+ghost use Rattle.tcl_eval.specs.Eval.{nested, unread, do_while, do_for, do_foreach};
+ghost use Rattle.tcl_eval.specs.Loops.{assigned, in_loop, turns, turn_on, turn_body, walk_on, walk_all};
+ghost use Rattle.tcl_eval.specs.LoopsSeen.{flow_of};
+ghost use Rattle.tcl_eval.specs.Stack.{branch_next, branch_free};
+ghost use Rattle.tcl_eval.specs.Engine.{Same, Opens, Enters, Lower, acted_next, credit};
+ghost use Rattle.tcl_eval.specs.declared.branch.Branch.{Branch};
+ghost use Rattle.tcl_eval.specs.declared.engine.OpenQuestion.{OpenQuestion};
+
+use crate::branch::{Branch, Turning, Walk, place_behind};
+use crate::engine::Engine;
+use crate::host::Host;
+use crate::message::{bad_list, bad_value, no_boolean};
+use crate::stack::{Acted, Ended, Frame};
+use crate::value::{BREAK, CONTINUE, OK, done, wrong_words};
+use crate::words::{copy_word, word_at};
+use std::alloc::Global;
+use std::rc::Rc;
+use tcl_list::{ListFault, split};
+use txt_core::{NoMemory, Pairs, Text, Words, read_truth};
+
+/// What a turn of a loop costs.
+const TURN_COST: u128 = 1;
+
+/// How a loop goes on where a part of it ended.
+enum Flow {
+    /// It goes on.
+    On,
+    /// It ends with this.
+    Ends(Ended),
+}
+
+/// How a loop goes on where its body, or the script between two turns, ended with this.
+fn flow_from(alloc: Global, value: Ended) -> Flow
+    ensures { result ≡ flow_of value.code value.result }
+{
+    match value.code {
+        OK | CONTINUE => Flow::On,
+        BREAK => Flow::Ends(done(alloc)),
+        _ => Flow::Ends(value),
+    }
+}
+
+/// In turn the names with the values; where no value is left, the empty text.
+fn assigned(alloc: Global, names: &[Text], values: &[Text]) -> Result<Pairs, NoMemory>
+    ensures { IfOk result (λ pairs. pairs ≡ assigned names.now values.now) }
+{
+    let mut pairs = Pairs::new(alloc);
+    let mut left = values;
+    'names: for name in names {
+        let name = Text::new(alloc, name.bytes())?;
+        let value = match left.split_first() {
+            None => Text::empty(alloc),
+            Some((value, behind)) => {
+                left = behind;
+                Text::new(alloc, value.bytes())?
+            }
+        };
+        pairs.push((name, value)).map_err(|_| NoMemory)?;
+    }
+    Ok(pairs)
+}
+
+/// The items from a place on; none where the list ends before it.
+fn from_place(items: &[Text], at: usize) -> &[Text]
+    ensures { result.now ≡ drop at items.now }
+{
+    match items.get(at..) {
+        None => &[],
+        Some(behind) => behind,
+    }
+}
+
+#[tactic(auto, using(crate::proofs::Stacks::frees_push))]
+impl<H: Host> Engine<H> {
+    /// Begins a turn of a loop, where one is left, with its condition.
+    fn next_turn(&mut self, turning: Rc<Turning>, left: u64, levels: u32) -> Result<Acted, NoMemory>
+        ensures means { IfOk result (λ acted. (names : Names) (opened : Option OpenQuestion) → Same names H.table self.new self.old (acted_next H.table acted opened) (turns (nested names H.table levels) turning.value left)) }
+        ensures lower { OnOk result (Lower self.new self.old 1) }
+        ensures opens { IfOk result (λ acted. Opens acted self.new self.old) }
+        ensures enters { IfOk result (λ acted. Enters acted (credit self.new < credit self.old)) }
+    {
+        if left == 0 {
+            return Ok(Acted::Spent);
+        }
+        let again = turning.clone()?;
+        self.stack.push(Frame::Branch(Branch::Condition {
+            turning: again,
+            turns: left - 1,
+            levels,
+        }))?;
+        let acted = self.evaluate(&turning.condition, levels)?;
+        Ok(acted)
+    }
+
+    /// Begins the turns of a loop, of which there are as many as the budget that is left.
+    fn begin_turns(&mut self, turning: Turning, levels: u32) -> Result<Acted, NoMemory>
+        ensures means { IfOk result (λ acted. (names : Names) (opened : Option OpenQuestion) → Same names H.table self.new self.old (acted_next H.table acted opened) (turn_on (nested names H.table levels) turning)) }
+        ensures lower { OnOk result (Lower self.new self.old 1) }
+        ensures opens { IfOk result (λ acted. Opens acted self.new self.old) }
+    {
+        let turning = Rc::new(self.alloc, turning)?;
+        let acted = self.next_turn(turning, self.budget, levels)?;
+        Ok(acted)
+    }
+
+    /// `while c body`.
+    pub(crate) fn do_while(&mut self, words: &Words, levels: u32) -> Result<Acted, NoMemory>
+        ensures means { IfOk result (λ acted. (names : Names) (opened : Option OpenQuestion) → Same names H.table self.new self.old (acted_next H.table acted opened) (do_while (nested names H.table levels) words.now)) }
+        ensures lower { OnOk result (Lower self.new self.old 1) }
+        ensures opens { IfOk result (λ acted. Opens acted self.new self.old) }
+    {
+        if words.len() != 3 {
+            return Ok(Acted::Gives(wrong_words(self.alloc, words)?));
+        }
+        let turning = Turning {
+            condition: copy_word(self.alloc, words, 1)?,
+            next: None,
+            body: copy_word(self.alloc, words, 2)?,
+        };
+        let acted = self.begin_turns(turning, levels)?;
+        Ok(acted)
+    }
+
+    /// `for start c next body`.
+    pub(crate) fn do_for(&mut self, words: &Words, levels: u32) -> Result<Acted, NoMemory>
+        ensures means { IfOk result (λ acted. (names : Names) (opened : Option OpenQuestion) → Same names H.table self.new self.old (acted_next H.table acted opened) (do_for (nested names H.table levels) words.now)) }
+        ensures lower { OnOk result (Lower self.new self.old 1) }
+        ensures opens { IfOk result (λ acted. Opens acted self.new self.old) }
+    {
+        if words.len() != 5 {
+            return Ok(Acted::Gives(wrong_words(self.alloc, words)?));
+        }
+        let start = copy_word(self.alloc, words, 1)?;
+        let turning = Turning {
+            condition: copy_word(self.alloc, words, 2)?,
+            next: Some(copy_word(self.alloc, words, 3)?),
+            body: copy_word(self.alloc, words, 4)?,
+        };
+        let turning = Rc::new(self.alloc, turning)?;
+        self.stack
+            .push(Frame::Branch(Branch::Start { turning, levels }))?;
+        let acted = self.enter_text(&start, levels)?;
+        Ok(acted)
+    }
+
+    /// Goes on behind the start of a `for`.
+    pub(crate) fn give_start(
+        &mut self,
+        turning: Rc<Turning>,
+        levels: u32,
+        value: Ended,
+    ) -> Result<Acted, NoMemory>
+        ensures means { IfOk result (λ acted. (names : Names) (opened : Option OpenQuestion) → Same names H.table self.new self.old (acted_next H.table acted opened) (λ k. branch_next names H.table (Branch.Start turning levels) k value.code value.result)) }
+        ensures lower { OnOk result (Lower self.new self.old 1) }
+        ensures opens { IfOk result (λ acted. Opens acted self.new self.old) }
+        ensures enters { IfOk result (λ acted. Enters acted (credit self.new < credit self.old + branch_free (Branch.Start turning levels))) }
+    {
+        if value.code != OK {
+            return Ok(Acted::Gives(value));
+        }
+        let acted = self.next_turn(turning, self.budget, levels)?;
+        Ok(acted)
+    }
+
+    /// Pays for a turn and runs its body.
+    fn enter_body(
+        &mut self,
+        turning: Rc<Turning>,
+        left: u64,
+        levels: u32,
+    ) -> Result<Acted, NoMemory>
+        ensures means { IfOk result (λ acted. (names : Names) (opened : Option OpenQuestion) → Same names H.table self.new self.old (acted_next H.table acted opened) (λ k. turn_body (nested names H.table levels) turning.value (turns (nested names H.table levels) turning.value left k) k)) }
+        ensures lower { OnOk result (Lower self.new self.old 1) }
+        ensures opens { IfOk result (λ acted. Opens acted self.new self.old) }
+        ensures enters { IfOk result (λ acted. Enters acted (credit self.new ≤ credit self.old)) }
+    {
+        if !self.pay(TURN_COST) {
+            return Ok(Acted::Spent);
+        }
+        let again = turning.clone()?;
+        self.stack.push(Frame::Branch(Branch::Body {
+            turning: again,
+            turns: left,
+            levels,
+        }))?;
+        let acted = self.enter_text(&turning.body, levels)?;
+        Ok(acted)
+    }
+
+    /// Goes on by the truth of a loop's condition.
+    pub(crate) fn give_condition(
+        &mut self,
+        turning: Rc<Turning>,
+        left: u64,
+        levels: u32,
+        value: Ended,
+    ) -> Result<Acted, NoMemory>
+        ensures means { IfOk result (λ acted. (names : Names) (opened : Option OpenQuestion) → Same names H.table self.new self.old (acted_next H.table acted opened) (λ k. branch_next names H.table (Branch.Condition turning left levels) k value.code value.result)) }
+        ensures lower { OnOk result (Lower self.new self.old 1) }
+        ensures opens { IfOk result (λ acted. Opens acted self.new self.old) }
+        ensures enters { IfOk result (λ acted. Enters acted (credit self.new < credit self.old + branch_free (Branch.Condition turning left levels))) }
+    {
+        if value.code != OK {
+            return Ok(Acted::Gives(value));
+        }
+        match read_truth(&value.result) {
+            None => {
+                let acted = self.fails(no_boolean(self.alloc, value.result.bytes())?)?;
+                Ok(acted)
+            }
+            Some(false) => Ok(Acted::Gives(done(self.alloc))),
+            Some(true) => {
+                let acted = self.enter_body(turning, left, levels)?;
+                Ok(acted)
+            }
+        }
+    }
+
+    /// Goes on behind the body of a turn.
+    pub(crate) fn give_body(
+        &mut self,
+        turning: Rc<Turning>,
+        left: u64,
+        levels: u32,
+        value: Ended,
+    ) -> Result<Acted, NoMemory>
+        ensures means { IfOk result (λ acted. (names : Names) (opened : Option OpenQuestion) → Same names H.table self.new self.old (acted_next H.table acted opened) (λ k. branch_next names H.table (Branch.Body turning left levels) k value.code value.result)) }
+        ensures lower { OnOk result (Lower self.new self.old 1) }
+        ensures opens { IfOk result (λ acted. Opens acted self.new self.old) }
+        ensures enters { IfOk result (λ acted. Enters acted (credit self.new < credit self.old + branch_free (Branch.Body turning left levels))) }
+    {
+        match flow_from(self.alloc, value) {
+            Flow::Ends(value) => Ok(Acted::Gives(value)),
+            Flow::On => match &turning.next {
+                None => {
+                    let acted = self.next_turn(turning, left, levels)?;
+                    Ok(acted)
+                }
+                Some(next) => {
+                    let next = Text::new(self.alloc, next.bytes())?;
+                    self.stack.push(Frame::Branch(Branch::Next {
+                        turning,
+                        turns: left,
+                        levels,
+                    }))?;
+                    let acted = self.enter_text(&next, levels)?;
+                    Ok(acted)
+                }
+            },
+        }
+    }
+
+    /// Goes on behind the script between two turns.
+    pub(crate) fn give_next(
+        &mut self,
+        turning: Rc<Turning>,
+        left: u64,
+        levels: u32,
+        value: Ended,
+    ) -> Result<Acted, NoMemory>
+        ensures means { IfOk result (λ acted. (names : Names) (opened : Option OpenQuestion) → Same names H.table self.new self.old (acted_next H.table acted opened) (λ k. branch_next names H.table (Branch.Next turning left levels) k value.code value.result)) }
+        ensures lower { OnOk result (Lower self.new self.old 1) }
+        ensures opens { IfOk result (λ acted. Opens acted self.new self.old) }
+        ensures enters { IfOk result (λ acted. Enters acted (credit self.new < credit self.old + branch_free (Branch.Next turning left levels))) }
+    {
+        match flow_from(self.alloc, value) {
+            Flow::Ends(value) => Ok(Acted::Gives(value)),
+            Flow::On => {
+                let acted = self.next_turn(turning, left, levels)?;
+                Ok(acted)
+            }
+        }
+    }
+
+    /// Pays for a turn over values, where one is left, writes its variables and runs its body.
+    fn next_values(
+        &mut self,
+        walk: Rc<Walk>,
+        at: usize,
+        left: usize,
+        levels: u32,
+    ) -> Result<Acted, NoMemory>
+        ensures means { IfOk result (λ acted. (names : Names) (opened : Option OpenQuestion) → Same names H.table self.new self.old (acted_next H.table acted opened) (walk_on (nested names H.table levels) walk.value.names walk.value.body left (drop at walk.value.values))) }
+        ensures lower { OnOk result (Lower self.new self.old 1) }
+        ensures opens { IfOk result (λ acted. Opens acted self.new self.old) }
+        ensures enters { IfOk result (λ acted. Enters acted (credit self.new ≤ credit self.old)) }
+    {
+        if left == 0 {
+            return Ok(Acted::Gives(done(self.alloc)));
+        }
+        if !self.pay(TURN_COST) {
+            return Ok(Acted::Spent);
+        }
+        let values = from_place(walk.values.as_slice(), at);
+        let pairs = assigned(self.alloc, walk.names.as_slice(), values)?;
+        match self.write_all(pairs)? {
+            Some(refused) => Ok(Acted::Gives(refused)),
+            None => {
+                let acted = self.enter_each(walk, at, left - 1, levels)?;
+                Ok(acted)
+            }
+        }
+    }
+
+    /// Runs the body of a turn over values.
+    fn enter_each(
+        &mut self,
+        walk: Rc<Walk>,
+        at: usize,
+        left: usize,
+        levels: u32,
+    ) -> Result<Acted, NoMemory>
+        ensures means { IfOk result (λ acted. (names : Names) (opened : Option OpenQuestion) → Same names H.table self.new self.old (acted_next H.table acted opened) (λ k. (nested names H.table levels).run (unread walk.value.body) (in_loop (walk_on (nested names H.table levels) walk.value.names walk.value.body left (drop (length walk.value.names) (drop at walk.value.values)) k) k))) }
+        ensures lower { OnOk result (Lower self.new self.old 1) }
+        ensures opens { IfOk result (λ acted. Opens acted self.new self.old) }
+        ensures enters { IfOk result (λ acted. Enters acted (credit self.new ≤ credit self.old + 1)) }
+    {
+        let next = place_behind(at, walk.names.len(), walk.values.len());
+        let again = walk.clone()?;
+        self.stack.push(Frame::Branch(Branch::Each {
+            walk: again,
+            at: next,
+            turns: left,
+            levels,
+        }))?;
+        let acted = self.enter_text(&walk.body, levels)?;
+        Ok(acted)
+    }
+
+    /// Goes on behind the body of a turn over values.
+    pub(crate) fn give_each(
+        &mut self,
+        walk: Rc<Walk>,
+        at: usize,
+        left: usize,
+        levels: u32,
+        value: Ended,
+    ) -> Result<Acted, NoMemory>
+        ensures means { IfOk result (λ acted. (names : Names) (opened : Option OpenQuestion) → Same names H.table self.new self.old (acted_next H.table acted opened) (λ k. branch_next names H.table (Branch.Each walk at left levels) k value.code value.result)) }
+        ensures lower { OnOk result (Lower self.new self.old 1) }
+        ensures opens { IfOk result (λ acted. Opens acted self.new self.old) }
+        ensures enters { IfOk result (λ acted. Enters acted (credit self.new < credit self.old + branch_free (Branch.Each walk at left levels))) }
+    {
+        match flow_from(self.alloc, value) {
+            Flow::Ends(value) => Ok(Acted::Gives(value)),
+            Flow::On => {
+                let acted = self.next_values(walk, at, left, levels)?;
+                Ok(acted)
+            }
+        }
+    }
+
+    /// Begins the turns over values, of which there are as many as it takes for all of them.
+    fn begin_walk(&mut self, walk: Walk, levels: u32) -> Result<Acted, NoMemory>
+        requires { 0 < length walk.names }
+        ensures means { IfOk result (λ acted. (names : Names) (opened : Option OpenQuestion) → Same names H.table self.new self.old (acted_next H.table acted opened) (walk_all (nested names H.table levels) walk.names walk.values walk.body)) }
+        ensures lower { OnOk result (Lower self.new self.old 1) }
+        ensures opens { IfOk result (λ acted. Opens acted self.new self.old) }
+    {
+        let turns = walk.values.len().div_ceil(walk.names.len());
+        let walk = Rc::new(self.alloc, walk)?;
+        let acted = self.next_values(walk, 0, turns, levels)?;
+        Ok(acted)
+    }
+
+    /// `foreach names list body`.
+    pub(crate) fn do_foreach(&mut self, words: &Words, levels: u32) -> Result<Acted, NoMemory>
+        ensures means { IfOk result (λ acted. (names : Names) (opened : Option OpenQuestion) → Same names H.table self.new self.old (acted_next H.table acted opened) (do_foreach (nested names H.table levels) words.now)) }
+        ensures lower { OnOk result (Lower self.new self.old 1) }
+        ensures opens { IfOk result (λ acted. Opens acted self.new self.old) }
+    {
+        if words.len() != 4 {
+            return Ok(Acted::Gives(wrong_words(self.alloc, words)?));
+        }
+        let names = copy_word(self.alloc, words, 1)?;
+        let names = match split(self.alloc, &names) {
+            Err(ListFault::NoMemory) => return Err(NoMemory),
+            Err(ListFault::Bad { at }) => {
+                let acted = self.fails(bad_list(self.alloc, at)?)?;
+                return Ok(acted);
+            }
+            Ok(names) => names,
+        };
+        if names.len() == 0 {
+            let acted = self.fails(bad_value(self.alloc, word_at(words, 1), b"foreach")?)?;
+            return Ok(acted);
+        }
+        let values = copy_word(self.alloc, words, 2)?;
+        match split(self.alloc, &values) {
+            Err(ListFault::NoMemory) => Err(NoMemory),
+            Err(ListFault::Bad { at }) => {
+                let acted = self.fails(bad_list(self.alloc, at)?)?;
+                Ok(acted)
+            }
+            Ok(values) => {
+                let body = copy_word(self.alloc, words, 3)?;
+                let walk = Walk {
+                    names,
+                    values,
+                    body,
+                };
+                let acted = self.begin_walk(walk, levels)?;
+                Ok(acted)
+            }
+        }
+    }
+
+    /// Gives a choice or a loop what it waited for.
+    pub(crate) fn go_on(&mut self, branch: Branch, value: Ended) -> Result<Acted, NoMemory>
+        ensures means { IfOk result (λ acted. (names : Names) (opened : Option OpenQuestion) → Same names H.table self.new self.old (acted_next H.table acted opened) (λ k. branch_next names H.table branch k value.code value.result)) }
+        ensures lower { OnOk result (self.new.budget ≤ self.old.budget) }
+        ensures opens { IfOk result (λ acted. Opens acted self.new self.old) }
+        ensures enters { IfOk result (λ acted. Enters acted (credit self.new < credit self.old + branch_free branch)) }
+    {
+        let acted = match branch {
+            Branch::If {
+                body,
+                branches,
+                next,
+                levels,
+            } => self.give_if(body, branches, next, levels, value)?,
+            Branch::Start { turning, levels } => self.give_start(turning, levels, value)?,
+            Branch::Condition {
+                turning,
+                turns,
+                levels,
+            } => self.give_condition(turning, turns, levels, value)?,
+            Branch::Body {
+                turning,
+                turns,
+                levels,
+            } => self.give_body(turning, turns, levels, value)?,
+            Branch::Next {
+                turning,
+                turns,
+                levels,
+            } => self.give_next(turning, turns, levels, value)?,
+            Branch::Each {
+                walk,
+                at,
+                turns,
+                levels,
+            } => self.give_each(walk, at, turns, levels, value)?,
+        };
+        Ok(acted)
+    }
+}

@@ -1,0 +1,237 @@
+//! What is said of an error.
+
+ghost use Rattle.std.specs.Prelude.{◌≡◌, ◌++◌, [], IfOk};
+ghost use Rattle.tcl_expr.specs.declared.operator.ExprFault.{ExprFault};
+ghost use Rattle.tcl_eval.specs.Messages.{quoted, no_command, command_exists, wrong_count, bad_value, bad_list, unknown_command, outside_loop, fault_name, fault_text, variable_fault, of_variable, no_variable, unknown_subcommand, no_procedure, bad_expression, no_boolean, operator_name, operator_fault};
+
+use std::alloc::Global;
+use tcl_expr::{ExprFault, Op};
+use tcl_frame::VarFault;
+use tcl_parse::Kind;
+use txt_core::{NoMemory, Text};
+
+/// Appends a text in double quotes.
+fn push_quoted(message: &mut Text, text: &[u8]) -> Result<(), NoMemory>
+    ensures { IfOk result (λ _. message.new ≡ message.old ++ quoted text.now) }
+{
+    message.append(b"\"")?;
+    message.append(text)?;
+    message.append(b"\"")
+}
+
+/// A built-in or a procedure has the wrong number of words.
+pub fn wrong_count(alloc: Global, name: &[u8]) -> Result<Text, NoMemory>
+    ensures { IfOk result (λ message. message ≡ wrong_count name.now) }
+{
+    let mut message = Text::new(alloc, b"wrong number of words for ")?;
+    push_quoted(&mut message, name)?;
+    Ok(message)
+}
+
+/// A command doesn't take this value.
+pub fn bad_value(alloc: Global, value: &[u8], name: &[u8]) -> Result<Text, NoMemory>
+    ensures { IfOk result (λ message. message ≡ bad_value value.now name.now) }
+{
+    let mut message = Text::new(alloc, b"bad value ")?;
+    push_quoted(&mut message, value)?;
+    message.append(b" for ")?;
+    push_quoted(&mut message, name)?;
+    Ok(message)
+}
+
+/// No command has this name.
+pub fn unknown_command(alloc: Global, name: &[u8]) -> Result<Text, NoMemory>
+    ensures { IfOk result (λ message. message ≡ unknown_command name.now) }
+{
+    let mut message = Text::new(alloc, b"invalid command name ")?;
+    push_quoted(&mut message, name)?;
+    Ok(message)
+}
+
+/// There is no command of this name to be renamed.
+pub fn no_command(alloc: Global, name: &[u8]) -> Result<Text, NoMemory>
+    ensures { IfOk result (λ message. message ≡ no_command name.now) }
+{
+    let mut message = Text::new(alloc, b"no command ")?;
+    push_quoted(&mut message, name)?;
+    Ok(message)
+}
+
+/// The new name is that of a command.
+pub fn command_exists(alloc: Global, name: &[u8]) -> Result<Text, NoMemory>
+    ensures { IfOk result (λ message. message ≡ command_exists name.now) }
+{
+    let mut message = Text::new(alloc, b"command ")?;
+    push_quoted(&mut message, name)?;
+    message.append(b" exists")?;
+    Ok(message)
+}
+
+/// A procedure ends by this command.
+pub fn outside_loop(alloc: Global, name: &[u8]) -> Result<Text, NoMemory>
+    ensures { IfOk result (λ message. message ≡ outside_loop name.now) }
+{
+    let mut message = Text::new(alloc, b"invoked ")?;
+    push_quoted(&mut message, name)?;
+    message.append(b" outside of a loop")?;
+    Ok(message)
+}
+
+/// A text is no list: it is bad at this byte.
+pub fn bad_list(alloc: Global, place: u64) -> Result<Text, NoMemory>
+    ensures { IfOk result (λ message. message ≡ bad_list place) }
+{
+    let mut message = Text::new(alloc, b"bad list at ")?;
+    message.append(format!(in alloc; "{place}")?.as_bytes())?;
+    Ok(message)
+}
+
+fn fault_name(kind: Kind) -> &'static [u8]
+    ensures { result.now ≡ fault_name kind }
+{
+    match kind {
+        Kind::Quote => b"unclosed quote",
+        Kind::Brace => b"unclosed brace",
+        Kind::Bracket => b"unclosed bracket",
+        Kind::Variable => b"unclosed variable",
+        Kind::Extra => b"extra bytes",
+        Kind::Deep => b"nested too deep",
+    }
+}
+
+/// A text is no script: this is wrong with it, at this byte.
+pub fn fault_text(alloc: Global, kind: Kind, place: u64) -> Result<Text, NoMemory>
+    ensures { IfOk result (λ message. message ≡ fault_text kind place) }
+{
+    let mut message = Text::new(alloc, fault_name(kind))?;
+    message.append(b" at ")?;
+    message.append(format!(in alloc; "{place}")?.as_bytes())?;
+    Ok(message)
+}
+
+fn no_variable(alloc: Global, name: &[u8]) -> Result<Text, NoMemory>
+    ensures { IfOk result (λ message. message ≡ no_variable name.now) }
+{
+    let mut message = Text::new(alloc, b"can't read ")?;
+    push_quoted(&mut message, name)?;
+    message.append(b": no such variable")?;
+    Ok(message)
+}
+
+fn of_variable(alloc: Global, name: &[u8], what: &[u8]) -> Result<Text, NoMemory>
+    ensures { IfOk result (λ message. message ≡ of_variable name.now what.now) }
+{
+    let mut message = Text::new(alloc, b"variable ")?;
+    push_quoted(&mut message, name)?;
+    message.append(what)?;
+    Ok(message)
+}
+
+/// A variable of this name isn't read or written.
+pub fn variable_fault(alloc: Global, why: VarFault, name: &[u8]) -> Result<Text, NoMemory>
+    ensures { IfOk result (λ message. message ≡ variable_fault why name.now) }
+{
+    match why {
+        VarFault::NoVariable => no_variable(alloc, name),
+        VarFault::IsArray => of_variable(alloc, name, b" is an array"),
+        VarFault::NotArray => of_variable(alloc, name, b" is no array"),
+        VarFault::Exists => of_variable(alloc, name, b" exists"),
+        VarFault::NoMemory => Err(NoMemory),
+    }
+}
+
+/// The second word of a command is none of its subcommands.
+pub fn unknown_subcommand(alloc: Global, name: &[u8], command: &[u8]) -> Result<Text, NoMemory>
+    ensures { IfOk result (λ message. message ≡ unknown_subcommand name.now command.now) }
+{
+    let mut message = Text::new(alloc, b"unknown subcommand ")?;
+    push_quoted(&mut message, name)?;
+    message.append(b" of ")?;
+    push_quoted(&mut message, command)?;
+    Ok(message)
+}
+
+/// A name is that of no procedure.
+pub fn no_procedure(alloc: Global, name: &[u8]) -> Result<Text, NoMemory>
+    ensures { IfOk result (λ message. message ≡ no_procedure name.now) }
+{
+    let mut message = Text::new(alloc, b"no procedure ")?;
+    push_quoted(&mut message, name)?;
+    Ok(message)
+}
+
+/// A text is no expression: it is bad at this byte.
+pub fn bad_expression(alloc: Global, place: u64) -> Result<Text, NoMemory>
+    ensures { IfOk result (λ message. message ≡ bad_expression place) }
+{
+    let mut message = Text::new(alloc, b"syntax error in expression at ")?;
+    message.append(format!(in alloc; "{place}")?.as_bytes())?;
+    Ok(message)
+}
+
+/// A value has no truth.
+pub fn no_boolean(alloc: Global, value: &[u8]) -> Result<Text, NoMemory>
+    ensures { IfOk result (λ message. message ≡ no_boolean value.now) }
+{
+    let mut message = Text::new(alloc, b"expected boolean but got ")?;
+    push_quoted(&mut message, value)?;
+    Ok(message)
+}
+
+fn operator_name(op: Op) -> &'static [u8]
+    ensures { result.now ≡ operator_name op }
+{
+    match op {
+        Op::Minus => b"-",
+        Op::Plus => b"+",
+        Op::Invert => b"~",
+        Op::Not => b"!",
+        Op::Mul => b"*",
+        Op::Div => b"/",
+        Op::Rem => b"%",
+        Op::Add => b"+",
+        Op::Sub => b"-",
+        Op::Shl => b"<<",
+        Op::Shr => b">>",
+        Op::Lt => b"<",
+        Op::Gt => b">",
+        Op::Le => b"<=",
+        Op::Ge => b">=",
+        Op::EqNumber => b"==",
+        Op::NeNumber => b"!=",
+        Op::EqText => b"eq",
+        Op::NeText => b"ne",
+        Op::BitAnd => b"&",
+        Op::BitXor => b"^",
+        Op::BitOr => b"|",
+        Op::And => b"&&",
+        Op::Or => b"||",
+    }
+}
+
+fn no_operand(alloc: Global, op: Op) -> Result<Text, NoMemory>
+    ensures { IfOk result (λ message. message ≡ operator_fault ExprFault.NotNumber op []) }
+{
+    let mut message = Text::new(alloc, b"can't use non-numeric string as operand of ")?;
+    push_quoted(&mut message, operator_name(op))?;
+    Ok(message)
+}
+
+/// An operator gives no value, where this operand has no truth.
+pub fn operator_fault(
+    alloc: Global,
+    why: ExprFault,
+    op: Op,
+    operand: &[u8],
+) -> Result<Text, NoMemory>
+    ensures { IfOk result (λ message. message ≡ operator_fault why op operand.now) }
+{
+    match why {
+        ExprFault::NotNumber => no_operand(alloc, op),
+        ExprFault::NotBoolean => no_boolean(alloc, operand),
+        ExprFault::DivZero => Text::new(alloc, b"divide by zero"),
+        ExprFault::Overflow => Text::new(alloc, b"integer overflow"),
+        ExprFault::Shift => Text::new(alloc, b"bad shift count"),
+        ExprFault::NoMemory => Err(NoMemory),
+    }
+}

@@ -1,0 +1,28 @@
+//! What a run begins with, and what it comes to.
+
+use outside::Question;
+use txt_core::{Text, Words};
+
+/// What is run.
+#[derive(Debug, Drop)]
+pub enum Work {
+    /// A script.
+    Script(Text),
+    /// A command, by its words.
+    Call(Words),
+}
+
+/// What a run comes to.
+#[derive(Debug, Drop)]
+pub enum Outcome {
+    /// It ended with this code and result.
+    Done { code: u8, result: Text },
+    /// It stands at this question.
+    Asks(Question),
+    /// It ended where a cost was more than what was left of its budget.
+    Spent,
+    /// It ended where a script stood too deep.
+    TooDeep,
+    /// Memory ran out.
+    NoMemory,
+}

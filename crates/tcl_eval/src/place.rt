@@ -1,0 +1,178 @@
+//! Places in scripts.
+
+ghost use Rattle.std.specs.Prelude.{◌≡◌, ◌<◌, ◌+◌, ◌^◌, MatchOption, IfOk, IsSome, IsTrue, map, slice_get};
+ghost use Rattle.tcl_parse.specs.Tree.{parts, part, no_parts, words};
+ghost use Rattle.tcl_parse.specs.View.{part_of, word_of};
+ghost use Rattle.std.specs.Option.{option_copied};
+ghost use Rattle.tcl_eval.specs.Places.{tree_of, word_parts, inside, parts_from, walk, place_parts, command_at, behind, index_of, HasCommand, HasWord};
+ghost use Rattle.tcl_eval.specs.SeenPieces.{SeenAs, SeenAt};
+
+use std::alloc::Global;
+use std::rc::Rc;
+use tcl_parse::{Command, Piece, Script, Word};
+use txt_core::{NoMemory, Text};
+
+/// A place among the pieces of a word, or of an index within it: the word's command and its own place
+/// there, the pieces whose indexes lead there, and the next piece.
+#[derive(Drop)]
+pub struct Place {
+    pub script: Rc<Script>,
+    pub command: usize,
+    pub word: usize,
+    pub path: Vec<usize>,
+    pub next: usize,
+}
+
+/// The item at a place of a list, if any.
+fn item_at<T>(items: &[T], at: usize) -> Option<&T>
+    ensures { option_copied result ≡ slice_get items.now at }
+{
+    items.get(at)
+}
+
+/// Whether a script has a command at this place.
+pub fn has_command(script: &Script, at: usize) -> bool
+    ensures there { HasCommand result at (tree_of script.now) }
+    ensures small { IsTrue result → at < 2 ^ 63 }
+{
+    at < script.commands.as_slice().len()
+}
+
+/// The words of a command; none where there is no such command.
+fn words_of(script: &Script, at: usize) -> &[Word]
+    ensures { words (map word_of result.now) ≡ command_at at (tree_of script.now) }
+{
+    match item_at(script.commands.as_slice(), at) {
+        None => &[],
+        Some(command) => command.words.as_slice(),
+    }
+}
+
+/// Whether a command of a script has a word at this place.
+pub fn has_word(script: &Script, at: usize, word: usize) -> bool
+    ensures { HasWord result word (command_at at (tree_of script.now)) }
+{
+    word < words_of(script, at).len()
+}
+
+/// The pieces of a word; none where there is no such word.
+fn word_pieces(script: &Script, at: usize, word: usize) -> &[Piece]
+    ensures { parts (map part_of result.now) ≡ word_parts at word (tree_of script.now) }
+{
+    match item_at(words_of(script, at), word) {
+        None => &[],
+        Some(word) => word.pieces.as_slice(),
+    }
+}
+
+/// The first of these pieces, as those of a word that stands alone.
+pub fn alone(alloc: Global, pieces: Vec<Piece>) -> Result<Place, NoMemory>
+    ensures { IfOk result (λ place. place_parts place ≡ parts (map part_of pieces.items)) }
+{
+    let words = vec![in alloc; Word { pieces }]?;
+    let commands = vec![in alloc; Command { words }]?;
+    Ok(Place {
+        script: Rc::new(alloc, Script { commands })?,
+        command: 0,
+        word: 0,
+        path: Vec::new(alloc),
+        next: 0,
+    })
+}
+
+/// What a piece is. The index of an element isn't told.
+pub enum Seen<'a> {
+    Bytes(&'a Text),
+    Variable(&'a Text),
+    Element(&'a Text),
+    Bracket(&'a Rc<Script>),
+}
+
+/// What a piece is.
+fn look(piece: &Piece) -> Seen<'_>
+    ensures { SeenAs result (part_of piece.now) }
+{
+    match piece {
+        Piece::Bytes(bytes) => Seen::Bytes(bytes),
+        Piece::Var(name) => Seen::Variable(name),
+        Piece::Elem(array, _) => Seen::Element(array),
+        Piece::Sub(script) => Seen::Bracket(script),
+    }
+}
+
+/// The pieces of the index of a piece; none where it is no element of an array.
+fn index_of(piece: &Piece) -> &[Piece]
+    ensures { parts (map part_of result.now) ≡ index_of (part_of piece.now) }
+{
+    match piece {
+        Piece::Bytes(_) => &[],
+        Piece::Var(_) => &[],
+        Piece::Elem(_, index) => index.as_slice(),
+        Piece::Sub(_) => &[],
+    }
+}
+
+/// The pieces of the index of the piece at a place; none where that is no element of an array.
+fn index_pieces(pieces: &[Piece], at: usize) -> &[Piece]
+    ensures { parts (map part_of result.now) ≡ inside (parts_from at (parts (map part_of pieces.now))) }
+{
+    match item_at(pieces, at) {
+        None => &[],
+        Some(piece) => index_of(piece),
+    }
+}
+
+/// The pieces to which a path of indexes leads.
+fn follow<'a>(pieces: &'a [Piece], path: &[usize]) -> &'a [Piece]
+    ensures { parts (map part_of result.now) ≡ walk path.now (parts (map part_of pieces.now)) }
+{
+    let mut here = pieces;
+    for at in path {
+        here = index_pieces(here, *at);
+    }
+    here
+}
+
+impl Place {
+    /// What the piece is that stands here, if any.
+    pub fn piece(&self) -> Option<Seen<'_>>
+        ensures found { MatchOption result (place_parts self.now ≡ no_parts) (λ seen. SeenAt seen (place_parts self.now) (place_parts (behind self.now))) }
+        ensures small { IsSome result → self.now.next < 2 ^ 63 }
+    {
+        let pieces = word_pieces(&self.script, self.command, self.word);
+        let pieces = follow(pieces, self.path.as_slice());
+        if self.next >= pieces.len() {
+            return None;
+        }
+        match item_at(pieces, self.next) {
+            None => None,
+            Some(piece) => Some(look(piece)),
+        }
+    }
+
+    /// The place behind the piece that stands here.
+    pub fn behind(self) -> Place
+        requires { self.next < 2 ^ 63 }
+        ensures { result ≡ behind self }
+    {
+        Place {
+            next: self.next + 1,
+            ..self
+        }
+    }
+
+    /// The first piece of the index of the piece that stands here.
+    pub fn inside(&self, alloc: Global) -> Result<Place, NoMemory>
+        ensures { IfOk result (λ place. place_parts place ≡ inside (place_parts self.now)) }
+    {
+        let mut path = Vec::from_slice(alloc, self.path.as_slice())?;
+        path.push(self.next)?;
+        Ok(Place {
+            script: self.script.clone()?,
+            command: self.command,
+            word: self.word,
+            path,
+            next: 0,
+        })
+    }
+}

@@ -1,0 +1,175 @@
+//! A run, from one text that is run to the next.
+
+ghost use Rattle.std.specs.Prelude.{◌≡◌, ◌<◌, ◌≤◌, [], IfOk, OnOk, IsSome, None};
+ghost use Rattle.natives.specs.Names.{names_of};
+ghost use Rattle.outside.specs.declared.question.Answer.{Answer};
+ghost use Rattle.tcl_eval.specs.Eval.{nested, command};
+ghost use Rattle.tcl_eval.specs.Stack.{step_next, ready_next, ready_free};
+ghost use Rattle.tcl_eval.specs.Engine.{Same, Opens, IsIdle, Leaves, Stands, AnsweredAt, Falls, state_of, acted_next, outcome_next, PaidFor, Moves, FellTo, FellFrom, Begins};
+
+use crate::act::{MOST_LEVELS, answer_cost};
+use crate::engine::Engine;
+use crate::host::Host;
+use crate::outcome::{Outcome, Work};
+use crate::stack::{Acted, Frame, Ready, Settled, Step};
+use crate::words::command_cost;
+use cmd_table::Steps;
+use natives::Natives;
+use outside::Answer;
+use std::sync::ledger::Ledger;
+use txt_core::{NoMemory, Words};
+
+#[tactic(auto, using(crate::proofs::Stacks::frees_push))]
+impl<H: Host> Engine<H> {
+    /// Pays for a command and does it.
+    fn command<L: Ledger>(
+        &mut self,
+        natives: &Natives,
+        words: Words,
+        levels: u32,
+        steps: &mut Steps<L>,
+    ) -> Result<Acted, NoMemory>
+        ensures means { IfOk result (λ acted. Same (names_of natives.now) H.table self.new self.old (acted_next H.table acted self.new.question) (command (names_of natives.now) H.table (nested (names_of natives.now) H.table levels) words)) }
+        ensures pays { IfOk result (λ acted. PaidFor acted self.new self.old) }
+        ensures opens { IfOk result (λ acted. Opens acted self.new self.old) }
+        ensures steps { steps.old ≤ steps.new }
+    {
+        if !self.pay(command_cost(&words)) {
+            return Ok(Acted::Spent);
+        }
+        self.stack.push(Frame::Result)?;
+        let acted = self.act(natives, words, levels, steps)?;
+        Ok(acted)
+    }
+
+    /// Does what is ready.
+    fn do_ready<L: Ledger>(
+        &mut self,
+        natives: &Natives,
+        ready: Ready,
+        steps: &mut Steps<L>,
+    ) -> Result<Acted, NoMemory>
+        ensures means { IfOk result (λ acted. Same (names_of natives.now) H.table self.new self.old (acted_next H.table acted self.new.question) (ready_next (names_of natives.now) H.table ready)) }
+        ensures moves { IfOk result (λ acted. Moves acted (ready_free ready) self.new self.old) }
+        ensures opens { IfOk result (λ acted. Opens acted self.new self.old) }
+        ensures steps { steps.old ≤ steps.new }
+    {
+        match ready {
+            Ready::Command { words, levels } => {
+                let acted = self.command(natives, words, levels, steps)?;
+                Ok(acted)
+            }
+            Ready::Branch { branch, value } => {
+                let acted = self.go_on(branch, value)?;
+                Ok(acted)
+            }
+            Ready::TooDeep => Ok(Acted::TooDeep),
+            Ready::Spent => Ok(Acted::Spent),
+        }
+    }
+
+    /// Runs on until all ends or a question is asked.
+    fn run<L: Ledger>(
+        &mut self,
+        natives: &Natives,
+        mut step: Step,
+        steps: &mut Steps<L>,
+    ) -> Result<Outcome, NoMemory>
+        requires { self.old.question ≡ None }
+        ensures means { IfOk result (λ outcome. Same (names_of natives.now) H.table self.new self.old (outcome_next H.table outcome self.new.question) (step_next (names_of natives.now) H.table step)) }
+        ensures leaves { IfOk result (λ outcome. Leaves outcome self.new) }
+        ensures falls { IfOk result (λ outcome. FellTo outcome self.new self.old) }
+        ensures steps { steps.old ≤ steps.new }
+    {
+        'steps: loop {
+            let ready = match self.settle(step)? {
+                Settled::Ended(value) => {
+                    return Ok(Outcome::Done {
+                        code: value.code,
+                        result: value.result,
+                    });
+                }
+                Settled::Ready(ready) => ready,
+            };
+            match self.do_ready(natives, ready, steps)? {
+                Acted::Gives(value) => step = Step::Value(value),
+                Acted::Asks(question) => return Ok(Outcome::Asks(question)),
+                Acted::TooDeep => return Ok(Outcome::TooDeep),
+                Acted::Spent => return Ok(Outcome::Spent),
+            }
+        }
+    }
+
+    /// Runs on from what a command came to.
+    fn run_on<L: Ledger>(
+        &mut self,
+        natives: &Natives,
+        acted: Acted,
+        steps: &mut Steps<L>,
+    ) -> Result<Outcome, NoMemory>
+        requires { Begins acted self.old }
+        ensures means { IfOk result (λ outcome. Same (names_of natives.now) H.table self.new self.old (outcome_next H.table outcome self.new.question) (acted_next H.table acted self.old.question)) }
+        ensures leaves { IfOk result (λ outcome. Leaves outcome self.new) }
+        ensures falls { IfOk result (λ outcome. FellFrom acted outcome self.new self.old) }
+        ensures steps { steps.old ≤ steps.new }
+    {
+        match acted {
+            Acted::Gives(value) => {
+                let outcome = self.run(natives, Step::Value(value), steps)?;
+                Ok(outcome)
+            }
+            Acted::Asks(question) => Ok(Outcome::Asks(question)),
+            Acted::TooDeep => Ok(Outcome::TooDeep),
+            Acted::Spent => Ok(Outcome::Spent),
+        }
+    }
+
+    /// Begins a run.
+    pub(crate) fn begin<L: Ledger>(
+        &mut self,
+        natives: &Natives,
+        work: Work,
+        depth: u32,
+        steps: &mut Steps<L>,
+    ) -> Result<Outcome, NoMemory>
+        requires idle { IsIdle self.old }
+        requires least { 1 ≤ depth }
+        requires most { depth ≤ 200 }
+        ensures stands { IfOk result (λ outcome. Stands (names_of natives.now) H.table outcome self.new (record { work = work; depth = depth; budget = self.old.budget; state = state_of self.old }) []) }
+        ensures leaves { IfOk result (λ outcome. Leaves outcome self.new) }
+        ensures lower { OnOk result (self.new.budget ≤ self.old.budget) }
+        ensures steps { steps.old ≤ steps.new }
+    {
+        let acted = match work {
+            Work::Script(text) => self.enter_text(&text, MOST_LEVELS + 1 - depth)?,
+            Work::Call(words) => self.command(natives, words, MOST_LEVELS - depth, steps)?,
+        };
+        let outcome = self.run_on(natives, acted, steps)?;
+        Ok(outcome)
+    }
+
+    /// Goes on with an answer.
+    pub(crate) fn answer<L: Ledger>(
+        &mut self,
+        natives: &Natives,
+        answer: Answer,
+        steps: &mut Steps<L>,
+    ) -> Result<Outcome, NoMemory>
+        requires { IsSome self.old.question }
+        ensures step { IfOk result (λ outcome. AnsweredAt (names_of natives.now) H.table outcome self.new self.old answer) }
+        ensures leaves { IfOk result (λ outcome. Leaves outcome self.new) }
+        ensures falls { IfOk result (λ outcome. Falls H.table outcome self.new self.old answer) }
+        ensures steps { steps.old ≤ steps.new }
+    {
+        if !self.pay(answer_cost(&answer)) {
+            return Ok(Outcome::Spent);
+        }
+        let Some(open) = self.question.take() else {
+            return Ok(Outcome::Spent);
+        };
+        let reply = self.host.answered(&open.words, &answer);
+        let acted = self.replied(reply, open.words, open.levels)?;
+        let outcome = self.run_on(natives, acted, steps)?;
+        Ok(outcome)
+    }
+}

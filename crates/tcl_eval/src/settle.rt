@@ -1,0 +1,408 @@
+//! What goes on before the next text is run.
+
+ghost use Rattle.std.specs.Prelude.{◌≡◌, ◌<◌, ◌≤◌, ◌+◌, ◌++◌, ◌^◌, [], ◌∷◌, length, IfOk, OnOk};
+ghost use Rattle.tcl_eval.specs.Eval.{give, read_as, read_variable, element_name, on_ok, word_end, command_end, proc_end, catch_end, run_parts, run_words, run_commands, run_script, nested, read};
+ghost use Rattle.tcl_eval.specs.Places.{tree_of, command_at, commands_from, words_from, place_parts, inside, behind, parts_size, words_size, commands_size};
+ghost use Rattle.tcl_eval.specs.Stack.{frame_next, step_next, settled_next, frame_weight, stack_weight, step_weight, frame_free, stack_free, step_free, settled_free};
+ghost use Rattle.tcl_eval.specs.Engine.{Same, Pays, Stays, Remains, Emptied};
+ghost use Rattle.tcl_eval.specs.Natives.{Names};
+ghost use Rattle.tcl_eval.specs.declared.stack.Frame.{Frame};
+
+use crate::engine::Engine;
+use crate::host::Host;
+use crate::message::variable_fault;
+use crate::place::{Place, Seen, has_command, has_word};
+use crate::stack::{Ended, Frame, Ready, Settled, Step};
+use crate::value::{MOST_BYTES, OK, done, error, returned, too_long};
+use crate::words::{BYTES_FOR_ONE, push_word};
+use std::rc::Rc;
+use tcl_frame::VarFault;
+use tcl_parse::Script;
+use txt_core::{NoMemory, Text, Words};
+
+#[tactic(auto, using(crate::proofs::Stacks::frees_push))]
+impl<H: Host> Engine<H> {
+    /// Pays a cost, where so much is left.
+    pub(crate) fn pay(&mut self, cost: u128) -> bool
+        ensures { Pays result cost self.old self.new }
+    {
+        if (self.budget as u128) < cost {
+            return false;
+        }
+        self.budget -= cost as u64;
+        true
+    }
+
+    /// The value of a variable, or the error of reading it.
+    fn read(&self, name: &Text) -> Result<Ended, NoMemory>
+        ensures { IfOk result (λ value. value ≡ read_as self.now.frames name.now) }
+    {
+        match self.frames.read(name) {
+            Ok(result) => Ok(Ended { code: OK, result }),
+            Err(VarFault::NoMemory) => Err(NoMemory),
+            Err(why) => error(self.alloc, variable_fault(self.alloc, why, name.bytes())?),
+        }
+    }
+
+    /// Goes on with the index of an element of an array.
+    fn enter_index(
+        &mut self,
+        array: Text,
+        place: Place,
+        so_far: Text,
+        levels: u32,
+    ) -> Result<Step, NoMemory>
+        requires { place.next < 2 ^ 63 }
+        ensures means { IfOk result (λ step. (names : Names) → Same names H.table self.new self.old (step_next names H.table step) (λ k. run_parts (nested names H.table levels) (inside (place_parts place)) [] (frame_next names H.table (Frame.Index array) (frame_next names H.table (Frame.Word (behind place) so_far levels) k)))) }
+        ensures weighs { IfOk result (λ step. stack_weight self.new.stack.items + step_weight step ≤ stack_weight self.old.stack.items + (parts_size (inside (place_parts place)) + parts_size (place_parts (behind place)) + 4)) }
+        ensures keeps { IfOk result (λ step. Stays step self.new self.old) }
+    {
+        let index = place.inside(self.alloc)?;
+        let place = place.behind();
+        self.stack.push(Frame::Word {
+            place,
+            so_far,
+            levels,
+        })?;
+        self.stack.push(Frame::Index { array })?;
+        Ok(Step::Pieces {
+            place: index,
+            so_far: Text::empty(self.alloc),
+            levels,
+        })
+    }
+
+    /// Goes on with a bracket.
+    fn enter_bracket(
+        &mut self,
+        script: Rc<Script>,
+        place: Place,
+        so_far: Text,
+        levels: u32,
+    ) -> Result<Step, NoMemory>
+        requires { place.next < 2 ^ 63 }
+        ensures means { IfOk result (λ step. (names : Names) → Same names H.table self.new self.old (step_next names H.table step) (λ k. run_script names H.table levels (read (tree_of script.value)) (frame_next names H.table (Frame.Word (behind place) so_far levels) k))) }
+        ensures weighs { IfOk result (λ step. stack_weight self.new.stack.items + step_weight step ≤ stack_weight self.old.stack.items + (commands_size (tree_of script.value) + parts_size (place_parts (behind place)) + 3)) }
+        ensures keeps { IfOk result (λ step. Stays step self.new self.old) }
+    {
+        if levels == 0 {
+            return Ok(Step::Stop(Ready::TooDeep));
+        }
+        self.stack.push(Frame::Word {
+            place: place.behind(),
+            so_far,
+            levels,
+        })?;
+        self.stack.push(Frame::Script {
+            script,
+            next: 0,
+            levels: levels - 1,
+        })?;
+        Ok(Step::Value(done(self.alloc)))
+    }
+
+    /// Goes on with the variable of this name.
+    fn pass_variable(
+        &mut self,
+        name: &Text,
+        place: Place,
+        mut so_far: Text,
+        levels: u32,
+    ) -> Result<Step, NoMemory>
+        ensures means { IfOk result (λ step. (names : Names) → Same names H.table self.new self.old (step_next names H.table step) (λ k. read_variable name.now (frame_next names H.table (Frame.Word place so_far levels) k))) }
+        ensures weighs { IfOk result (λ step. stack_weight self.new.stack.items + step_weight step ≤ stack_weight self.old.stack.items + (parts_size (place_parts place) + 1)) }
+        ensures keeps { IfOk result (λ step. Stays step self.new self.old) }
+    {
+        let value = self.read(name)?;
+        if value.code != OK {
+            return Ok(Step::Value(value));
+        }
+        so_far.append(value.result.bytes())?;
+        Ok(Step::Pieces {
+            place,
+            so_far,
+            levels,
+        })
+    }
+
+    /// Goes on with the next piece of a word.
+    fn next_piece(&mut self, place: Place, mut so_far: Text, levels: u32) -> Result<Step, NoMemory>
+        ensures means { IfOk result (λ step. (names : Names) → Same names H.table self.new self.old (step_next names H.table step) (run_parts (nested names H.table levels) (place_parts place) so_far)) }
+        ensures falls { IfOk result (λ step. stack_weight self.new.stack.items + step_weight step < stack_weight self.old.stack.items + (parts_size (place_parts place) + 1)) }
+        ensures keeps { IfOk result (λ step. Stays step self.new self.old) }
+    {
+        match place.piece() {
+            None => Ok(Step::Value(Ended {
+                code: OK,
+                result: so_far,
+            })),
+            Some(Seen::Bytes(bytes)) => {
+                so_far.append(bytes.bytes())?;
+                Ok(Step::Pieces {
+                    place: place.behind(),
+                    so_far,
+                    levels,
+                })
+            }
+            Some(Seen::Variable(name)) => {
+                let name = Text::new(self.alloc, name.bytes())?;
+                let step = self.pass_variable(&name, place.behind(), so_far, levels)?;
+                Ok(step)
+            }
+            Some(Seen::Element(array)) => {
+                let array = Text::new(self.alloc, array.bytes())?;
+                let step = self.enter_index(array, place, so_far, levels)?;
+                Ok(step)
+            }
+            Some(Seen::Bracket(script)) => {
+                let script = script.clone()?;
+                let step = self.enter_bracket(script, place, so_far, levels)?;
+                Ok(step)
+            }
+        }
+    }
+
+    /// Goes on with the next word of a command.
+    fn next_word(
+        &mut self,
+        script: Rc<Script>,
+        at: usize,
+        values: Words,
+        levels: u32,
+    ) -> Result<Step, NoMemory>
+        ensures means { IfOk result (λ step. (names : Names) → Same names H.table self.new self.old (step_next names H.table step) (run_words names H.table (nested names H.table levels) (words_from (length values) (command_at at (tree_of script.value))) values)) }
+        ensures falls { IfOk result (λ step. stack_weight self.new.stack.items + step_weight step ≤ stack_weight self.old.stack.items + words_size (words_from (length values) (command_at at (tree_of script.value)))) }
+        ensures keeps { IfOk result (λ step. Stays step self.new self.old) }
+    {
+        let word = values.len();
+        if !has_word(&script, at, word) {
+            return Ok(Step::Stop(Ready::Command {
+                words: values,
+                levels,
+            }));
+        }
+        let place = Place {
+            script: script.clone()?,
+            command: at,
+            word,
+            path: Vec::new(self.alloc),
+            next: 0,
+        };
+        self.stack.push(Frame::Command {
+            script,
+            at,
+            values,
+            levels,
+        })?;
+        Ok(Step::Pieces {
+            place,
+            so_far: Text::empty(self.alloc),
+            levels,
+        })
+    }
+
+    /// Gives a command the value of its next word.
+    fn give_word(
+        &mut self,
+        script: Rc<Script>,
+        at: usize,
+        mut values: Words,
+        levels: u32,
+        value: Ended,
+    ) -> Result<Step, NoMemory>
+        ensures means { IfOk result (λ step. (names : Names) → Same names H.table self.new self.old (step_next names H.table step) (λ k. frame_next names H.table (Frame.Command script at values levels) k value.code value.result)) }
+        ensures falls { IfOk result (λ step. stack_weight self.new.stack.items + step_weight step < stack_weight self.old.stack.items + frame_weight (Frame.Command script at values levels)) }
+        ensures keeps { IfOk result (λ step. Stays step self.new self.old) }
+    {
+        if value.code != OK {
+            return Ok(Step::Value(value));
+        }
+        if value.result.len() > MOST_BYTES {
+            return Ok(Step::Value(too_long(self.alloc)?));
+        }
+        push_word(&mut values, value.result)?;
+        let step = self.next_word(script, at, values, levels)?;
+        Ok(step)
+    }
+
+    /// Gives a word the value of its next piece.
+    fn give_piece(
+        &mut self,
+        place: Place,
+        mut so_far: Text,
+        levels: u32,
+        value: Ended,
+    ) -> Result<Step, NoMemory>
+        ensures means { IfOk result (λ step. (names : Names) → Same names H.table self.new self.old (step_next names H.table step) (λ k. frame_next names H.table (Frame.Word place so_far levels) k value.code value.result)) }
+        ensures falls { IfOk result (λ step. stack_weight self.new.stack.items + step_weight step < stack_weight self.old.stack.items + frame_weight (Frame.Word place so_far levels)) }
+        ensures keeps { IfOk result (λ step. Stays step self.new self.old) }
+    {
+        if value.code != OK {
+            return Ok(Step::Value(value));
+        }
+        so_far.append(value.result.bytes())?;
+        Ok(Step::Pieces {
+            place,
+            so_far,
+            levels,
+        })
+    }
+
+    /// Gives a script what its command before `next` came to.
+    fn give_script(
+        &mut self,
+        script: Rc<Script>,
+        next: usize,
+        levels: u32,
+        value: Ended,
+    ) -> Result<Step, NoMemory>
+        ensures means { IfOk result (λ step. (names : Names) → Same names H.table self.new self.old (step_next names H.table step) (λ k. frame_next names H.table (Frame.Script script next levels) k value.code value.result)) }
+        ensures falls { IfOk result (λ step. stack_weight self.new.stack.items + step_weight step < stack_weight self.old.stack.items + frame_weight (Frame.Script script next levels)) }
+        ensures keeps { IfOk result (λ step. Stays step self.new self.old) }
+    {
+        if value.code != OK {
+            return Ok(Step::Value(value));
+        }
+        if !has_command(&script, next) {
+            return Ok(Step::Value(value));
+        }
+        let again = script.clone()?;
+        self.stack.push(Frame::Script {
+            script: again,
+            next: next + 1,
+            levels,
+        })?;
+        let step = self.next_word(script, next, Words::new(self.alloc), levels)?;
+        Ok(step)
+    }
+
+    /// Reads an element of an array, by its index.
+    fn give_index(&mut self, array: Text, value: Ended) -> Result<Step, NoMemory>
+        ensures means { IfOk result (λ step. (names : Names) → Same names H.table self.new self.old (step_next names H.table step) (λ k. frame_next names H.table (Frame.Index array) k value.code value.result)) }
+        ensures falls { IfOk result (λ step. stack_weight self.new.stack.items + step_weight step < stack_weight self.old.stack.items + frame_weight (Frame.Index array)) }
+        ensures keeps { IfOk result (λ step. Stays step self.new self.old) }
+    {
+        if value.code != OK {
+            return Ok(Step::Value(value));
+        }
+        let mut name = array;
+        name.append(b"(")?;
+        name.append(value.result.bytes())?;
+        name.append(b")")?;
+        Ok(Step::Value(self.read(&name)?))
+    }
+
+    /// Pays for the result of a command.
+    fn end_command(&mut self, value: Ended) -> Result<Step, NoMemory>
+        ensures means { IfOk result (λ step. (names : Names) → Same names H.table self.new self.old (step_next names H.table step) (λ k. command_end k value.code value.result)) }
+        ensures falls { IfOk result (λ step. stack_weight self.new.stack.items + step_weight step ≤ stack_weight self.old.stack.items) }
+        ensures keeps { IfOk result (λ step. Stays step self.new self.old) }
+    {
+        if value.result.len() > MOST_BYTES {
+            return Ok(Step::Value(too_long(self.alloc)?));
+        }
+        if !self.pay(value.result.len() as u128 / BYTES_FOR_ONE as u128) {
+            return Ok(Step::Stop(Ready::Spent));
+        }
+        Ok(Step::Value(value))
+    }
+
+    /// Ends a procedure, whose frame of variables goes.
+    fn end_procedure(&mut self, value: Ended) -> Result<Step, NoMemory>
+        ensures means { IfOk result (λ step. (names : Names) → Same names H.table self.new self.old (step_next names H.table step) (λ k. proc_end k value.code value.result)) }
+        ensures falls { IfOk result (λ step. stack_weight self.new.stack.items + step_weight step ≤ stack_weight self.old.stack.items) }
+        ensures keeps { IfOk result (λ step. Stays step self.new self.old) }
+    {
+        if self.frames.depth() > 0 {
+            self.frames.pop();
+        }
+        Ok(Step::Value(returned(self.alloc, value)?))
+    }
+
+    /// Ends a `catch`: the code is the result, and the result goes to the variable, where one is named.
+    fn end_catch(&mut self, name: Option<Text>, value: Ended) -> Result<Step, NoMemory>
+        ensures means { IfOk result (λ step. (names : Names) → Same names H.table self.new self.old (step_next names H.table step) (λ k. catch_end name k value.code value.result)) }
+        ensures falls { IfOk result (λ step. stack_weight self.new.stack.items + step_weight step ≤ stack_weight self.old.stack.items) }
+        ensures keeps { IfOk result (λ step. Stays step self.new self.old) }
+    {
+        let code = value.code;
+        let code = Text::new(self.alloc, format!(in self.alloc; "{code}")?.as_bytes())?;
+        match name {
+            None => Ok(Step::Value(Ended {
+                code: OK,
+                result: code,
+            })),
+            Some(name) => {
+                let stored = self.store(&name, value.result, code)?;
+                Ok(Step::Value(stored))
+            }
+        }
+    }
+
+    /// Gives a frame, which stood on top, the code and result for which it waited.
+    fn give(&mut self, frame: Frame, value: Ended) -> Result<Step, NoMemory>
+        ensures means { IfOk result (λ step. (names : Names) → Same names H.table self.new self.old (step_next names H.table step) (λ k. frame_next names H.table frame k value.code value.result)) }
+        ensures falls { IfOk result (λ step. stack_weight self.new.stack.items + step_weight step < stack_weight self.old.stack.items + frame_weight frame) }
+        ensures keeps { OnOk result (Remains self.new self.old) }
+        ensures free { IfOk result (λ step. stack_free self.new.stack.items + step_free step ≤ stack_free self.old.stack.items + frame_free frame) }
+    {
+        let step = match frame {
+            Frame::Script {
+                script,
+                next,
+                levels,
+            } => self.give_script(script, next, levels, value)?,
+            Frame::Command {
+                script,
+                at,
+                values,
+                levels,
+            } => self.give_word(script, at, values, levels, value)?,
+            Frame::Word {
+                place,
+                so_far,
+                levels,
+            } => self.give_piece(place, so_far, levels, value)?,
+            Frame::Index { array } => self.give_index(array, value)?,
+            Frame::Result => self.end_command(value)?,
+            Frame::Procedure => self.end_procedure(value)?,
+            Frame::Caught { name } => self.end_catch(name, value)?,
+            Frame::Expression { expr, levels } => self.give_expression(expr, levels, value)?,
+            Frame::Operand => self.give_operand(value)?,
+            Frame::Operation { op } => self.give_operation(op, value)?,
+            Frame::Left { op, right, levels } => self.give_left(op, right, levels, value)?,
+            Frame::Right { op, left } => self.give_right(op, left, value)?,
+            Frame::Choice {
+                first,
+                second,
+                levels,
+            } => self.give_choice(first, second, levels, value)?,
+            Frame::Value => self.give_value(value)?,
+            Frame::Branch(branch) => Step::Stop(Ready::Branch { branch, value }),
+        };
+        Ok(step)
+    }
+
+    /// Goes on until a text may be run, or nothing is left to do.
+    pub(crate) fn settle(&mut self, mut step: Step) -> Result<Settled, NoMemory>
+        ensures means { IfOk result (λ settled. (names : Names) → Same names H.table self.new self.old (settled_next names H.table settled) (step_next names H.table step)) }
+        ensures empty { IfOk result (λ settled. Emptied settled self.new) }
+        ensures keeps { OnOk result (Remains self.new self.old) }
+        ensures free { IfOk result (λ settled. stack_free self.new.stack.items + settled_free settled ≤ stack_free self.old.stack.items + step_free step) }
+    {
+        'steps: loop {
+            step = match step {
+                Step::Stop(ready) => return Ok(Settled::Ready(ready)),
+                Step::Pieces {
+                    place,
+                    so_far,
+                    levels,
+                } => self.next_piece(place, so_far, levels)?,
+                Step::Value(value) => match self.stack.pop() {
+                    None => return Ok(Settled::Ended(value)),
+                    Some(frame) => self.give(frame, value)?,
+                },
+            };
+        }
+    }
+}

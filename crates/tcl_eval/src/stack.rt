@@ -1,0 +1,130 @@
+//! Suspended work.
+
+use crate::branch::Branch;
+use crate::place::Place;
+use outside::Question;
+use std::boxed::Box;
+use std::rc::Rc;
+use tcl_expr::{Expr, Op};
+use tcl_parse::Script;
+use txt_core::{Text, Words};
+
+/// The code and the result of a command or a script, or the value of a word or a part of one.
+#[derive(Drop)]
+pub struct Ended {
+    pub code: u8,
+    pub result: Text,
+}
+
+/// Suspended work, which waits for a code and a result. `levels` is how many levels are left to a
+/// script that it runs.
+#[derive(Drop)]
+pub enum Frame {
+    /// A script whose commands from `next` on are still to be run; it waits for the one before.
+    Script {
+        script: Rc<Script>,
+        next: usize,
+        levels: u32,
+    },
+    /// A command with the values of its first words; it waits for that of the next word.
+    Command {
+        script: Rc<Script>,
+        at: usize,
+        values: Words,
+        levels: u32,
+    },
+    /// A word, or an index, with the value of its first pieces; it waits for that of the piece before
+    /// `place`.
+    Word {
+        place: Place,
+        so_far: Text,
+        levels: u32,
+    },
+    /// An element of this array, which waits for its index.
+    Index {
+        array: Text,
+    },
+    /// A command under way, whose result is paid for.
+    Result,
+    /// A procedure under way.
+    Procedure,
+    /// A `catch` under way, and the variable for the result, where one is named.
+    Caught {
+        name: Option<Text>,
+    },
+    /// An expression, which is evaluated once it gets a good end.
+    Expression {
+        expr: Expr,
+        levels: u32,
+    },
+    /// An operand of an expression that is a word, which waits for its value.
+    Operand,
+    /// A unary operator, which waits for its operand.
+    Operation {
+        op: Op,
+    },
+    /// A binary operator, which waits for its left operand.
+    Left {
+        op: Op,
+        right: Box<Expr>,
+        levels: u32,
+    },
+    /// A binary operator, which waits for its right operand.
+    Right {
+        op: Op,
+        left: Text,
+    },
+    /// A choice within an expression, which waits for its first part.
+    Choice {
+        first: Box<Expr>,
+        second: Box<Expr>,
+        levels: u32,
+    },
+    /// An `expr` under way.
+    Value,
+    /// A choice or a loop under way, which goes on with a text.
+    Branch(Branch),
+}
+
+/// What may run a text and is done outside of what goes on before it, or an end before all is done.
+#[derive(Drop)]
+pub enum Ready {
+    /// A command, which is to be paid for.
+    Command { words: Words, levels: u32 },
+    /// A choice or a loop gets what it waited for.
+    Branch { branch: Branch, value: Ended },
+    TooDeep,
+    Spent,
+}
+
+/// What comes before the next text may be run.
+#[derive(Drop)]
+pub enum Settled {
+    /// All is done.
+    Ended(Ended),
+    Ready(Ready),
+}
+
+/// A step of what is under way.
+#[derive(Drop)]
+pub enum Step {
+    /// The frame on top gets this.
+    Value(Ended),
+    /// A word goes on with the pieces at this place.
+    Pieces {
+        place: Place,
+        so_far: Text,
+        levels: u32,
+    },
+    /// Something is to be paid for, or all ends.
+    Stop(Ready),
+}
+
+/// What a command that is under way comes to.
+#[derive(Drop)]
+pub enum Acted {
+    Gives(Ended),
+    Asks(Question),
+    TooDeep,
+    Spent,
+}

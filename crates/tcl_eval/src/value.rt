@@ -1,0 +1,144 @@
+//! Codes with results.
+
+ghost use Rattle.std.specs.Prelude.{◌≡◌, [], IfOk};
+ghost use Rattle.tcl_eval.specs.Messages.{too_long};
+ghost use Rattle.tcl_eval.specs.Eval.{ended, error_of, shortened, wrong_words, return_of, raised_of, break_of, continue_of, returned};
+
+use crate::message::{outside_loop, wrong_count};
+use crate::stack::Ended;
+use crate::words::{copy_word, word_at};
+use std::alloc::Global;
+use txt_core::{NoMemory, Text, Words};
+
+/// How many bytes a word, a stored value or a result may have.
+pub const MOST_BYTES: usize = 1_048_576;
+
+/// The code of a good end.
+pub const OK: u8 = 0;
+
+const ERROR: u8 = 1;
+
+const RETURN: u8 = 2;
+
+/// The code of a `break`.
+pub const BREAK: u8 = 3;
+
+/// The code of a `continue`.
+pub const CONTINUE: u8 = 4;
+
+/// A good end with the empty result.
+pub fn done(alloc: Global) -> Ended
+    ensures { result ≡ ended 0 [] }
+{
+    Ended {
+        code: OK,
+        result: Text::empty(alloc),
+    }
+}
+
+/// The error of a word, a value or a result that is too long.
+pub fn too_long(alloc: Global) -> Result<Ended, NoMemory>
+    ensures { IfOk result (λ value. value ≡ ended 1 too_long) }
+{
+    Ok(Ended {
+        code: ERROR,
+        result: Text::new(alloc, b"value too long")?,
+    })
+}
+
+/// An error with this text, which isn't too long.
+pub fn failed(message: Text) -> Ended
+    ensures { result ≡ ended 1 message }
+{
+    Ended {
+        code: ERROR,
+        result: message,
+    }
+}
+
+/// An error with this text.
+pub fn error(alloc: Global, message: Text) -> Result<Ended, NoMemory>
+    ensures { IfOk result (λ value. value ≡ error_of message) }
+{
+    if message.len() > MOST_BYTES {
+        return too_long(alloc);
+    }
+    Ok(Ended {
+        code: ERROR,
+        result: message,
+    })
+}
+
+/// A built-in has the wrong number of words.
+pub fn wrong_words(alloc: Global, words: &Words) -> Result<Ended, NoMemory>
+    ensures { IfOk result (λ value. value ≡ wrong_words words.now) }
+{
+    error(alloc, wrong_count(alloc, word_at(words, 0))?)
+}
+
+/// `return ?value?`.
+pub fn do_return(alloc: Global, words: &Words) -> Result<Ended, NoMemory>
+    ensures { IfOk result (λ value. value ≡ return_of words.now) }
+{
+    if words.len() != 1 && words.len() != 2 {
+        return wrong_words(alloc, words);
+    }
+    Ok(Ended {
+        code: RETURN,
+        result: copy_word(alloc, words, 1)?,
+    })
+}
+
+/// `error text`.
+pub fn do_error(alloc: Global, words: &Words) -> Result<Ended, NoMemory>
+    ensures { IfOk result (λ value. value ≡ raised_of words.now) }
+{
+    if words.len() != 2 {
+        return wrong_words(alloc, words);
+    }
+    Ok(Ended {
+        code: ERROR,
+        result: copy_word(alloc, words, 1)?,
+    })
+}
+
+/// `break`.
+pub fn do_break(alloc: Global, words: &Words) -> Result<Ended, NoMemory>
+    ensures { IfOk result (λ value. value ≡ break_of words.now) }
+{
+    if words.len() != 1 {
+        return wrong_words(alloc, words);
+    }
+    Ok(Ended {
+        code: BREAK,
+        result: Text::empty(alloc),
+    })
+}
+
+/// `continue`.
+pub fn do_continue(alloc: Global, words: &Words) -> Result<Ended, NoMemory>
+    ensures { IfOk result (λ value. value ≡ continue_of words.now) }
+{
+    if words.len() != 1 {
+        return wrong_words(alloc, words);
+    }
+    Ok(Ended {
+        code: CONTINUE,
+        result: Text::empty(alloc),
+    })
+}
+
+/// A procedure's body ended with this.
+pub fn returned(alloc: Global, value: Ended) -> Result<Ended, NoMemory>
+    ensures { IfOk result (λ after. after ≡ returned value.code value.result) }
+{
+    match value.code {
+        RETURN => Ok(Ended {
+            code: OK,
+            result: value.result,
+        }),
+        BREAK => error(alloc, outside_loop(alloc, b"break")?),
+        CONTINUE => error(alloc, outside_loop(alloc, b"continue")?),
+        _ => Ok(value),
+    }
+}

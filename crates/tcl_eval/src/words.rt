@@ -1,0 +1,91 @@
+//! The words of commands.
+
+ghost use Rattle.std.specs.Prelude.{◌≡◌, ◌∷◌, ◌<◌, ◌^◌, ◌*◌, ◌++◌, IfOk, OnOk, drop, length, sum_by, slice_index_or, []};
+ghost use Rattle.tcl_eval.specs.Eval.{command_cost, word_at, joined};
+
+use std::alloc::Global;
+use txt_core::{NoMemory, Text, Words};
+
+/// So many whole bytes cost 1.
+pub const BYTES_FOR_ONE: u64 = 1024;
+
+/// The word at a place; the empty text where there is none.
+pub fn word_at(words: &Words, place: usize) -> &[u8]
+    ensures { result.now ≡ word_at words.now place }
+{
+    match words.get(place) {
+        Some(word) => word.bytes(),
+        None => &[],
+    }
+}
+
+/// A copy of the word at a place; the empty text where there is none.
+pub fn copy_word(alloc: Global, words: &Words, place: usize) -> Result<Text, NoMemory>
+    ensures { IfOk result (λ word. word ≡ word_at words.now place) }
+{
+    Text::new(alloc, word_at(words, place))
+}
+
+/// What a command costs.
+pub fn command_cost(words: &Words) -> u128
+    ensures { result ≡ command_cost words.now }
+{
+    let mut bytes = 0u128;
+    for word in words.as_slice() {
+        bytes += word.len() as u128;
+    }
+    1 + bytes / (BYTES_FOR_ONE as u128)
+}
+
+/// Puts a word at the end.
+pub fn push_word(words: &mut Words, word: Text) -> Result<(), NoMemory>
+    ensures { OnOk result (words.new ≡ words.old ++ word ∷ []) }
+{
+    words.push(word).map_err(|_| NoMemory)
+}
+
+/// Puts copies of words at the end.
+pub fn push_all(alloc: Global, words: &mut Words, more: &[Text]) -> Result<(), NoMemory>
+    ensures { OnOk result (words.new ≡ words.old ++ more.now) }
+{
+    for word in more {
+        push_word(words, Text::new(alloc, word.bytes())?)?;
+    }
+    Ok(())
+}
+
+/// The words behind the first one.
+pub fn behind_name(words: &Words) -> &[Text]
+    ensures { result.now ≡ drop 1 words.now }
+{
+    match words.as_slice().split_first() {
+        None => &[],
+        Some((_, rest)) => rest,
+    }
+}
+
+/// The words of a call of a built-in, with its own name as the first one.
+pub fn with_name(alloc: Global, name: &Text, words: &Words) -> Result<Words, NoMemory>
+    ensures { IfOk result (λ renamed. renamed ≡ name.now ∷ drop 1 words.now) }
+{
+    let mut renamed = Words::new(alloc);
+    push_word(&mut renamed, Text::new(alloc, name.bytes())?)?;
+    push_all(alloc, &mut renamed, behind_name(words))?;
+    Ok(renamed)
+}
+
+/// Words joined by a space.
+pub fn joined(alloc: Global, words: &[Text]) -> Result<Text, NoMemory>
+    ensures { IfOk result (λ text. text ≡ joined words.now) }
+{
+    let mut text = Text::empty(alloc);
+    let mut left = words;
+    'words: while let Some((word, more)) = left.split_first() {
+        text.append(word.bytes())?;
+        if !more.is_empty() {
+            text.append(b" ")?;
+        }
+        left = more;
+    }
+    Ok(text)
+}
