@@ -1,0 +1,18 @@
+//! What an interpreter comes to.
+
+use http_resp::Response;
+use outside::Question;
+use tcl_eval::Outcome;
+
+/// What an interpreter comes to, and so what is to be done next.
+#[derive(Debug, Drop)]
+pub enum Next {
+    /// It stands at this question, which `resume` answers.
+    Asks(Question),
+    /// This response is to be written, which `written` tells it.
+    Write(Response),
+    /// Its run has ended. A run that was answered ended with code 0 and the empty result.
+    Ended(Outcome),
+    /// Memory ran out.
+    NoMemory,
+}
