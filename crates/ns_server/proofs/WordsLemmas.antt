@@ -1,5 +1,5 @@
 -- Lists of one word.
-use Rattle.std.proofs.Common.{◌≡◌, ◌≤◌, ◌<◌, ℕ, List, [], ◌∷◌, length, slice_index_or, Bool, IsTrue, sym, ap, ◌∙◌, arith}
+use Rattle.std.proofs.Common.{◌≡◌, ◌≤◌, ◌<◌, ℕ, List, [], ◌∷◌, length, slice_index_or, slice_set, drop, Bool, IsTrue, refl, sym, ap, ◌∙◌, arith}
 use Rattle.std.specs.Bool.{Decides}
 
 -- A list of exactly one word.
@@ -13,3 +13,8 @@ pub one_word_is : (words : List (List ℕ)) (word wanted : List ℕ) (test : Boo
     → (IsTrue test → words ≡ wanted ∷ []) × (words ≡ wanted ∷ [] → IsTrue test)
 one_word_is words word wanted test one decides =
     ((λ yes. one ∙ ap (λ w. w ∷ []) (decides.0 yes)), (λ is. decides.1 (let both : word ∷ [] ≡ wanted ∷ [] = sym one ∙ is in cc)))
+
+-- A list whose first item was written has the other ones as they were.
+pub others_stay : {A : Type 0} (xs : List A) (x : A) → drop 1 (slice_set xs 0 x) ≡ drop 1 xs
+others_stay [] x = refl
+others_stay (y ∷ xs) x = refl

@@ -29,31 +29,31 @@ outside_of s = record { input = s.input; read_faults = s.read_faults; output = s
 abbrev pub Tells : Streams → List ℕ → Streams → Type 0
 Tells before line after = (sent : Sent) × Sends before.errors before.error_faults line sent after.errors after.error_faults
 
--- What a status says of the words, the input and the output.
-abbrev pub Means : Status → List (List ℕ) → Streams → Streams → Type 0
+-- What a status says of the words, the input and the output, where the natives have these names.
+abbrev pub Means : List (List ℕ) → Status → List (List ℕ) → Streams → Streams → Type 0
 -- all events of the input were read, and their listing was written
-Means Done words before after =
-    (words ≡ rehearse_words) × Rehearses (outside_of before) rehearsal.Done (outside_of after)
+Means natives Done words before after =
+    (words ≡ rehearse_words) × Rehearses natives (outside_of before) rehearsal.Done (outside_of after)
 -- the event of this number is none, all before it are, and the listing of these was written
-Means (BadEvent event) words before after =
-    (words ≡ rehearse_words) × Rehearses (outside_of before) (rehearsal.BadEvent event) (outside_of after)
+Means natives (BadEvent event) words before after =
+    (words ≡ rehearse_words) × Rehearses natives (outside_of before) (rehearsal.BadEvent event) (outside_of after)
 -- the words are others, and nothing was read or written
-Means BadWords words before after =
+Means natives BadWords words before after =
     ¬ (words ≡ rehearse_words) × (outside_of after ≡ outside_of before)
 -- the input failed, and the listing of the whole events that it had given was written
-Means ReadFault words before after =
-    (words ≡ rehearse_words) × Rehearses (outside_of before) rehearsal.ReadFault (outside_of after)
+Means natives ReadFault words before after =
+    (words ≡ rehearse_words) × Rehearses natives (outside_of before) rehearsal.ReadFault (outside_of after)
 -- the output failed, when it had taken a front of the listing and not all of it
-Means WriteFault words before after =
-    (words ≡ rehearse_words) × (sent : ℕ) × Rehearses (outside_of before) (rehearsal.WriteFault sent) (outside_of after)
+Means natives WriteFault words before after =
+    (words ≡ rehearse_words) × (sent : ℕ) × Rehearses natives (outside_of before) (rehearsal.WriteFault sent) (outside_of after)
 -- memory ran out, and the listing of the events played so far was written
-Means NoMemory words before after =
-    (words ≡ rehearse_words) × Rehearses (outside_of before) rehearsal.NoMemory (outside_of after)
+Means natives NoMemory words before after =
+    (words ≡ rehearse_words) × Rehearses natives (outside_of before) rehearsal.NoMemory (outside_of after)
 
 -- A run ends with the number of a status, did what the status means and told its line on errors,
 -- whatever errors did with it.
-pub record Ends (words : List (List ℕ)) (before : Streams) (answer : ℕ) (after : Streams) : Type 0 where
+pub record Ends (natives : List (List ℕ)) (words : List (List ℕ)) (before : Streams) (answer : ℕ) (after : Streams) : Type 0 where
   pub status : Status
   pub answer_is : answer ≡ number_of status
-  pub means : Means status words before after
+  pub means : Means natives status words before after
   pub tells : Tells before (line_of status) after

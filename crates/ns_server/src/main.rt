@@ -4,6 +4,41 @@
 
 ghost use Rattle.std.specs.Prelude.{◌≡◌, ◌<◌};
 
+/// Makes the command of a name and adds it to natives.
+macro_rules! add_native {
+    ($alloc:expr, $natives:ident, $failed:expr, $name:literal, $least:literal, $most:literal, $call:path) => {
+        let Ok(name) = Text::new($alloc, $name) else {
+            $failed
+        };
+        if $natives
+            .add(Native::new(name, $least, $most, $call))
+            .is_err()
+        {
+            $failed
+        }
+    };
+}
+
+/// Adds each command that looks at its words alone to natives, which have none yet. Where memory wants, the
+/// function is left by what stands last.
+macro_rules! add_natives {
+    ($alloc:expr, $natives:ident, $failed:expr) => {
+        add_native!($alloc, $natives, $failed, b"concat", 1, 200_001, tcl_listcmd::concat_command);
+        add_native!($alloc, $natives, $failed, b"format", 2, 200_001, tcl_string::format_command);
+        add_native!($alloc, $natives, $failed, b"join", 2, 3, tcl_string::join_command);
+        add_native!($alloc, $natives, $failed, b"lindex", 3, 3, tcl_listcmd::lindex_command);
+        add_native!($alloc, $natives, $failed, b"linsert", 4, 200_001, tcl_listcmd::linsert_command);
+        add_native!($alloc, $natives, $failed, b"list", 1, 200_001, tcl_listcmd::list_command);
+        add_native!($alloc, $natives, $failed, b"llength", 2, 2, tcl_listcmd::llength_command);
+        add_native!($alloc, $natives, $failed, b"lrange", 4, 4, tcl_listcmd::lrange_command);
+        add_native!($alloc, $natives, $failed, b"lreplace", 4, 200_001, tcl_listcmd::lreplace_command);
+        add_native!($alloc, $natives, $failed, b"lsearch", 3, 4, tcl_listcmd::lsearch_command);
+        add_native!($alloc, $natives, $failed, b"lsort", 2, 6, tcl_listcmd::lsort_command);
+        add_native!($alloc, $natives, $failed, b"split", 2, 3, tcl_string::split_command);
+        add_native!($alloc, $natives, $failed, b"string", 3, 5, tcl_string::string_command);
+    };
+}
+
 mod command_line;
 mod program;
 mod status;
@@ -15,17 +50,19 @@ use crate::command_line::command_words;
 use crate::program::{report, run};
 use crate::status::Status;
 use crate::streams::{ReaderSource, WriterSink};
+use cmd_table::Steps;
+use natives::{Native, Natives};
 use outside::{Sink, Source};
-use rehearse::Steps;
 use std::alloc::Global;
 use std::marker::Brand;
 use std::process::ExitCode;
 use std::sync::ledger::{Blank, Ledger};
-use txt_core::Words;
+use txt_core::{Text, Words};
 
 /// Runs the program with new counters.
 fn run_counted<S: Source, K: Sink, E: Sink, L: Ledger>(
     alloc: Global,
+    natives: &Natives,
     words: &Words,
     input: &mut S,
     output: &mut K,
@@ -37,16 +74,24 @@ fn run_counted<S: Source, K: Sink, E: Sink, L: Ledger>(
     requires some { 0 < blank.parts }
 {
     let mut steps = [Steps::<L>::new(blank)];
-    run(alloc, words, input, output, errors, &mut steps)
+    run(alloc, natives, words, input, output, errors, &mut steps)
 }
 
+#[tactic(auto, unfolding(natives::specs::Ranges::range_of))]
 fn main(rt: HostRuntime) -> ExitCode {
     let mut input = ReaderSource::new(rt.stdin());
     let mut output = WriterSink::new(rt.stdout());
     let mut errors = WriterSink::new(rt.stderr());
+    let mut natives = Natives::new(rt.alloc());
+    add_natives!(
+        rt.alloc(),
+        natives,
+        return ExitCode::from(report(&mut errors, Status::NoMemory))
+    );
     let status = match command_words(&rt) {
         Ok(words) => run_counted::<_, _, _, Brand>(
             rt.alloc(),
+            &natives,
             &words,
             &mut input,
             &mut output,

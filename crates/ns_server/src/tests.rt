@@ -1,8 +1,9 @@
 ghost use Rattle.std.specs.Prelude.{◌≡◌, ◌<◌};
 
 use crate::program::run;
+use cmd_table::Steps;
+use natives::{Native, Natives};
 use outside::{MemSink, MemSource};
-use rehearse::Steps;
 use std::alloc::Global;
 use std::marker::Brand;
 use std::sync::ledger::{Blank, Ledger};
@@ -90,7 +91,12 @@ fn words_of(alloc: Global, texts: &[&[u8]]) -> Result<Words, NoMemory> {
     Ok(words)
 }
 
-fn play<L: Ledger>(alloc: Global, blank: Blank, case: &Case) -> Result<Came, NoMemory>
+fn play<L: Ledger>(
+    alloc: Global,
+    natives: &Natives,
+    blank: Blank,
+    case: &Case,
+) -> Result<Came, NoMemory>
     requires name { blank.name ≡ L.name }
     requires parts { blank.parts ≡ L.parts }
     requires some { 0 < blank.parts }
@@ -106,6 +112,7 @@ fn play<L: Ledger>(alloc: Global, blank: Blank, case: &Case) -> Result<Came, NoM
     let mut steps = [Steps::<L>::new(blank)];
     let status = run(
         alloc,
+        natives,
         &words,
         &mut input,
         &mut output,
@@ -175,8 +182,9 @@ fn each_status_has_its_cause_and_its_line(rt: HostRuntime) -> Result<(), Fail> {
             ..rehearsal(b"\n", 1, b"", b"bad e")
         },
     ];
+    let natives = Natives::new(rt.alloc());
     for (number, case) in cases.iter().enumerate() {
-        let came = play::<Brand>(rt.alloc(), Blank::new(1), case)?;
+        let came = play::<Brand>(rt.alloc(), &natives, Blank::new(1), case)?;
         assert_eq!(rt; came.status, case.status, "status of case {number}");
         assert!(rt;
             came.output.taken().bytes() == case.output,
@@ -187,5 +195,91 @@ fn each_status_has_its_cause_and_its_line(rt: HostRuntime) -> Result<(), Fail> {
             "errors of case {number}"
         );
     }
+    Ok(())
+}
+
+/// Appends the event that runs this block.
+fn push_define(alloc: Global, file: &mut Text, block: &[u8]) -> Result<(), NoMemory> {
+    let size = block.len();
+    file.append(format!(in alloc; "define {size}\n")?.as_bytes())?;
+    file.append(block)?;
+    file.append(b"\n")
+}
+
+/// Appends what is listed of a block that ended with this error.
+fn push_error(alloc: Global, listing: &mut Text, text: &[u8]) -> Result<(), NoMemory> {
+    let size = text.len();
+    listing.append(format!(in alloc; "define error {size}\n")?.as_bytes())?;
+    listing.append(text)?;
+    listing.append(b"\n")
+}
+
+/// Rehearses a file, and gives the status and what was written.
+fn rehearsed<L: Ledger>(
+    alloc: Global,
+    natives: &Natives,
+    blank: Blank,
+    file: Text,
+) -> Result<(u8, Text), NoMemory>
+    requires name { blank.name ≡ L.name }
+    requires parts { blank.parts ≡ L.parts }
+    requires some { 0 < blank.parts }
+{
+    let words = words_of(alloc, &[b"rehearse"])?;
+    let mut input = MemSource::new(file, READ_PIECE, Vec::new(alloc));
+    let mut output = MemSink::new(alloc, WRITE_PIECE, Vec::new(alloc));
+    let mut errors = MemSink::new(alloc, ERROR_PIECE, Vec::new(alloc));
+    let mut steps = [Steps::<L>::new(blank)];
+    let status = run(
+        alloc,
+        natives,
+        &words,
+        &mut input,
+        &mut output,
+        &mut errors,
+        &mut steps,
+    );
+    Ok((status, Text::new(alloc, output.taken().bytes())?))
+}
+
+#[test]
+#[tactic(auto, unfolding(natives::specs::Ranges::range_of))]
+fn scripts_have_the_natives(rt: HostRuntime) -> Result<(), Fail> {
+    let alloc = rt.alloc();
+    let mut natives = Natives::new(alloc);
+    add_natives!(alloc, natives, return Err(Fail::new("out of memory")));
+    // Blocks that end with an error, and its text.
+    let rows: [(&[u8], &[u8]); 15] = [
+        (b"error [concat { a} b]", b"a b"),
+        (b"error [format {%-4d|%04x|%c} 7 255 65]", b"7   |00ff|A"),
+        (b"error [join {a b} -]", b"a-b"),
+        (b"error [lindex {a b} end]", b"b"),
+        (b"error [linsert {a b} end c]", b"a b c"),
+        (b"error [list a {b c}]", b"a {b c}"),
+        (b"error [llength {a b c}]", b"3"),
+        (b"error [lrange {a b c} 1 end]", b"b c"),
+        (b"error [lreplace {a b c} 0 0 x]", b"x b c"),
+        (b"error [lsearch {a b} b]", b"1"),
+        (b"error [lsort -integer -decreasing {3 10 2}]", b"10 3 2"),
+        (b"error [split a,b ,]", b"a b"),
+        (b"error [string range abcdef 1 end-1]", b"bcde"),
+        (b"error [nsv_array get z]", b""),
+        (b"list; lindex a", b"wrong number of words for \"lindex\""),
+    ];
+    let mut file = Text::empty(alloc);
+    let mut listing = Text::empty(alloc);
+    for (block, text) in rows {
+        push_define(alloc, &mut file, block)?;
+        push_error(alloc, &mut listing, text)?;
+    }
+    push_define(alloc, &mut file, b"rename llength ll")?;
+    listing.append(b"defined 1\n")?;
+    push_define(alloc, &mut file, b"error [ll {a b}]")?;
+    push_error(alloc, &mut listing, b"2")?;
+    push_define(alloc, &mut file, b"llength {}")?;
+    push_error(alloc, &mut listing, b"invalid command name \"llength\"")?;
+    let (status, written) = rehearsed::<Brand>(alloc, &natives, Blank::new(1), file)?;
+    assert_eq!(rt; status, 0);
+    assert_eq!(rt; written.bytes(), listing.bytes());
     Ok(())
 }

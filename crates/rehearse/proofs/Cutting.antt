@@ -8,7 +8,8 @@ use Rattle.std.proofs.lemmas.Bool.Decides.{nat_tests}
 use Rattle.std.proofs.Math.Seq.{drop-cons}
 use Rattle.std.proofs.Common.{◌-◌, length-drop, add-one, eq-eqb, Bor, Option, None, Some}
 use Rattle.std.specs.Option.{option_copied, MatchOption}
-use Rattle.rehearse.specs.Reading.{is_other, CutAt}
+use Rattle.rehearse.specs.Letters.{is_other}
+use Rattle.rehearse.specs.Reading.{CutAt}
 
 pub both : (a b : Bool) → (a && b) ≡ true → (a ≡ true) × (b ≡ true)
 both true b h = (refl, h)

@@ -11,7 +11,7 @@ use Rattle.std.proofs.lemmas.Int.Digits.{digits_value_more}
 use Rattle.std.proofs.lemmas.Str.{digit_value_digit}
 use Rattle.std.proofs.lemmas.Str.Parse.{IsNumeralModel, IsDigitsTest, numerals_by_value, digits_value_short, digit_at}
 use Rattle.rehearse.specs.Letters.{is_digit}
-use Rattle.rehearse.specs.Reading.{is_other}
+use Rattle.rehearse.specs.Letters.{is_other}
 use Rattle.rehearse.proofs.Cutting.{both, all_other}
 
 pub digit_in_range : (c : ℕ) → is_digit c ≡ true → IsInRange 48 57 c
@@ -45,48 +45,48 @@ value_more ds i h r =
     minus : (a b : ℕ) → a + 48 ≡ b → a ≡ b - 48
     minus a b e = omega arith
 
--- five digits write less than 100,000
-pub value_small : (ds : List ℕ) → list_all is_digit ds ≡ true → length ds ≤ 5 → digits_value 10 ds < 100000
-value_small ds h short = digits_value_short own ds 5 h short
+-- twelve digits write less than 1,000,000,000,000
+pub value_small : (ds : List ℕ) → list_all is_digit ds ≡ true → length ds ≤ 12 → digits_value 10 ds < 1000000000000
+value_small ds h short = digits_value_short own ds 12 h short
 
 -- digits without an extra zero are the number's
-pub canonical : (ds : List ℕ) → list_all is_digit ds ≡ true → 0 < length ds → (get_or ds 0 0 ≡ 48 → length ds ≡ 1) → length ds ≤ 5
-    → (digits_value 10 ds < 100000) × (ds ≡ decimal (digits_value 10 ds))
+pub canonical : (ds : List ℕ) → list_all is_digit ds ≡ true → 0 < length ds → (get_or ds 0 0 ≡ 48 → length ds ≡ 1) → length ds ≤ 12
+    → (digits_value 10 ds < 1000000000000) × (ds ≡ decimal (digits_value 10 ds))
 canonical ds h some alone short =
-    let small : digits_value 10 ds < 100000 = value_small ds h short in
+    let small : digits_value 10 ds < 1000000000000 = value_small ds h short in
     let fits_here : digits_value 10 ds < 2 ^ 64 = omega arith in
     (small, sym (decimal-digits_value own ds h some alone fits_here))
 
--- ---- what no number below 100,000 is written as
+-- ---- what no number below 1,000,000,000,000 is written as
 
-fits : (n : ℕ) → n < 100000 → n < 2 ^ 64
+fits : (n : ℕ) → n < 1000000000000 → n < 2 ^ 64
 fits n h = omega arith
 
-pub no_digits : (ds : List ℕ) (n : ℕ) → length ds ≡ 0 → (n < 100000) × (ds ≡ decimal n) → ⊥
+pub no_digits : (ds : List ℕ) (n : ℕ) → length ds ≡ 0 → (n < 1000000000000) × (ds ≡ decimal n) → ⊥
 no_digits ds n e h =
     let some : 0 < length (decimal n) = decimal_nonempty n (fits n h.0) in
     let same : length ds ≡ length (decimal n) = ap length h.1 in
     omega (arith, some, same, e)
 
-pub too_many : (ds : List ℕ) (n : ℕ) → 5 < length ds → (n < 100000) × (ds ≡ decimal n) → ⊥
+pub too_many : (ds : List ℕ) (n : ℕ) → 12 < length ds → (n < 1000000000000) × (ds ≡ decimal n) → ⊥
 too_many ds n many h =
-    let short : length (decimal n) ≤ 5 = length-decimal-le 5 n (lit< tt) h.0 (fits n h.0) in
+    let short : length (decimal n) ≤ 12 = length-decimal-le 12 n (lit< tt) h.0 (fits n h.0) in
     let same : length ds ≡ length (decimal n) = ap length h.1 in
     omega (arith, short, same, many)
 
-zero_alone : (n : ℕ) → n < 100000 → get_or (decimal n) 0 0 ≡ 48 → length (decimal n) ≡ 1
+zero_alone : (n : ℕ) → n < 1000000000000 → get_or (decimal n) 0 0 ≡ 48 → length (decimal n) ≡ 1
 zero_alone zero h e = ap length (decimal_digit 0 (lit< tt))
 zero_alone (suc n) h e =
     let first : 48 < get_or (decimal (suc n)) 0 0 = first_decimal (suc n) (omega arith) (fits (suc n) h) in
     absurd (omega (arith, first, e))
 
-pub extra_zero : (ds : List ℕ) (n : ℕ) → get_or ds 0 0 ≡ 48 → 1 < length ds → (n < 100000) × (ds ≡ decimal n) → ⊥
+pub extra_zero : (ds : List ℕ) (n : ℕ) → get_or ds 0 0 ≡ 48 → 1 < length ds → (n < 1000000000000) × (ds ≡ decimal n) → ⊥
 extra_zero ds n e more h =
     let one : length (decimal n) ≡ 1 = zero_alone n h.0 (ap (λ (t : List ℕ). get_or t 0 0) (sym h.1) ∙ e) in
     let same : length ds ≡ length (decimal n) = ap length h.1 in
     omega (arith, one, same, more)
 
-pub other_byte : (ds : List ℕ) (i n : ℕ) → i < length ds → (get_or ds i 0 < 48) ⊎ (57 < get_or ds i 0) → (n < 100000) × (ds ≡ decimal n) → ⊥
+pub other_byte : (ds : List ℕ) (i n : ℕ) → i < length ds → (get_or ds i 0 < 48) ⊎ (57 < get_or ds i 0) → (n < 1000000000000) × (ds ≡ decimal n) → ⊥
 other_byte ds i n within out h =
     let all : AllDigits 10 (decimal n) = own.to (decimal n) (digits_decimal own n (fits n h.0)) in
     let there : i < length (decimal n) = subst (λ (t : List ℕ). i < length t) h.1 within in

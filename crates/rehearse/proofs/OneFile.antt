@@ -1,11 +1,12 @@
 -- A file has one list of events, one listing and one end.
 use Rattle.std.proofs.Common.{◌≡◌, ℕ, ◌+◌, ◌≤◌, List, [], ◌∷◌, ◌++◌, length, refl, sym, subst, ap, ◌∙◌, append_assoc, length-append, zero-add, arith}
-use Rattle.rehearse.specs.Events.{Event, spelled, file_of}
-use Rattle.rehearse.specs.Files.{most_bytes, ComesNext, End, whole, bad, EndsAs, Holds}
-use Rattle.rehearse.specs.World.{World, Plays, Listing, no_event, one_event}
-use Rattle.rehearse.proofs.EventsAtFront.{event_unique, comes_at_front}
+use Rattle.rehearse.specs.Events.{Event, most_bytes, spelled, file_of}
+use Rattle.rehearse.specs.Files.{ComesNext, End, whole, bad, EndsAs, Holds}
+use Rattle.rehearse.specs.Plays.{Plays, Listing, no_event, one_event}
+use Rattle.rehearse.specs.World.{World}
+use Rattle.rehearse.proofs.Fronts.{event_unique}
 use Rattle.rehearse.proofs.OneListing.{plays_unique}
-use Rattle.rehearse.proofs.Played.{spelled_some}
+use Rattle.rehearse.proofs.Played.{Few, comes_at_front, plays_few, spelled_some}
 
 -- The end behind so many events that take so many bytes.
 abbrev EndsAt : End → World → ℕ → ℕ → List ℕ → Type 0
@@ -60,30 +61,30 @@ more_place : (place : ℕ) (a b : List ℕ) → place + length (a ++ b) ≡ (pla
 more_place place a b = omega (arith, length-append a b)
 
 files_same : {world a b : World} {d e : List Event} {l m : List ℕ} (count place : ℕ) (text r s : List ℕ) (x y : End)
-    → Listing world d l a → Listing world e m b
+    → Few world → Listing world d l a → Listing world e m b
     → text ≡ file_of d ++ r → text ≡ file_of e ++ s
     → place + length (file_of d) ≤ most_bytes → place + length (file_of e) ≤ most_bytes
     → EndsAt x a (count + length d) (place + length (file_of d)) r
     → EndsAt y b (count + length e) (place + length (file_of e)) s
     → (d ≡ e) × (l ≡ m) × (x ≡ y)
 unfolding first_next
-files_same {world = world} {a = a} {b = b} count place text r s x y no_event no_event t u f g h k =
+files_same {world = world} {a = a} {b = b} count place text r s x y few no_event no_event t u f g h k =
     (refl, refl, same_end x y world world (count + 0) (count + 0) (place + 0) (place + 0) r s refl (sym t ∙ u) h k)
-files_same {world = world} count place text r s x y no_event (one_event {between = n} {e = e} {events = events} output outputs q qs) t u f g h k =
+files_same {world = world} count place text r s x y few no_event (one_event {between = n} {e = e} {events = events} output outputs q qs) t u f g h k =
     absurd (no_end x world (count + 0) (place + 0) r e h
     (first_next world n (place + 0) r output e events s (sym t ∙ u) (omega (arith, g)) q))
-files_same {world = world} count place text r s x y (one_event {between = n} {e = d} {events = events} output outputs p ps) no_event t u f g h k =
+files_same {world = world} count place text r s x y few (one_event {between = n} {e = d} {events = events} output outputs p ps) no_event t u f g h k =
     absurd (no_end y world (count + 0) (place + 0) s d k
     (first_next world n (place + 0) s output d events r (sym u ∙ t) (omega (arith, f)) p))
-files_same {world = world} {a = a} {b = b} count place text r s x y (one_event {between = i} {e = d} {events = ds} output outputs p ps) (one_event {between = j} {e = e} {events = es} other others q qs) t u f g h k =
+files_same {world = world} {a = a} {b = b} count place text r s x y few (one_event {between = i} {e = d} {events = ds} output outputs p ps) (one_event {between = j} {e = e} {events = es} other others q qs) t u f g h k =
     let here : ComesNext world place text d = first_next world i place text output d ds r t f p in
     let there : ComesNext world place text e = first_next world j place text other e es s u g q in
-    let event : (d ≡ e) × (file_of ds ++ r ≡ file_of es ++ s) = event_unique text (d, file_of ds ++ r) (e, file_of es ++ s) (comes_at_front world place text d here) (comes_at_front world place text e there) in
+    let event : (d ≡ e) × (file_of ds ++ r ≡ file_of es ++ s) = event_unique text (d, file_of ds ++ r) (e, file_of es ++ s) (comes_at_front world place text d few here) (comes_at_front world place text e few there) in
     let played : (output ≡ other) × (i ≡ j) = plays_unique world i j d output other p (subst (λ (z : Event). Plays world z other j) (sym event.0) q) in
     let len : length (spelled d) ≡ length (spelled e) = ap (λ (z : Event). length (spelled z)) event.0 in
     let place_e : place + length (spelled e ++ file_of es) ≡ (place + length (spelled d)) + length (file_of es) = more_place place (spelled e) (file_of es) ∙ ap (λ (z : ℕ). (place + z) + length (file_of es)) (sym len) in
     let rest : (ds ≡ es) × (outputs ≡ others) × (x ≡ y) =
-    files_same (count + 1) (place + length (spelled d)) (file_of ds ++ r) r s x y ps
+    files_same (count + 1) (place + length (spelled d)) (file_of ds ++ r) r s x y (plays_few world i d output few p) ps
     (subst (λ (w : World). Listing w es others b) (sym played.1) qs)
     refl event.1
     (omega (arith, f, length-append (spelled d) (file_of ds)))
@@ -95,8 +96,8 @@ files_same {world = world} {a = a} {b = b} count place text r s x y (one_event {
       rest.2,
     )
 
-pub file_unique : (text : List ℕ) (d e : List Event) (l m : List ℕ) (x y : End) → Holds text d l x → Holds text e m y → (d ≡ e) × (l ≡ m) × (x ≡ y)
-file_unique text d e l m x y h k =
-    files_same 0 0 text h.left k.left x y h.opens.plays k.opens.plays h.opens.text_is k.opens.text_is
+pub file_unique : (natives : List (List ℕ)) (text : List ℕ) (d e : List Event) (l m : List ℕ) (x y : End) → Holds natives text d l x → Holds natives text e m y → (d ≡ e) × (l ≡ m) × (x ≡ y)
+file_unique natives text d e l m x y h k =
+    files_same 0 0 text h.left k.left x y (omega arith) h.opens.plays k.opens.plays h.opens.text_is k.opens.text_is
     (omega (arith, h.opens.in_time)) (omega (arith, k.opens.in_time))
     (ends_at x h.world d h.left h.ends) (ends_at y k.world e k.left k.ends)

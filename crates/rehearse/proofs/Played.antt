@@ -1,17 +1,25 @@
 -- The events of a file, played one after another.
-use Rattle.std.proofs.Common.{◌≡◌, ℕ, ◌+◌, ◌-◌, ◌<◌, ◌≤◌, List, [], ◌∷◌, ◌++◌, length, Bool, true, false, ◌==◌, Option, Some, None, refl, sym, subst, ap, ◌∙◌, append_assoc, append-nil, length-append, arith}
-use Rattle.rehearse.specs.declared.definition.Def.{Def}
-use Rattle.rehearse.specs.Events.{Event, define, connect, run, spelled, file_of}
-use Rattle.rehearse.specs.Files.{most_bytes, whole, bad, ComesNext, Opens, Holds}
-use Rattle.rehearse.specs.Playing.{PlaysNext}
-use Rattle.rehearse.specs.World.{World, Blueprint, opening, published, Step, rests, writes, ends, begins, closes, Runs, last, more, Plays, Listing, no_event, one_event}
+use Rattle.std.proofs.Common.{◌≡◌, ℕ, ◌+◌, ◌-◌, ◌<◌, ◌≤◌, List, [], ◌∷◌, ◌++◌, length, Bool, true, false, ◌==◌, Option, Some, None, refl, sym, subst, ap, ◌∙◌, append_assoc, append-nil, length-append, slice_get, arith}
+use Rattle.std.proofs.lemmas.List.{length-set, length-replicate}
+use Rattle.std.proofs.lemmas.Option.{slice_get_within}
+use Rattle.rehearse.specs.declared.machine.Machine.{Machine}
+use Rattle.rehearse.specs.Events.{Event, workers, clock, define, connect, step, run, most_bytes, spelled, file_of}
+use Rattle.rehearse.specs.Files.{whole, bad, ComesNext, Opens, Holds}
+use Rattle.rehearse.specs.Plays.{Does, Plays, Listing, no_event, one_event}
+use Rattle.rehearse.specs.Playing.{Shows, AreReady, PlaysNext, PlayedNext}
+use Rattle.rehearse.specs.Reading.{IsShort, EventAt}
+use Rattle.rehearse.specs.World.{World, idle, opening}
+use Rattle.rehearse.proofs.Moving.{shows_length, are_ready}
 
 -- ---- files
 
 -- an event has a byte
 pub spelled_some : (e : Event) → 1 ≤ length (spelled e)
+spelled_some (workers count) = omega arith
+spelled_some (clock moment) = omega arith
 spelled_some (define block) = omega arith
 spelled_some (connect worker input) = omega arith
+spelled_some (step worker) = omega arith
 spelled_some (run worker) = omega arith
 
 -- a file that is one event longer
@@ -31,34 +39,53 @@ events_len (e ∷ events) =
 count_more : (events : List Event) (e : Event) → length (events ++ e ∷ []) ≡ length events + 1
 count_more events e = length-append events (e ∷ [])
 
--- ---- the epoch
+-- ---- there are few workers
 
-published_epoch : (blueprint : Blueprint) (definitions : List Def) → (published blueprint definitions).epoch ≤ blueprint.epoch + 1
-published_epoch blueprint [] = omega arith
-published_epoch blueprint (d ∷ definitions) = omega arith
+abbrev pub Few : World → Type 0
+Few world = length world.workers ≤ 16
 
-step_epoch : (before after : World) (output : List ℕ) → Step before output after → after.blueprint.epoch ≡ before.blueprint.epoch
-step_epoch before after output (rests idle_is output_is after_is) = ap (λ (w : World). w.blueprint.epoch) after_is
-step_epoch before after output (writes left request response worker_is written main output_is after_is) = ap (λ (w : World). w.blueprint.epoch) after_is
-step_epoch before after output (ends left request worker_is written output_is after_is) = ap (λ (w : World). w.blueprint.epoch) after_is
-step_epoch before after output (begins input request worker_is early output_is after_is) = ap (λ (w : World). w.blueprint.epoch) after_is
-step_epoch before after output (closes worker_is output_is after_is) = ap (λ (w : World). w.blueprint.epoch) after_is
+does_few : (before after : World) (e : Event) (output : List ℕ) → Few before → Does before e output after → Few after
+does_few before after (workers count) output few d =
+    let at : length after.workers ≡ count = ap (λ (w : World). length w.workers) d.after_is ∙ length-replicate count idle in
+    omega (arith, at, d.few)
+does_few before after (clock moment) output few d =
+    let at : length after.workers ≡ length before.workers = ap (λ (w : World). length w.workers) d.after_is in
+    omega (arith, at, few)
+does_few before after (define block) output few d =
+    let at : length after.workers ≡ length before.workers = ap (λ (w : World). length w.workers) d.after_is in
+    omega (arith, at, few)
+does_few before after (connect number input) output few d =
+    let at : length after.workers ≡ length before.workers = ap (λ (w : World). length w.workers) d.after_is ∙ length-set before.workers number _ in
+    omega (arith, at, few)
+does_few before after (step number) output few d =
+    let at : length after.workers ≡ length before.workers = ap (λ (w : World). length w.workers) d.after_is ∙ length-set before.workers number d.place.worker in
+    omega (arith, at, few)
+does_few before after (run number) output few d =
+    let at : length after.workers ≡ length before.workers = ap (λ (w : World). length w.workers) d.after_is ∙ length-set before.workers number d.place.worker in
+    omega (arith, at, few)
 
-runs_epoch : {before after : World} {output : List ℕ} → Runs before output after → after.blueprint.epoch ≡ before.blueprint.epoch
-runs_epoch {before = before} {after = after} {output = output} (last step idle_is) = step_epoch before after output step
-runs_epoch {before = before} (more {between = between} output outputs step busy runs) = runs_epoch runs ∙ step_epoch before between output step
+pub plays_few : (before after : World) (e : Event) (output : List ℕ) → Few before → Plays before e output after → Few after
+plays_few before after e output few p =
+    let at : length after.workers ≡ length p.0.workers = ap (λ (w : World). length w.workers) p.2 in
+    let there : Few p.0 = does_few before p.0 e output few p.1 in
+    omega (arith, at, there)
 
--- an event raises the epoch by 1 at most
-pub plays_epoch : (before after : World) (e : Event) (output : List ℕ) → Plays before e output after → after.blueprint.epoch ≤ before.blueprint.epoch + 1
-plays_epoch before after (define block) output p =
-    let at : after.blueprint.epoch ≡ (published before.blueprint p.definitions).epoch = ap (λ (w : World). w.blueprint.epoch) p.after_is in
-    omega (arith, at, published_epoch before.blueprint p.definitions)
-plays_epoch before after (connect worker input) output p =
-    let at : after.blueprint.epoch ≡ before.blueprint.epoch = ap (λ (w : World). w.blueprint.epoch) p.after_is in
-    omega (arith, at)
-plays_epoch before after (run worker) output p =
-    let at : after.blueprint.epoch ≡ before.blueprint.epoch = runs_epoch p.1 in
-    omega (arith, at)
+-- ---- an event that may come is one that is read
+
+within_few : (world : World) (number : ℕ) (w : _) → Few world → slice_get world.workers number ≡ Some w → number < 1000000000000
+within_few world number w few e = let within : number < length world.workers = slice_get_within world.workers number w e in omega (arith, within, few)
+
+is_short : (world : World) (e : Event) (output : List ℕ) (after : World) → Few world → Does world e output after → IsShort e
+is_short world (workers count) output after few d = omega (arith, d.few)
+is_short world (clock moment) output after few d = omega (arith, d.in_time)
+is_short world (define block) output after few d = d.fits
+is_short world (connect number input) output after few d = (within_few world number idle few d.free, d.fits)
+is_short world (step number) output after few d = within_few world number d.worker few d.there
+is_short world (run number) output after few d = within_few world number d.worker few d.there
+
+pub comes_at_front : (world : World) (place : ℕ) (left : List ℕ) (e : Event) → Few world → (c : ComesNext world place left e) → EventAt left (e, c.rest)
+comes_at_front world place left e few c =
+    (is_short world e c.output c.plays.0 few c.plays.1, c.spelled_here)
 
 -- ---- listings
 
@@ -75,52 +102,64 @@ listing_more {before = before} {after = after} e output (one_event {e = f} {even
 -- ---- what was played so far
 
 -- The text begins with so many events, which were played and gave this listing and this world.
-pub record Sofar (text : List ℕ) (count : ℕ) (listing : List ℕ) (world : World) (left : List ℕ) : Type 0 where
+pub record Sofar (natives : List (List ℕ)) (text : List ℕ) (count : ℕ) (listing : List ℕ) (world : World) (left : List ℕ) : Type 0 where
   pub events : List Event
-  pub opens : Opens text events listing world left
+  pub opens : Opens natives text events listing world left
   pub counted : count ≡ length events
-  pub epoch : world.blueprint.epoch ≤ count
+  pub few : Few world
+
+-- The machine shows the world after so many events.
+abbrev pub Played_so : List (List ℕ) → List ℕ → ℕ → List ℕ → Machine → List ℕ → Type 0
+Played_so natives text count listing machine left = (world : World) × Shows natives machine world × Sofar natives text count listing world left
 
 -- before the first event
-nothing_yet : (text : List ℕ) → Sofar text 0 [] opening text
-nothing_yet text = record {
+nothing_yet : (natives : List (List ℕ)) (text : List ℕ) → Sofar natives text 0 [] (opening natives) text
+nothing_yet natives text = record {
   events = [];
   opens = record { text_is = refl; in_time = omega arith; plays = no_event };
   counted = refl;
-  epoch = omega arith;
+  few = omega arith;
 }
 
-pub begun_so : (text listing : List ℕ) (world : World) → listing ≡ [] → world ≡ opening → Sofar text 0 listing world text
-begun_so text listing world empty first =
-    subst (λ (t : List ℕ). Sofar text 0 t world text) (sym empty)
-    (subst (λ (w : World). Sofar text 0 [] w text) (sym first) (nothing_yet text))
+pub begun_so : (natives : List (List ℕ)) (text listing : List ℕ) (machine : Machine) → listing ≡ [] → Shows natives machine (opening natives) → Played_so natives text 0 listing machine text
+begun_so natives text listing machine empty shows =
+    (opening natives, shows, subst (λ (t : List ℕ). Sofar natives text 0 t (opening natives) text) (sym empty) (nothing_yet natives text))
 
 -- where what is left begins
-pub place_is : (text : List ℕ) (count : ℕ) (listing : List ℕ) (world : World) (left : List ℕ) (s : Sofar text count listing world left)
+place_is : (natives : List (List ℕ)) (text : List ℕ) (count : ℕ) (listing : List ℕ) (world : World) (left : List ℕ) (s : Sofar natives text count listing world left)
     → length text - length left ≡ length (file_of s.events)
-place_is text count listing world left s =
+place_is natives text count listing world left s =
     let e : length text ≡ length (file_of s.events) + length left = ap length s.opens.text_is ∙ length-append (file_of s.events) left in
     omega (arith, e)
 
 -- an event may be played there
-pub may_play : (text : List ℕ) (count : ℕ) (listing : List ℕ) (world : World) (left : List ℕ) → Sofar text count listing world left
-    → (world.blueprint.epoch ≤ length text - length left) × (length text - length left ≤ most_bytes) × (count ≤ most_bytes)
-may_play text count listing world left s =
-    let place : length text - length left ≡ length (file_of s.events) = place_is text count listing world left s in
+pub record MayPlay (text : List ℕ) (count : ℕ) (machine : Machine) (left : List ℕ) : Type 0 where
+  pub in_time : length text - length left ≤ most_bytes
+  pub few : length machine.workers.items ≤ 16
+  pub ready : AreReady machine.workers.items
+  pub counted : count ≤ most_bytes
+
+pub may_play : (natives : List (List ℕ)) (text : List ℕ) (count : ℕ) (listing : List ℕ) (machine : Machine) (left : List ℕ) → Played_so natives text count listing machine left → MayPlay text count machine left
+may_play natives text count listing machine left p =
+    let s : Sofar natives text count listing p.0 left = p.2 in
+    let place : length text - length left ≡ length (file_of s.events) = place_is natives text count listing p.0 left s in
     let few : length s.events ≤ length (file_of s.events) = events_len s.events in
-    (omega (arith, place, few, s.counted, s.epoch), omega (arith, place, s.opens.in_time), omega (arith, few, s.counted, s.opens.in_time))
+    let many : length machine.workers.items ≡ length p.0.workers = shows_length natives machine.workers.items p.0.workers p.1.workers in
+    record {
+      in_time = omega (arith, place, s.opens.in_time);
+      few = omega (arith, many, s.few);
+      ready = are_ready natives machine.workers.items p.0.workers p.1.workers;
+      counted = omega (arith, few, s.counted, s.opens.in_time);
+    }
 
 -- one event more was played
-pub played_more : (text : List ℕ) (count : ℕ) (listing : List ℕ) (world : World) (left rest listed : List ℕ) (after : World) (found : Option (List ℕ))
-    → found ≡ Some rest
-    → Sofar text count listing world left
-    → PlaysNext found world (length text - length left) left listing after listed
-    → Sofar text (count + 1) listed after rest × (length rest < length left)
-played_more text count listing world left rest listed after found found_is s plays =
-    let p : PlaysNext (Some rest) world (length text - length left) left listing after listed =
-    subst (λ (f : Option (List ℕ)). PlaysNext f world (length text - length left) left listing after listed) found_is plays in
+more_played : (natives : List (List ℕ)) (text : List ℕ) (count : ℕ) (listing : List ℕ) (world : World) (left rest listed : List ℕ) (after : World)
+    → Sofar natives text count listing world left
+    → PlaysNext (Some rest) world (length text - length left) left listing after listed
+    → Sofar natives text (count + 1) listed after rest × (length rest < length left)
+more_played natives text count listing world left rest listed after s p =
     let e : Event = p.0 in
-    let here : length text - length left ≡ length (file_of s.events) = place_is text count listing world left s in
+    let here : length text - length left ≡ length (file_of s.events) = place_is natives text count listing world left s in
     let file_is : file_of (s.events ++ e ∷ []) ≡ file_of s.events ++ spelled e = file_more s.events e in
     let file_len : length (file_of (s.events ++ e ∷ [])) ≡ length (file_of s.events) + length (spelled e) = ap length file_is ∙ length-append (file_of s.events) (spelled e) in
     let left_len : length left ≡ length (spelled e) + length rest = ap length p.1 ∙ length-append (spelled e) rest in
@@ -133,19 +172,31 @@ played_more text count listing world left rest listed after found found_is s pla
         opens = record {
           text_is = text_is;
           in_time = omega (arith, here, file_len, p.2);
-          plays = subst (λ (t : List ℕ). Listing opening (s.events ++ e ∷ []) t after) (sym came.2) (listing_more e came.0 s.opens.plays came.1);
+          plays = subst (λ (t : List ℕ). Listing (opening natives) (s.events ++ e ∷ []) t after) (sym came.2) (listing_more e came.0 s.opens.plays came.1);
         };
         counted = omega (arith, s.counted, count_more s.events e);
-        epoch = omega (arith, s.epoch, plays_epoch world after e came.0 came.1);
+        few = plays_few world after e came.0 s.few came.1;
       },
       omega (arith, left_len, spelled_some e),
     )
 
+pub played_more : (natives : List (List ℕ)) (text : List ℕ) (count : ℕ) (listing : List ℕ) (machine : Machine) (left rest listed : List ℕ) (after : Machine) (found : Option (List ℕ))
+    → found ≡ Some rest
+    → Played_so natives text count listing machine left
+    → PlayedNext natives found machine (length text - length left) left listing after listed
+    → Played_so natives text (count + 1) listed after rest × (length rest < length left)
+played_more natives text count listing machine left rest listed after found found_is so plays =
+    let n : (next : World) × Shows natives after next × PlaysNext found so.0 (length text - length left) left listing next listed = plays so.0 so.1 in
+    let p : PlaysNext (Some rest) so.0 (length text - length left) left listing n.0 listed =
+    subst (λ (f : Option (List ℕ)). PlaysNext f so.0 (length text - length left) left listing n.0 listed) found_is n.2 in
+    let m : Sofar natives text (count + 1) listed n.0 rest × (length rest < length left) = more_played natives text count listing so.0 left rest listed n.0 so.2 p in
+    ((n.0, n.1, m.0), m.1)
+
 -- nothing is left
-pub whole_file : (text : List ℕ) (count : ℕ) (listing : List ℕ) (world : World) (left : List ℕ) → left ≡ []
-    → Sofar text count listing world left → (events : List Event) × Holds text events listing whole
-whole_file text count listing world left none s =
-    (s.events, record { world = world; left = left; opens = s.opens; ends = none })
+pub whole_file : (natives : List (List ℕ)) (text : List ℕ) (count : ℕ) (listing : List ℕ) (machine : Machine) (left : List ℕ) → left ≡ []
+    → Played_so natives text count listing machine left → (events : List Event) × Holds natives text events listing whole
+whole_file natives text count listing machine left none p =
+    (p.2.events, record { world = p.0; left = left; opens = p.2.opens; ends = none })
 
 pub some_left : (empty : Bool) (left : List ℕ) → empty ≡ false → empty ≡ (length left == 0) → ¬ (left ≡ [])
 some_left empty left is_not is e =
@@ -153,18 +204,20 @@ some_left empty left is_not is e =
     cc
 
 -- something is left, and no event comes next
-pub bad_file : (text : List ℕ) (count : ℕ) (listing : List ℕ) (world : World) (left listed : List ℕ) (after : World) (found : Option (List ℕ))
+pub bad_file : (natives : List (List ℕ)) (text : List ℕ) (count : ℕ) (listing : List ℕ) (machine : Machine) (left listed : List ℕ) (after : Machine) (found : Option (List ℕ))
     → found ≡ None
     → ¬ (left ≡ [])
-    → Sofar text count listing world left
-    → PlaysNext found world (length text - length left) left listing after listed
-    → (events : List Event) × Holds text events listed (bad (count + 1))
-bad_file text count listing world left listed after found found_is some s plays =
-    let p : PlaysNext None world (length text - length left) left listing after listed =
-    subst (λ (f : Option (List ℕ)). PlaysNext f world (length text - length left) left listing after listed) found_is plays in
-    let here : length text - length left ≡ length (file_of s.events) = place_is text count listing world left s in
-    let none_here : (e : Event) → ¬ (ComesNext world (length (file_of s.events)) left e) =
-    subst (λ (n : ℕ). (e : Event) → ¬ (ComesNext world n left e)) here p.0 in
-    let holds : Holds text s.events listing (bad (count + 1)) =
-    record { world = world; left = left; opens = s.opens; ends = (ap (λ (n : ℕ). n + 1) s.counted, some, none_here) } in
-    (s.events, subst (λ (t : List ℕ). Holds text s.events t (bad (count + 1))) (sym p.1) holds)
+    → Played_so natives text count listing machine left
+    → PlayedNext natives found machine (length text - length left) left listing after listed
+    → (events : List Event) × Holds natives text events listed (bad (count + 1))
+bad_file natives text count listing machine left listed after found found_is some so plays =
+    let s : Sofar natives text count listing so.0 left = so.2 in
+    let n : (next : World) × Shows natives after next × PlaysNext found so.0 (length text - length left) left listing next listed = plays so.0 so.1 in
+    let p : PlaysNext None so.0 (length text - length left) left listing n.0 listed =
+    subst (λ (f : Option (List ℕ)). PlaysNext f so.0 (length text - length left) left listing n.0 listed) found_is n.2 in
+    let here : length text - length left ≡ length (file_of s.events) = place_is natives text count listing so.0 left s in
+    let none_here : (e : Event) → ¬ (ComesNext so.0 (length (file_of s.events)) left e) =
+    subst (λ (n : ℕ). (e : Event) → ¬ (ComesNext so.0 n left e)) here p.0 in
+    let holds : Holds natives text s.events listing (bad (count + 1)) =
+    record { world = so.0; left = left; opens = s.opens; ends = (ap (λ (n : ℕ). n + 1) s.counted, some, none_here) } in
+    (s.events, subst (λ (t : List ℕ). Holds natives text s.events t (bad (count + 1))) (sym p.1) holds)

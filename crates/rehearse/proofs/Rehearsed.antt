@@ -10,11 +10,12 @@ use Rattle.rehearse.specs.declared.playback.Ending as code_ending
 use Rattle.rehearse.specs.declared.playback.Ending.TheVariants as endings
 use Rattle.rehearse.specs.declared.input.Stopped as code_stopped
 use Rattle.rehearse.specs.declared.input.Stopped.TheVariants as stops
-use Rattle.rehearse.specs.Events.{Event, spelled, file_of}
-use Rattle.rehearse.specs.Files.{most_bytes, End, whole, bad, ComesNext, Opens, Holds, EndsAs}
+use Rattle.rehearse.specs.Events.{Event, most_bytes, spelled, file_of}
+use Rattle.rehearse.specs.Files.{End, whole, bad, ComesNext, Opens, Holds, EndsAs}
 use Rattle.rehearse.specs.Playing.{StopsAt, end_of, answer_of}
 use Rattle.rehearse.specs.Rehearsing.{Outside, InputHolds, HadWriteFault, RanOut, Ends}
-use Rattle.rehearse.specs.World.{World, opening, no_event}
+use Rattle.rehearse.specs.Plays.{no_event}
+use Rattle.rehearse.specs.World.{World, opening}
 
 -- ---- more bytes than events may have
 
@@ -47,9 +48,9 @@ longer_some left more some e =
     no_bytes [] e = refl
     no_bytes (x ∷ l) e = absurd (omega (arith, e))
 
-opens_more : {given : List ℕ} {events : List Event} {listing : List ℕ} {world : World} {left : List ℕ} (more : List ℕ)
-    → Opens given events listing world left → Opens (given ++ more) events listing world (left ++ more)
-opens_more {given = given} {events = events} {left = left} more o = record {
+opens_more : {natives : List (List ℕ)} {given : List ℕ} {events : List Event} {listing : List ℕ} {world : World} {left : List ℕ} (more : List ℕ)
+    → Opens natives given events listing world left → Opens natives (given ++ more) events listing world (left ++ more)
+opens_more {natives = natives} {given = given} {events = events} {left = left} more o = record {
   text_is = ap (λ (t : List ℕ). t ++ more) o.text_is ∙ append_assoc (file_of events) left more;
   in_time = o.in_time;
   plays = o.plays;
@@ -64,9 +65,9 @@ ends_more whole world events left more long short e =
 ends_more (bad event) world events left more long short e =
     (e.0, longer_some left more e.1, λ d h. e.2 d (comes_already world (length (file_of events)) left more d long h))
 
-pub holds_more : (given more : List ℕ) (events : List Event) (listing : List ℕ) (end : End) → most_bytes < length given
-    → Holds given events listing end → Holds (given ++ more) events listing end
-holds_more given more events listing end long h =
+pub holds_more : (natives : List (List ℕ)) (given more : List ℕ) (events : List Event) (listing : List ℕ) (end : End) → most_bytes < length given
+    → Holds natives given events listing end → Holds natives (given ++ more) events listing end
+holds_more natives given more events listing end long h =
     let len : length given ≡ length (file_of events) + length h.left = ap length h.opens.text_is ∙ length-append (file_of events) h.left in
     record {
       world = h.world;
@@ -76,33 +77,33 @@ holds_more given more events listing end long h =
     }
 
 -- bytes past the limit are no whole file
-too_long : (given : List ℕ) (events : List Event) (listing : List ℕ) → most_bytes < length given → ¬ (Holds given events listing whole)
-too_long given events listing long h =
+too_long : (natives : List (List ℕ)) (given : List ℕ) (events : List Event) (listing : List ℕ) → most_bytes < length given → ¬ (Holds natives given events listing whole)
+too_long natives given events listing long h =
     let len : length given ≡ length (file_of events) + length h.left = ap length h.opens.text_is ∙ length-append (file_of events) h.left in
     omega (arith, long, len, h.opens.in_time, ap length h.ends)
 
 -- ---- the input
 
-input_same : (told : Option (List ℕ)) (given : List ℕ) (events : List Event) (listing : List ℕ) (end : End)
+input_same : (natives : List (List ℕ)) (told : Option (List ℕ)) (given : List ℕ) (events : List Event) (listing : List ℕ) (end : End)
     → ((input : List ℕ) → told ≡ Some input → input ≡ given)
-    → Holds given events listing end → InputHolds told events listing end
-input_same told given events listing end same h = λ input is.
-    subst (λ (t : List ℕ). Holds t events listing end) (sym (same input is)) h
+    → Holds natives given events listing end → InputHolds natives told events listing end
+input_same natives told given events listing end same h = λ input is.
+    subst (λ (t : List ℕ). Holds natives t events listing end) (sym (same input is)) h
 
-input_longer : (told after : Option (List ℕ)) (given : List ℕ) (events : List Event) (listing : List ℕ) (end : End)
+input_longer : (natives : List (List ℕ)) (told after : Option (List ℕ)) (given : List ℕ) (events : List Event) (listing : List ℕ) (end : End)
     → Gives told given after → most_bytes < length given
-    → Holds given events listing end → InputHolds told events listing end
-input_longer told after given events listing end gives long h = λ input is.
+    → Holds natives given events listing end → InputHolds natives told events listing end
+input_longer natives told after given events listing end gives long h = λ input is.
     let x : (left : List ℕ) × (input ≡ given ++ left) × (after ≡ Some left) = gives input is in
-    subst (λ (t : List ℕ). Holds t events listing end) (sym x.1) (holds_more given x.0 events listing end long h)
+    subst (λ (t : List ℕ). Holds natives t events listing end) (sym x.1) (holds_more natives given x.0 events listing end long h)
 
 -- the whole input holds what the bytes given hold, unless the source failed
-input_holds : (stopped : code_stopped.Stopped) (told after : Option (List ℕ)) (faults faults_after : ℕ) (given : List ℕ) (events : List Event) (listing : List ℕ) (end : End)
-    → Gives told given after → StopsAt stopped told faults given faults_after → Holds given events listing end
-    → InputHolds told events listing end ⊎ Rose faults faults_after
-input_holds stops.AtEnd told after faults faults_after given events listing end gives stop h = inl (input_same told given events listing end stop h)
-input_holds stops.AtLimit told after faults faults_after given events listing end gives stop h = inl (input_longer told after given events listing end gives stop h)
-input_holds stops.AtFault told after faults faults_after given events listing end gives stop h = inr stop
+input_holds : (natives : List (List ℕ)) (stopped : code_stopped.Stopped) (told after : Option (List ℕ)) (faults faults_after : ℕ) (given : List ℕ) (events : List Event) (listing : List ℕ) (end : End)
+    → Gives told given after → StopsAt stopped told faults given faults_after → Holds natives given events listing end
+    → InputHolds natives told events listing end ⊎ Rose faults faults_after
+input_holds natives stops.AtEnd told after faults faults_after given events listing end gives stop h = inl (input_same natives told given events listing end stop h)
+input_holds natives stops.AtLimit told after faults faults_after given events listing end gives stop h = inl (input_longer natives told after given events listing end gives stop h)
+input_holds natives stops.AtFault told after faults faults_after given events listing end gives stop h = inr stop
 
 -- nothing was left at the end
 at_end : (told after : Option (List ℕ)) (given : List ℕ) → Gives told given after
@@ -115,13 +116,13 @@ at_end told after given gives same input is =
 
 -- ---- the answers
 
-wrote_all : (before after : Outside) (stopped : code_stopped.Stopped) (ending : code_ending.Ending) (given : List ℕ) (events : List Event) (listing : List ℕ)
+wrote_all : (natives : List (List ℕ)) (before after : Outside) (stopped : code_stopped.Stopped) (ending : code_ending.Ending) (given : List ℕ) (events : List Event) (listing : List ℕ)
     → Gives before.input given after.input
     → StopsAt stopped before.input before.read_faults given after.read_faults
-    → Holds given events listing (end_of ending)
+    → Holds natives given events listing (end_of ending)
     → Gains before.output listing after.output
-    → Ends before (answer_of stopped ending) after
-wrote_all before after stops.AtFault ending given events listing gives stop h gains = record {
+    → Ends natives before (answer_of stopped ending) after
+wrote_all natives before after stops.AtFault ending given events listing gives stop h gains = record {
   given = given;
   events = events;
   listing = listing;
@@ -130,91 +131,91 @@ wrote_all before after stops.AtFault ending given events listing gives stop h ga
   written = gains;
   rose = stop;
 }
-wrote_all before after stops.AtEnd endings.Whole given events listing gives stop h gains = record {
+wrote_all natives before after stops.AtEnd endings.Whole given events listing gives stop h gains = record {
   given = given;
   events = events;
   listing = listing;
   performs = record { read = gives; holds = h };
-  input = input_same before.input given events listing whole stop h;
+  input = input_same natives before.input given events listing whole stop h;
   at_end = at_end before.input after.input given gives stop;
   written = gains;
 }
-wrote_all before after stops.AtEnd (endings.Bad event) given events listing gives stop h gains = record {
+wrote_all natives before after stops.AtEnd (endings.Bad event) given events listing gives stop h gains = record {
   given = given;
   events = events;
   listing = listing;
   performs = record { read = gives; holds = h };
-  input = input_same before.input given events listing (bad event) stop h;
+  input = input_same natives before.input given events listing (bad event) stop h;
   written = gains;
 }
-wrote_all before after stops.AtLimit endings.Whole given events listing gives stop h gains = absurd (too_long given events listing stop h)
-wrote_all before after stops.AtLimit (endings.Bad event) given events listing gives stop h gains = record {
+wrote_all natives before after stops.AtLimit endings.Whole given events listing gives stop h gains = absurd (too_long natives given events listing stop h)
+wrote_all natives before after stops.AtLimit (endings.Bad event) given events listing gives stop h gains = record {
   given = given;
   events = events;
   listing = listing;
   performs = record { read = gives; holds = h };
-  input = input_longer before.input after.input given events listing (bad event) gives stop h;
+  input = input_longer natives before.input after.input given events listing (bad event) gives stop h;
   written = gains;
 }
 
-wrote_part : (before after : Outside) (stopped : code_stopped.Stopped) (ending : code_ending.Ending) (given : List ℕ) (events : List Event) (listing : List ℕ) (sent : ℕ)
+wrote_part : (natives : List (List ℕ)) (before after : Outside) (stopped : code_stopped.Stopped) (ending : code_ending.Ending) (given : List ℕ) (events : List Event) (listing : List ℕ) (sent : ℕ)
     → Gives before.input given after.input
     → StopsAt stopped before.input before.read_faults given after.read_faults
-    → Holds given events listing (end_of ending)
+    → Holds natives given events listing (end_of ending)
     → sent < length listing
     → Gains before.output (take sent listing) after.output
     → Rose before.write_faults after.write_faults
-    → HadWriteFault before after sent
-wrote_part before after stopped ending given events listing sent gives stop h less gains rose = record {
+    → HadWriteFault natives before after sent
+wrote_part natives before after stopped ending given events listing sent gives stop h less gains rose = record {
   given = given;
   events = events;
   listing = listing;
   end = end_of ending;
   performs = record { read = gives; holds = h };
-  input = input_holds stopped before.input after.input before.read_faults after.read_faults given events listing (end_of ending) gives stop h;
+  input = input_holds natives stopped before.input after.input before.read_faults after.read_faults given events listing (end_of ending) gives stop h;
   sent_less = less;
   written = gains;
   rose = rose;
 }
 
 -- the listing was written whole, and this is the answer
-pub ended_by : (before after : Outside) (stopped : code_stopped.Stopped) (ending : code_ending.Ending) (given bytes listing sent : List ℕ) (answer : Rehearsal)
+pub ended_by : (natives : List (List ℕ)) (before after : Outside) (stopped : code_stopped.Stopped) (ending : code_ending.Ending) (given bytes listing sent : List ℕ) (answer : Rehearsal)
     → bytes ≡ given → sent ≡ listing → answer ≡ answer_of stopped ending
     → Gives before.input given after.input
     → StopsAt stopped before.input before.read_faults given after.read_faults
-    → (events : List Event) × Holds bytes events listing (end_of ending)
+    → (events : List Event) × Holds natives bytes events listing (end_of ending)
     → Gains before.output sent after.output
-    → Ends before answer after
-ended_by before after stopped ending given bytes listing sent answer same_bytes same_listing answer_is gives stop h gains =
-    subst (λ (a : Rehearsal). Ends before a after) (sym answer_is)
-    (wrote_all before after stopped ending given h.0 listing gives stop
-    (subst (λ (t : List ℕ). Holds t h.0 listing (end_of ending)) same_bytes h.1)
+    → Ends natives before answer after
+ended_by natives before after stopped ending given bytes listing sent answer same_bytes same_listing answer_is gives stop h gains =
+    subst (λ (a : Rehearsal). Ends natives before a after) (sym answer_is)
+    (wrote_all natives before after stopped ending given h.0 listing gives stop
+    (subst (λ (t : List ℕ). Holds natives t h.0 listing (end_of ending)) same_bytes h.1)
     (subst (λ (t : List ℕ). Gains before.output t after.output) same_listing gains))
 
 -- the sink failed when it had taken the first so many bytes of the listing
-pub cut_by : (before after : Outside) (stopped : code_stopped.Stopped) (ending : code_ending.Ending) (given bytes listing sent : List ℕ) (count : ℕ)
+pub cut_by : (natives : List (List ℕ)) (before after : Outside) (stopped : code_stopped.Stopped) (ending : code_ending.Ending) (given bytes listing sent : List ℕ) (count : ℕ)
     → bytes ≡ given → sent ≡ listing
     → Gives before.input given after.input
     → StopsAt stopped before.input before.read_faults given after.read_faults
-    → (events : List Event) × Holds bytes events listing (end_of ending)
+    → (events : List Event) × Holds natives bytes events listing (end_of ending)
     → count < length sent
     → Gains before.output (take count sent) after.output
     → Rose before.write_faults after.write_faults
-    → HadWriteFault before after count
-cut_by before after stopped ending given bytes listing sent count same_bytes same_listing gives stop h less gains rose =
-    wrote_part before after stopped ending given h.0 listing count gives stop
-    (subst (λ (t : List ℕ). Holds t h.0 listing (end_of ending)) same_bytes h.1)
+    → HadWriteFault natives before after count
+cut_by natives before after stopped ending given bytes listing sent count same_bytes same_listing gives stop h less gains rose =
+    wrote_part natives before after stopped ending given h.0 listing count gives stop
+    (subst (λ (t : List ℕ). Holds natives t h.0 listing (end_of ending)) same_bytes h.1)
     (subst (λ (t : List ℕ). count < length t) same_listing less)
     (subst (λ (t : List ℕ). Gains before.output (take count t) after.output) same_listing gains)
     rose
 
 -- nothing was written
-pub wrote_none : (before after : Outside) (given : List ℕ) → Gives before.input given after.input → after.output ≡ before.output → RanOut before after
-wrote_none before after given gives same = record {
+pub wrote_none : (natives : List (List ℕ)) (before after : Outside) (given : List ℕ) → Gives before.input given after.input → after.output ≡ before.output → RanOut natives before after
+wrote_none natives before after given gives same = record {
   given = given;
   events = [];
   listing = [];
-  world = opening;
+  world = opening natives;
   left = given;
   read = gives;
   opens = record { text_is = refl; in_time = omega arith; plays = no_event };

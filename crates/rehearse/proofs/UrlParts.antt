@@ -10,7 +10,7 @@ use Rattle.std.proofs.lemmas.List.Folds.{list_all-append, length-prefix_len}
 use Rattle.std.proofs.Math.Seq.{take-append_seam, drop-append_seam}
 use Rattle.rehearse.specs.Letters.{is_alphanumeric, one_or_more}
 use Rattle.rehearse.specs.Urls.{slashed, IsUrl}
-use Rattle.rehearse.specs.Reading.{is_other}
+use Rattle.rehearse.specs.Letters.{is_other}
 use Rattle.rehearse.proofs.Cutting.{both, all_other}
 
 abbrev good : List (List ℕ) → Bool

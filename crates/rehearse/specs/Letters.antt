@@ -1,5 +1,5 @@
 -- Kinds of bytes, and texts that are made of one kind.
-use Rattle.std.specs.Prelude.{ℕ, List, length, Bool, ◌==◌, ◌&&◌, ◌||◌, nat_le, nat_lt}
+use Rattle.std.specs.Prelude.{ℕ, List, length, Bool, not, ◌==◌, ◌&&◌, ◌||◌, nat_le, nat_lt}
 use Rattle.std.specs.List.{list_all}
 
 abbrev pub is_lower : ℕ → Bool
@@ -16,17 +16,9 @@ is_digit b = nat_le 48 b && nat_le b 57
 abbrev pub is_alphanumeric : ℕ → Bool
 is_alphanumeric b = is_lower b || is_upper b || is_digit b
 
--- a letter, a digit, `/` or `-`: what the name of a content type is made of
-abbrev pub is_type_byte : ℕ → Bool
-is_type_byte b = is_alphanumeric b || (b == 47) || (b == 45)
-
--- a byte below 32, or byte 127
-abbrev pub is_control : ℕ → Bool
-is_control b = nat_le b 31 || (b == 127)
-
--- one of `$ [ ] \ " #`: the bytes by which a script does more than give words literally
-abbrev pub is_special : ℕ → Bool
-is_special b = (b == 36) || (b == 91) || (b == 93) || (b == 92) || (b == 34) || (b == 35)
+-- another byte than this one
+abbrev pub is_other : ℕ → ℕ → Bool
+is_other byte b = not (b == byte)
 
 -- the text is one or more bytes of this kind
 abbrev pub one_or_more : (ℕ → Bool) → List ℕ → Bool

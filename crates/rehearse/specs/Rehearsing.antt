@@ -25,77 +25,78 @@ abbrev pub KeepsCounts : Outside → Outside → Type 0
 KeepsCounts before after = (before.read_faults ≤ after.read_faults) × (before.write_faults ≤ after.write_faults)
 
 -- The whole input, where it is told, holds these events.
-abbrev pub InputHolds : Option (List ℕ) → List Event → List ℕ → End → Type 0
-InputHolds told events listing end = (input : List ℕ) → told ≡ Some input → Holds input events listing end
+abbrev pub InputHolds : List (List ℕ) → Option (List ℕ) → List Event → List ℕ → End → Type 0
+InputHolds natives told events listing end = (input : List ℕ) → told ≡ Some input → Holds natives input events listing end
 
 -- The source gave these bytes, from the front of its input, and they hold these events.
-pub record Performs (before after : Outside) (given : List ℕ) (events : List Event) (listing : List ℕ) (end : End) : Type 0 where
+pub record Performs (natives : List (List ℕ)) (before after : Outside) (given : List ℕ) (events : List Event) (listing : List ℕ) (end : End) : Type 0 where
   pub read : Gives before.input given after.input
-  pub holds : Holds given events listing end
+  pub holds : Holds natives given events listing end
 
 -- The input was read to its end, it holds events and nothing else, and their listing was written.
-pub record AllDone (before after : Outside) : Type 0 where
+pub record AllDone (natives : List (List ℕ)) (before after : Outside) : Type 0 where
   pub given : List ℕ
   pub events : List Event
   pub listing : List ℕ
-  pub performs : Performs before after given events listing whole
-  pub input : InputHolds before.input events listing whole
+  pub performs : Performs natives before after given events listing whole
+  pub input : InputHolds natives before.input events listing whole
   pub at_end : (input : List ℕ) → before.input ≡ Some input → after.input ≡ Some []
   pub written : Gains before.output listing after.output
 
 -- The event of this number is none and all before it are, and the listing of those was written.
-pub record HadBadEvent (before after : Outside) (event : ℕ) : Type 0 where
+pub record HadBadEvent (natives : List (List ℕ)) (before after : Outside) (event : ℕ) : Type 0 where
   pub given : List ℕ
   pub events : List Event
   pub listing : List ℕ
-  pub performs : Performs before after given events listing (bad event)
-  pub input : InputHolds before.input events listing (bad event)
+  pub performs : Performs natives before after given events listing (bad event)
+  pub input : InputHolds natives before.input events listing (bad event)
   pub written : Gains before.output listing after.output
 
 -- The source failed, so its count rose, and the listing of the whole events among the bytes that it had
 -- given was written.
-pub record HadReadFault (before after : Outside) : Type 0 where
+pub record HadReadFault (natives : List (List ℕ)) (before after : Outside) : Type 0 where
   pub given : List ℕ
   pub events : List Event
   pub listing : List ℕ
   pub end : End
-  pub performs : Performs before after given events listing end
+  pub performs : Performs natives before after given events listing end
   pub written : Gains before.output listing after.output
   pub rose : Rose before.read_faults after.read_faults
 
 -- The sink failed, so its count rose, when it had taken the first so many bytes of the listing and not
 -- all of it. It is the listing of the events of the input, or, where the source's count rose too, of those
 -- among the bytes given.
-pub record HadWriteFault (before after : Outside) (sent : ℕ) : Type 0 where
+pub record HadWriteFault (natives : List (List ℕ)) (before after : Outside) (sent : ℕ) : Type 0 where
   pub given : List ℕ
   pub events : List Event
   pub listing : List ℕ
   pub end : End
-  pub performs : Performs before after given events listing end
-  pub input : InputHolds before.input events listing end ⊎ Rose before.read_faults after.read_faults
+  pub performs : Performs natives before after given events listing end
+  pub input : InputHolds natives before.input events listing end ⊎ Rose before.read_faults after.read_faults
   pub sent_less : sent < length listing
   pub written : Gains before.output (take sent listing) after.output
   pub rose : Rose before.write_faults after.write_faults
 
 -- Memory ran out: of the bytes that the source had given, so many events were played, and the listing
 -- of these was written.
-pub record RanOut (before after : Outside) : Type 0 where
+pub record RanOut (natives : List (List ℕ)) (before after : Outside) : Type 0 where
   pub given : List ℕ
   pub events : List Event
   pub listing : List ℕ
   pub world : World
   pub left : List ℕ
   pub read : Gives before.input given after.input
-  pub opens : Opens given events listing world left
+  pub opens : Opens natives given events listing world left
   pub written : Gains before.output listing after.output
 
 -- What a rehearsal does, by its answer.
-abbrev pub Ends : Outside → Rehearsal → Outside → Type 0
-Ends before Done after = AllDone before after
-Ends before (BadEvent event) after = HadBadEvent before after event
-Ends before ReadFault after = HadReadFault before after
-Ends before (WriteFault sent) after = HadWriteFault before after sent
-Ends before NoMemory after = RanOut before after
+abbrev pub Ends : List (List ℕ) → Outside → Rehearsal → Outside → Type 0
+Ends natives before Done after = AllDone natives before after
+Ends natives before (BadEvent event) after = HadBadEvent natives before after event
+Ends natives before ReadFault after = HadReadFault natives before after
+Ends natives before (WriteFault sent) after = HadWriteFault natives before after sent
+Ends natives before NoMemory after = RanOut natives before after
 
-abbrev pub Rehearses : Outside → Rehearsal → Outside → Type 0
-Rehearses before answer after = KeepsCounts before after × Ends before answer after
+-- What a rehearsal does where the natives have these names.
+abbrev pub Rehearses : List (List ℕ) → Outside → Rehearsal → Outside → Type 0
+Rehearses natives before answer after = KeepsCounts before after × Ends natives before answer after

@@ -1,17 +1,11 @@
--- The machine of one thread: its steps, and what the events of a rehearsal do to it.
-use Rattle.std.specs.Prelude.{◌≡◌, ℕ, ◌+◌, List, [], ◌∷◌, ◌++◌, length, Bool, true, false, decimal, codes, Option, Some, None}
-use Rattle.rehearse.specs.declared.definition.Def.{Def}
-use Rattle.http_resp.specs.declared.response.Response.{Response}
-use Rattle.rehearse.specs.Blocks.{IsBlock}
-use Rattle.rehearse.specs.Events.{Event, define, connect, run, newline}
-use Rattle.rehearse.specs.Main.{Main}
-use Rattle.rehearse.specs.Requests.{Request, IsEarlyRequest}
-use Rattle.http_resp.specs.ResponseBytes.{response_bytes}
-
--- What was published: how often, and all the definitions.
-pub record Blueprint : Type 0 where
-  pub epoch : ℕ
-  pub definitions : List Def
+-- The machine of one thread: its workers, and what they share.
+use Rattle.std.specs.Prelude.{ℕ, List, [], ◌∷◌, ◌++◌, length, replicate, Bool, true, false, decimal, codes, Option, Some, None}
+use Rattle.std.specs.FinMap as map
+use Rattle.outside.specs.declared.question.Answer.{Answer}
+use Rattle.http_req.specs.declared.request.Request.{Request}
+use Rattle.nsv_bucket.specs.Arrays.{Arrays}
+use Rattle.ictl.specs.Main.{Blueprint}
+use Rattle.rehearse.specs.Events.{newline}
 
 -- A request under way.
 pub record Open : Type 0 where
@@ -19,6 +13,8 @@ pub record Open : Type 0 where
   -- the blueprint and the moment at which it began, by which it is served
   pub blueprint : Blueprint
   pub moment : ℕ
+  -- what its questions were answered so far, in order
+  pub answers : List Answer
   -- its response was written
   pub written : Bool
 
@@ -28,112 +24,82 @@ pub data Worker : Type 0 where
   -- it has a connection, with the input that is left and the request under way, if any
   connected : (input : List ℕ) (request : Option Open) → Worker
 
-pub record World : Type 0 where
-  -- what the clock shows, in seconds since 1970
+-- What workers see of the world when they take a step: the names of the natives, which stay the same; what the clock
+-- shows, in seconds since 1970; and what was published.
+pub record Now : Type 0 where
+  pub natives : List (List ℕ)
   pub moment : ℕ
   pub blueprint : Blueprint
-  -- the one worker, whose number is 0
-  pub worker : Worker
 
--- the world before the first event
-abbrev pub opening : World
-opening = record { moment = 0; blueprint = record { epoch = 0; definitions = [] }; worker = idle }
+pub record World : Type 0 where
+  -- an event came
+  pub started : Bool
+  pub now : Now
+  -- the shared arrays
+  pub arrays : Arrays
+  -- by their numbers, from 0
+  pub workers : List Worker
 
-abbrev pub with_worker : World → Worker → World
-with_worker world worker = record { moment = world.moment; blueprint = world.blueprint; worker = worker }
+-- so many idle workers
+abbrev pub all_idle : ℕ → List Worker
+all_idle count = replicate count idle
 
-abbrev pub with_blueprint : World → Blueprint → World
-with_blueprint world blueprint = record { moment = world.moment; blueprint = blueprint; worker = world.worker }
+-- the world before the first event, with natives of these names: the clock shows 0, nothing was published, no array is
+-- there, and one worker is idle
+abbrev pub opening : List (List ℕ) → World
+opening natives = record {
+  started = false;
+  now = record { natives = natives; moment = 0; blueprint = record { epoch = 0; definitions = [] } };
+  arrays = map.empty;
+  workers = idle ∷ [];
+}
+
+abbrev pub with_moment : World → ℕ → World
+with_moment world moment = record world { now = record { natives = world.now.natives; moment = moment; blueprint = world.now.blueprint } }
+
+abbrev pub with_workers : World → List Worker → World
+with_workers world workers = record world { workers = workers }
+
+abbrev pub as_started : World → World
+as_started world = record world { started = true }
+
+-- a request that begins
+abbrev pub begun : Now → Request → Open
+begun now request = record { request = request; blueprint = now.blueprint; moment = now.moment; answers = []; written = false }
+
+abbrev pub as_answered : Open → Answer → Open
+as_answered request answer = record request { answers = request.answers ++ answer ∷ [] }
 
 abbrev pub as_written : Open → Open
-as_written request = record { request = request.request; blueprint = request.blueprint; moment = request.moment; written = true }
+as_written request = record request { written = true }
 
--- a request that begins in a world
-abbrev pub begun : World → Request → Open
-begun world request = record { request = request; blueprint = world.blueprint; moment = world.moment; written = false }
+-- ---- what is told
 
--- `response 0 EPOCH LEN`, a newline, the bytes and a newline
-abbrev pub response_output : ℕ → List ℕ → List ℕ
-response_output epoch bytes = codes "response 0 " ++ decimal epoch ++ codes " " ++ decimal (length bytes) ++ newline ++ bytes ++ newline
+-- `response WORKER EPOCH LEN`, a newline, the bytes and a newline
+abbrev pub response_output : ℕ → ℕ → List ℕ → List ℕ
+response_output worker epoch bytes =
+    codes "response " ++ decimal worker ++ codes " " ++ decimal epoch ++ codes " " ++ decimal (length bytes) ++ newline ++ bytes ++ newline
 
-abbrev pub closed_output : List ℕ
-closed_output = codes "closed 0 ended" ++ newline
+-- `closed WORKER ended`
+abbrev pub closed_output : ℕ → List ℕ
+closed_output worker = codes "closed " ++ decimal worker ++ codes " ended" ++ newline
 
+-- `closed WORKER spent`
+abbrev pub closed_spent_output : ℕ → List ℕ
+closed_spent_output worker = codes "closed " ++ decimal worker ++ codes " spent" ++ newline
+
+-- `defined EPOCH`
 abbrev pub defined_output : ℕ → List ℕ
 defined_output epoch = codes "defined " ++ decimal epoch ++ newline
 
--- A step of the worker, from a world to the next one with some output.
-pub data Step (before : World) (output : List ℕ) (after : World) : Type 0 where
-  -- an idle worker does nothing
-  rests : before.worker ≡ idle → output ≡ [] → after ≡ before → Step before output after
-  -- it writes the response that stands ready (of a GET, on a connection that stays open)
-  writes : (left : List ℕ) (request : Open) (response : Response)
-      → before.worker ≡ connected left (Some request)
-      → request.written ≡ false
-      → Main request.blueprint.definitions request.request response
-      → output ≡ response_output request.blueprint.epoch (response_bytes response request.moment false false)
-      → after ≡ with_worker before (connected left (Some (as_written request)))
-      → Step before output after
-  -- it ends a request whose run has ended, and keeps the connection
-  ends : (left : List ℕ) (request : Open)
-      → before.worker ≡ connected left (Some request)
-      → request.written ≡ true
-      → output ≡ []
-      → after ≡ with_worker before (connected left None)
-      → Step before output after
-  -- it begins the next request, which is all the input that is left, with the blueprint and the clock as they are then
-  begins : (input : List ℕ) (request : Request)
-      → before.worker ≡ connected input None
-      → IsEarlyRequest input request
-      → output ≡ []
-      → after ≡ with_worker before (connected [] (Some (begun before request)))
-      → Step before output after
-  -- it closes the connection at the end of its input
-  closes : before.worker ≡ connected [] None
-      → output ≡ closed_output
-      → after ≡ with_worker before idle
-      → Step before output after
+-- `define error LEN`, a newline, the text and a newline
+abbrev pub error_output : List ℕ → List ℕ
+error_output text = codes "define error " ++ decimal (length text) ++ newline ++ text ++ newline
 
--- Steps, at least one, until the worker is idle.
-pub data Runs : World → List ℕ → World → Type 0 where
-  last : {before after : World} {output : List ℕ}
-      → Step before output after → after.worker ≡ idle → Runs before output after
-  more : {before between after : World} (output outputs : List ℕ)
-      → Step before output between → ¬ (between.worker ≡ idle) → Runs between outputs after → Runs before (output ++ outputs) after
+-- `define spent`
+abbrev pub spent_output : List ℕ
+spent_output = codes "define spent" ++ newline
 
--- the blueprint behind a publication of these definitions: they are appended at once and raise the epoch
--- by 1; none change nothing
-abbrev pub published : Blueprint → List Def → Blueprint
-published blueprint [] = blueprint
-published blueprint (d ∷ definitions) = record { epoch = blueprint.epoch + 1; definitions = blueprint.definitions ++ d ∷ definitions }
-
--- A block publishes its definitions, and the epoch then is told.
-pub record Publishes (before : World) (block : List ℕ) (output : List ℕ) (after : World) : Type 0 where
-  pub definitions : List Def
-  pub block_is : IsBlock before.blueprint.definitions block definitions
-  pub after_is : after ≡ with_blueprint before (published before.blueprint definitions)
-  pub output_is : output ≡ defined_output after.blueprint.epoch
-
--- Worker 0, which is idle, gets a connection whose input is a request.
-pub record Connects (before : World) (worker : ℕ) (input : List ℕ) (output : List ℕ) (after : World) : Type 0 where
-  pub request : Request
-  pub number : worker ≡ 0
-  pub free : before.worker ≡ idle
-  pub input_is : IsEarlyRequest input request
-  pub output_is : output ≡ []
-  pub after_is : after ≡ with_worker before (connected input None)
-
--- An event may come in a world, and this is its output and the world after it. An event that may not
--- come has none.
-abbrev pub Plays : World → Event → List ℕ → World → Type 0
-Plays before (define block) output after = Publishes before block output after
-Plays before (connect worker input) output after = Connects before worker input output after
-Plays before (run worker) output after = (worker ≡ 0) × Runs before output after
-
--- The listing of events that come one after another: their outputs, joined.
-pub data Listing : World → List Event → List ℕ → World → Type 0 where
-  no_event : {world : World} → Listing world [] [] world
-  one_event : {before between after : World} {e : Event} {events : List Event} (output outputs : List ℕ)
-      → Plays before e output between
-      → Listing between events outputs after
-      → Listing before (e ∷ events) (output ++ outputs) after
+-- `define deep`
+abbrev pub deep_output : List ℕ
+deep_output = codes "define deep" ++ newline

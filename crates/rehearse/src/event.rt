@@ -2,31 +2,40 @@
 
 ghost use Rattle.std.specs.Prelude.{◌≡◌, ◌<◌, decimal};
 ghost use Rattle.std.specs.Option.{option_map};
-ghost use Rattle.rehearse.specs.Reading.{Finds, LengthAt, BlockAt};
+ghost use Rattle.rehearse.specs.Reading.{Finds, NumberAt, LengthAt, BlockAt, InputAt};
 
 use crate::cut::{behind, cut_at};
 
-/// An event. Worker 0 is the only one.
+/// An event.
 #[derive(Clone, Copy, Debug)]
 pub enum Event<'a> {
-    /// Runs a block of definitions.
+    /// Says how many workers there are.
+    Workers(u64),
+    /// Sets the moment that the clock shows, in seconds since 1970.
+    Clock(u64),
+    /// Runs a block as a script that may define.
     Define(&'a [u8]),
-    /// Gives the worker a connection with this input.
-    Connect(&'a [u8]),
-    /// Lets the worker take steps until it is idle.
-    Run,
+    /// Gives the worker of this number a connection with this input.
+    Connect(u64, &'a [u8]),
+    /// Lets the worker of this number take one step.
+    Step(u64),
+    /// Lets the worker of this number take steps until it is idle.
+    Run(u64),
 }
 
 /// The most bytes that the events of a file may have.
-pub const MOST_BYTES: usize = 65_536;
+pub const MOST_BYTES: usize = 67_108_864;
 
-/// The most digits of a length.
-const MOST_DIGITS: usize = 5;
+/// The most bytes that a block has.
+const MOST_BLOCK: u64 = 8_388_608;
+
+/// The most digits of a number.
+const MOST_DIGITS: usize = 12;
 
 /// The number of these digits, which have no extra zero in front; `None` where they are no number, or
-/// more than five digits.
-fn read_number(digits: &[u8]) -> Option<usize>
-    ensures { Finds (λ n. (n < 100000) × (digits.now ≡ decimal n)) result }
+/// more than twelve digits.
+fn read_number(digits: &[u8]) -> Option<u64>
+    ensures { Finds (λ n. (n < 1000000000000) × (digits.now ≡ decimal n)) result }
 {
     if digits.is_empty() {
         return None;
@@ -37,27 +46,36 @@ fn read_number(digits: &[u8]) -> Option<usize>
     if digits[0] == b'0' && digits.len() > 1 {
         return None;
     }
-    let mut number = 0usize;
+    let mut number = 0u64;
     'digits: for digit in digits {
         if *digit < b'0' || *digit > b'9' {
             return None;
         }
-        number = number * 10 + (*digit - b'0') as usize;
+        number = number * 10 + (*digit - b'0') as u64;
     }
     Some(number)
 }
 
+/// The number at the end of a line, and what is left behind the line; `None` where there is none, or it
+/// has more than twelve digits.
+pub fn read_number_line(bytes: &[u8]) -> Option<(u64, &[u8])>
+    ensures { Finds (NumberAt bytes.now) (option_map (λ x. (x.0, x.1.now)) result) }
+{
+    let (digits, rest) = cut_at(bytes, b'\n')?;
+    let number = read_number(digits)?;
+    Some((number, rest))
+}
+
 /// The length at the end of a line, and what is left behind the line; `None` where there is none, or it
-/// is more than the events of a file may have.
+/// is more than a block has at most.
 fn read_length(bytes: &[u8]) -> Option<(usize, &[u8])>
     ensures { Finds (LengthAt bytes.now) (option_map (λ x. (x.0, x.1.now)) result) }
 {
-    let (digits, rest) = cut_at(bytes, b'\n')?;
-    let length = read_number(digits)?;
-    if length > MOST_BYTES {
+    let (length, rest) = read_number_line(bytes)?;
+    if length > MOST_BLOCK {
         return None;
     }
-    Some((length, rest))
+    Some((length as usize, rest))
 }
 
 /// The block behind its length, and what is left behind the block; `None` where it is cut short.
@@ -71,4 +89,14 @@ pub fn read_block_text(bytes: &[u8]) -> Option<(&[u8], &[u8])>
     let (block, rest) = rest.split_at(length);
     let left = behind(rest, b"\n")?;
     Some((block, left))
+}
+
+/// The number of a worker and behind a space the input of a connection, and what is left.
+pub fn read_input_text(bytes: &[u8]) -> Option<(u64, &[u8], &[u8])>
+    ensures { Finds (InputAt bytes.now) (option_map (λ x. (x.0, x.1.now, x.2.now)) result) }
+{
+    let (digits, rest) = cut_at(bytes, b' ')?;
+    let worker = read_number(digits)?;
+    let (input, left) = read_block_text(rest)?;
+    Some((worker, input, left))
 }

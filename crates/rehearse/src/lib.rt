@@ -2,32 +2,31 @@
 #![tactic(auto)]
 
 mod answer;
-mod block;
-mod connection;
+mod answered;
+mod blueprint;
 mod cut;
 mod decimal;
-mod definition;
-mod evaluate;
+mod defining;
 mod event;
 mod event_reader;
 mod input;
+mod keyword;
 mod law;
 mod letters;
+mod listing;
 mod machine;
-mod message;
-mod names;
+mod now;
+mod objects;
+#[cfg(test)]
+mod plain;
 mod playback;
 mod request;
-mod respond;
-mod route;
-mod steps;
 #[cfg(test)]
 mod tests;
 mod url;
-mod words;
+mod waiting;
+mod worker;
 
 pub use answer::Rehearsal;
-pub use definition::{Def, Defs};
-pub use law::{one_file, one_listing};
+pub use law::{definitions_fit_where_they_apply, one_file, one_listing};
 pub use playback::rehearse;
-pub use steps::Steps;

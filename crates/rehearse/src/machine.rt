@@ -1,180 +1,257 @@
 //! The machine of one thread.
 
-ghost use Rattle.std.specs.Prelude.{◌≡◌, ◌+◌, ◌<◌, ◌++◌, ◌^◌, ℕ, List, true, IfOk};
-ghost use Rattle.rehearse.specs.Events.{define, connect, run};
-ghost use Rattle.rehearse.specs.World.{opening, published, with_blueprint, defined_output, response_output, closed_output};
-ghost use Rattle.rehearse.specs.Playing.{Came, event_of};
+ghost use Rattle.std.specs.Prelude.{◌≡◌, ◌<◌, ◌≤◌, ℕ, List, length, replicate, slice_get, slice_set, Some, IfOk};
+ghost use Rattle.natives.specs.Names.{names_of};
+ghost use Rattle.rehearse.specs.Events.{workers, clock, define, connect, step, run, most_block};
+ghost use Rattle.rehearse.specs.Reading.{event_of, IsShort};
+ghost use Rattle.rehearse.specs.World.{opening};
+ghost use Rattle.rehearse.specs.Playing.{Shows, AreReady, Did, Played};
+ghost use Rattle.rehearse.specs.declared.worker.Worker.TheVariants.{Idle as is_idle};
 
-use crate::block::read_block;
-use crate::connection::Connection;
-use crate::decimal::push_decimal;
-use crate::definition::{Def, Defs};
+use crate::blueprint::Blueprint;
+use crate::defining;
 use crate::event::Event;
-use crate::respond::respond;
-use http_resp::response_bytes;
+use crate::now::Now;
+use crate::waiting::Waiting;
+use crate::worker::Worker;
+use cmd_table::Steps;
+use natives::Natives;
+use nsv_bucket::Bucket;
 use std::alloc::Global;
-use std::marker::Model;
-use txt_core::{NoMemory, Sequence, Text};
+use std::mem;
+use std::sync::ledger::Ledger;
+use txt_core::{NoMemory, Text};
 
-/// What the clock shows, in seconds since 1970.
-const MOMENT: u64 = 0;
+/// The greatest number of workers.
+const MOST_WORKERS: u64 = 16;
 
-/// The machine. Contracts see its world, in which the clock shows the moment 0.
-#[derive(Debug, Drop)]
+/// The last moment that the clock can show: the last second of the year 9999.
+const LAST_MOMENT: u64 = 253_402_300_799;
+
+/// The machine.
+#[derive(Drop)]
 pub struct Machine {
-    epoch: u64,
-    definitions: Defs,
-    connection: Option<Connection>,
+    /// Whether an event came.
+    pub started: bool,
+    pub now: Now,
+    pub arrays: Bucket,
+    /// By their numbers, from 0.
+    pub workers: Vec<Worker>,
 }
 
-impl Model for Machine {
-    ghost use Rattle.rehearse.specs.World.{World};
-    ghost use Rattle.rehearse.specs.Playing.{worker_of};
+fn idle_workers(alloc: Global, count: u64) -> Result<Vec<Worker>, NoMemory>
+    ensures { IfOk result (λ made. made.items ≡ replicate count is_idle) }
+{
+    let mut made = Vec::new(alloc);
+    for _ in 0..count {
+        made.push(Worker::Idle)?;
+    }
+    Ok(made)
+}
 
-    ghost Value = { World };
+/// Takes a worker away; an idle one is left in its place.
+fn take(workers: &mut Vec<Worker>, place: usize) -> Worker
+    requires { place < length workers.old.items }
+    ensures worker { slice_get workers.old.items place ≡ Some result }
+    ensures left { workers.new.items ≡ slice_set workers.old.items place is_idle }
+{
+    mem::replace(&mut workers[place], Worker::Idle)
+}
 
-    ghost view = { λ m. record { moment = 0; blueprint = record { epoch = m.epoch; definitions = m.definitions }; worker = worker_of m.connection } };
+/// Puts a worker in its place.
+fn put(workers: &mut Vec<Worker>, place: usize, worker: Worker)
+    requires { place < length workers.old.items }
+    ensures { workers.new.items ≡ slice_set workers.old.items place worker }
+{
+    drop(mem::replace(&mut workers[place], worker));
 }
 
 impl Machine {
     /// The machine before the first event.
-    pub fn new(alloc: Global) -> Machine
-        ensures { result ≡ opening }
+    pub fn new(alloc: Global) -> Result<Machine, NoMemory>
+        ensures { (natives : List (List ℕ)) → IfOk result (λ machine. Shows natives machine (opening natives)) }
     {
-        Machine {
-            epoch: 0,
-            definitions: Sequence::new(alloc),
-            connection: None,
-        }
+        let workers = idle_workers(alloc, 1)?;
+        Ok(Machine {
+            started: false,
+            now: Now {
+                moment: 0,
+                blueprint: Blueprint::new(alloc),
+            },
+            arrays: Bucket::new(alloc),
+            workers,
+        })
     }
 
-    /// Appends definitions to the blueprint, which raises the epoch where there is any.
-    fn publish(&mut self, made: Vec<Def>) -> Result<(), NoMemory>
-        requires { self.old.blueprint.epoch + 1 < 2 ^ 64 }
-        ensures { IfOk result (λ _. self.new ≡ with_blueprint self.old (published self.old.blueprint made.items)) }
+    /// Makes so many workers, where no event came yet and the number is from 1 to 16.
+    fn set_workers(&mut self, alloc: Global, count: u64) -> Result<bool, NoMemory>
+        ensures { IfOk result (λ came. (natives : List (List ℕ)) (listing : List ℕ) → Did natives came (workers count) self.old listing self.new listing) }
     {
-        if made.is_empty() {
-            return Ok(());
-        }
-        self.epoch += 1;
-        push_all(&mut self.definitions, made)?;
-        Ok(())
-    }
-
-    /// Publishes the definitions of a block, where it is one.
-    fn define(&mut self, alloc: Global, block: &[u8], listing: &mut Text) -> Result<bool, NoMemory>
-        requires { self.old.blueprint.epoch + 1 < 2 ^ 64 }
-        ensures { IfOk result (λ came. Came came (define block.now) self.old listing.old self.new listing.new) }
-    {
-        let text = Text::new(alloc, block)?;
-        match read_block(alloc, &self.definitions, &text)? {
-            None => Ok(false),
-            Some(made) => {
-                self.publish(made)?;
-                push_defined(alloc, listing, self.epoch)?;
-                Ok(true)
-            }
-        }
-    }
-
-    /// Gives the worker a connection, where it is idle and the input is a request.
-    fn connect(&mut self, alloc: Global, input: &[u8]) -> Result<bool, NoMemory>
-        ensures { IfOk result (λ came. (listing : List ℕ) → Came came (connect 0 input.now) self.old listing self.new listing) }
-    {
-        if self.connection.is_some() {
+        if self.started || count == 0 || count > MOST_WORKERS {
             return Ok(false);
         }
-        match Connection::read(alloc, input)? {
+        self.workers = idle_workers(alloc, count)?;
+        Ok(true)
+    }
+
+    /// Sets the clock, where it can show the moment.
+    fn set_clock(&mut self, moment: u64) -> bool
+        ensures { (natives : List (List ℕ)) (listing : List ℕ) → Did natives result (clock moment) self.old listing self.new listing }
+    {
+        if moment > LAST_MOMENT {
+            return false;
+        }
+        self.now.moment = moment;
+        true
+    }
+
+    /// Runs a block, which has at most 8,388,608 bytes, as a script that may define.
+    fn define<L: Ledger>(
+        &mut self,
+        alloc: Global,
+        natives: &Natives,
+        block: &[u8],
+        listing: &mut Text,
+        steps: &mut Steps<L>,
+    ) -> Result<bool, NoMemory>
+        requires { length block.now ≤ most_block }
+        ensures { IfOk result (λ came. Did (names_of natives.now) came (define block.now) self.old listing.old self.new listing.new) }
+    {
+        let block = Text::new(alloc, block)?;
+        let now = &mut self.now;
+        defining::define(
+            alloc,
+            natives,
+            &block,
+            now.moment,
+            &mut now.blueprint,
+            &mut self.arrays,
+            listing,
+            steps,
+        )?;
+        Ok(true)
+    }
+
+    /// Gives a worker a connection, where there is a worker of this number, it is idle and the input is a
+    /// request.
+    fn connect(&mut self, alloc: Global, number: u64, input: &[u8]) -> Result<bool, NoMemory>
+        ensures { IfOk result (λ came. (natives : List (List ℕ)) (listing : List ℕ) → Did natives came (connect number input.now) self.old listing self.new listing) }
+    {
+        if number >= self.workers.len() as u64 {
+            return Ok(false);
+        }
+        let place = number as usize;
+        if !self.workers[place].is_idle() {
+            return Ok(false);
+        }
+        match Waiting::read(alloc, input)? {
             None => Ok(false),
-            Some(connection) => {
-                self.connection = Some(connection);
+            Some(waiting) => {
+                put(&mut self.workers, place, Worker::Waiting(waiting));
                 Ok(true)
             }
         }
     }
 
-    /// Serves the request of the worker's connection and closes it; nothing where there is none.
-    fn run(&mut self, alloc: Global, listing: &mut Text) -> Result<(), NoMemory>
-        ensures { IfOk result (λ _. Came true (run 0) self.old listing.old self.new listing.new) }
+    /// Lets the worker of this number take one step, where there is one.
+    fn step<L: Ledger>(
+        &mut self,
+        alloc: Global,
+        natives: &Natives,
+        number: u64,
+        listing: &mut Text,
+        steps: &mut Steps<L>,
+    ) -> Result<bool, NoMemory>
+        requires { AreReady self.old.workers.items }
+        ensures { IfOk result (λ came. Did (names_of natives.now) came (step number) self.old listing.old self.new listing.new) }
     {
-        match &self.connection {
-            None => Ok(()),
-            Some(connection) => {
-                let path = connection.path(alloc)?;
-                let response = respond(alloc, &self.definitions, &path)?;
-                let bytes = response_bytes(alloc, &response, MOMENT, false, false)?;
-                push_response(alloc, listing, self.epoch, bytes.bytes())?;
-                push_closed(listing)?;
-                self.connection = None;
-                Ok(())
-            }
+        if number >= self.workers.len() as u64 {
+            return Ok(false);
+        }
+        let place = number as usize;
+        let worker = take(&mut self.workers, place);
+        let worker = worker.step(
+            alloc,
+            natives,
+            number,
+            &self.now,
+            &mut self.arrays,
+            listing,
+            steps,
+        )?;
+        put(&mut self.workers, place, worker);
+        Ok(true)
+    }
+
+    /// Lets the worker of this number take steps until it is idle, where there is one.
+    fn run<L: Ledger>(
+        &mut self,
+        alloc: Global,
+        natives: &Natives,
+        number: u64,
+        listing: &mut Text,
+        steps: &mut Steps<L>,
+    ) -> Result<bool, NoMemory>
+        requires { AreReady self.old.workers.items }
+        ensures { IfOk result (λ came. Did (names_of natives.now) came (run number) self.old listing.old self.new listing.new) }
+    {
+        if number >= self.workers.len() as u64 {
+            return Ok(false);
+        }
+        let place = number as usize;
+        let worker = take(&mut self.workers, place);
+        worker.run(
+            alloc,
+            natives,
+            number,
+            &self.now,
+            &mut self.arrays,
+            listing,
+            steps,
+        )?;
+        Ok(true)
+    }
+
+    /// Does what an event says, where it may come, and tells whether it may.
+    fn act<L: Ledger>(
+        &mut self,
+        alloc: Global,
+        natives: &Natives,
+        event: Event<'_>,
+        listing: &mut Text,
+        steps: &mut Steps<L>,
+    ) -> Result<bool, NoMemory>
+        requires short { IsShort (event_of event) }
+        requires ready { AreReady self.old.workers.items }
+        ensures { IfOk result (λ came. Did (names_of natives.now) came (event_of event.entry) self.old listing.old self.new listing.new) }
+    {
+        match event {
+            Event::Workers(count) => self.set_workers(alloc, count),
+            Event::Clock(moment) => Ok(self.set_clock(moment)),
+            Event::Define(block) => self.define(alloc, natives, block, listing, steps),
+            Event::Connect(number, input) => self.connect(alloc, number, input),
+            Event::Step(number) => self.step(alloc, natives, number, listing, steps),
+            Event::Run(number) => self.run(alloc, natives, number, listing, steps),
         }
     }
 
     /// Plays an event that may come, and tells whether it may.
-    pub fn play(
+    pub fn play<L: Ledger>(
         &mut self,
         alloc: Global,
+        natives: &Natives,
         event: Event<'_>,
         listing: &mut Text,
+        steps: &mut Steps<L>,
     ) -> Result<bool, NoMemory>
-        requires { self.old.blueprint.epoch + 1 < 2 ^ 64 }
-        ensures { IfOk result (λ came. Came came (event_of event.entry) self.old listing.old self.new listing.new) }
+        requires short { IsShort (event_of event) }
+        requires ready { AreReady self.old.workers.items }
+        ensures { IfOk result (λ came. Played (names_of natives.now) came (event_of event.entry) self.old listing.old self.new listing.new) }
     {
-        match event {
-            Event::Define(block) => self.define(alloc, block, listing),
-            Event::Connect(input) => {
-                let came = self.connect(alloc, input)?;
-                Ok(came)
-            }
-            Event::Run => {
-                self.run(alloc, listing)?;
-                Ok(true)
-            }
+        let came = self.act(alloc, natives, event, listing, steps)?;
+        if came {
+            self.started = true;
         }
+        Ok(came)
     }
-}
-
-fn push_all(definitions: &mut Defs, made: Vec<Def>) -> Result<(), NoMemory>
-    ensures { IfOk result (λ _. definitions.new ≡ definitions.old ++ made.items) }
-{
-    for definition in made {
-        if definitions.push(definition).is_err() {
-            return Err(NoMemory);
-        }
-    }
-    Ok(())
-}
-
-fn push_defined(alloc: Global, listing: &mut Text, epoch: u64) -> Result<(), NoMemory>
-    ensures { IfOk result (λ _. listing.new ≡ listing.old ++ defined_output epoch) }
-{
-    listing.append(b"defined ")?;
-    push_decimal(alloc, listing, epoch)?;
-    listing.append(b"\n")?;
-    Ok(())
-}
-
-fn push_response(
-    alloc: Global,
-    listing: &mut Text,
-    epoch: u64,
-    bytes: &[u8],
-) -> Result<(), NoMemory>
-    ensures { IfOk result (λ _. listing.new ≡ listing.old ++ response_output epoch bytes.now) }
-{
-    listing.append(b"response 0 ")?;
-    push_decimal(alloc, listing, epoch)?;
-    listing.append(b" ")?;
-    push_decimal(alloc, listing, bytes.len() as u64)?;
-    listing.append(b"\n")?;
-    listing.append(bytes)?;
-    listing.append(b"\n")?;
-    Ok(())
-}
-
-fn push_closed(listing: &mut Text) -> Result<(), NoMemory>
-    ensures { IfOk result (λ _. listing.new ≡ listing.old ++ closed_output) }
-{
-    listing.append(b"closed 0 ended\n")
 }

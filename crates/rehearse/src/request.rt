@@ -1,14 +1,16 @@
 //! Requests.
 
-ghost use Rattle.std.specs.Prelude.{IfOk};
+ghost use Rattle.std.specs.Prelude.{◌≡◌, ◌∷◌, [], codes, IfOk};
 ghost use Rattle.std.specs.Option.{option_map};
-ghost use Rattle.rehearse.specs.Reading.{Finds, RequestsPath, GetAt};
+ghost use Rattle.rehearse.specs.Requests.{IsEarlyRequest, get_request};
+ghost use Rattle.rehearse.specs.Reading.{Finds, GetAt};
 
 use crate::cut::{before, behind, cut_at};
 use crate::letters::is_alphanumeric_text;
 use crate::url::read_url;
+use http_req::Request;
 use std::alloc::Global;
-use txt_core::{NoMemory, Words};
+use txt_core::{NoMemory, Pairs, Sequence, Text, Words};
 
 /// The most bytes that the head of a request has.
 const MOST_HEAD: usize = 16_384;
@@ -24,9 +26,39 @@ fn cut_request(bytes: &[u8]) -> Option<(&[u8], &[u8])>
     Some((url, host))
 }
 
-/// The segments of the path of the request that the bytes are; `None` where they are none.
-pub fn read_request(alloc: Global, bytes: &[u8]) -> Result<Option<Words>, NoMemory>
-    ensures { IfOk result (λ found. Finds (RequestsPath bytes.now) found) }
+/// The field Host with this value, alone.
+fn host_field(alloc: Global, host: &[u8]) -> Result<Pairs, NoMemory>
+    ensures { IfOk result (λ fields. fields ≡ (codes "Host", host.now) ∷ []) }
+{
+    let name = Text::new(alloc, b"Host")?;
+    let value = Text::new(alloc, host)?;
+    let mut fields = Sequence::new(alloc);
+    if let Err(_field) = fields.push((name, value)) {
+        return Err(NoMemory);
+    }
+    Ok(fields)
+}
+
+/// The GET of a URL with these segments.
+fn get(alloc: Global, url: &[u8], segments: Words, host: &[u8]) -> Result<Request, NoMemory>
+    ensures { IfOk result (λ request. request ≡ get_request url.now segments host.now) }
+{
+    let fields = host_field(alloc, host)?;
+    Ok(Request {
+        method: Text::new(alloc, b"GET")?,
+        target: Text::new(alloc, url)?,
+        segments,
+        query: Text::empty(alloc),
+        minor: 1,
+        fields,
+        body: Text::empty(alloc),
+        peer: Text::new(alloc, b"127.0.0.1")?,
+    })
+}
+
+/// The request that the bytes are; `None` where they are none.
+pub fn read_request(alloc: Global, bytes: &[u8]) -> Result<Option<Request>, NoMemory>
+    ensures { IfOk result (λ found. Finds (IsEarlyRequest bytes.now) found) }
 {
     if bytes.len() > MOST_HEAD {
         return Ok(None);
@@ -37,7 +69,13 @@ pub fn read_request(alloc: Global, bytes: &[u8]) -> Result<Option<Words>, NoMemo
             if !is_alphanumeric_text(host) {
                 return Ok(None);
             }
-            read_url(alloc, url)
+            match read_url(alloc, url)? {
+                None => Ok(None),
+                Some(segments) => {
+                    let request = get(alloc, url, segments, host)?;
+                    Ok(Some(request))
+                }
+            }
         }
     }
 }

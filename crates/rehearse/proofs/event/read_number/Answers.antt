@@ -33,20 +33,20 @@ returns-then-digit-lt48 c x h =
     elim c.then-digit-lt48.branch [ then-digit-lt48-via-then-digit-lt48 w ↦ inl (omega arith) | then-digit-lt48-via-else-digit-lt48+then-digit-gt57 w ↦ inr (omega arith) ] in
     other_byte c.args.digits.now c.digits.digit-index x c.digits-test.true out h
 
-small_so_far : (xs : List ℕ) (i n : ℕ) → length xs ≤ 5 → n ≡ digits_value 10 (take i xs) → list_all is_digit (take i xs) ≡ true → n < 100000
+small_so_far : (xs : List ℕ) (i n : ℕ) → length xs ≤ 12 → n ≡ digits_value 10 (take i xs) → list_all is_digit (take i xs) ≡ true → n < 1000000000000
 small_so_far xs i n short e h =
     let l : length (take i xs) ≡ min i (length xs) = length-take i xs in
-    let v : digits_value 10 (take i xs) < 100000 = value_small (take i xs) h (omega (arith, l)) in
+    let v : digits_value 10 (take i xs) < 1000000000000 = value_small (take i xs) h (omega (arith, l)) in
     omega (arith, e, v)
 
 pub overflow_mul-number : goal.overflow_mul-number
 overflow_mul-number c =
-    let s : c.digits.number < 100000 = small_so_far c.args.digits.now c.digits.digit-index c.digits.number (omega arith) c.digits.invariant.value c.digits.invariant.digits in
+    let s : c.digits.number < 1000000000000 = small_so_far c.args.digits.now c.digits.digit-index c.digits.number (omega arith) c.digits.invariant.value c.digits.invariant.digits in
     omega arith
 
 pub overflow_add-number : goal.overflow_add-number
 overflow_add-number c =
-    let s : c.digits.number < 100000 = small_so_far c.args.digits.now c.digits.digit-index c.digits.number (omega arith) c.digits.invariant.value c.digits.invariant.digits in
+    let s : c.digits.number < 1000000000000 = small_so_far c.args.digits.now c.digits.digit-index c.digits.number (omega arith) c.digits.invariant.value c.digits.invariant.digits in
     omega arith
 
 pub digits-preserved : goal.digits-preserved
@@ -69,4 +69,4 @@ returns c =
     let there : 0 < length xs = some (length xs) c.if-is_empty.ensures in
     let zero : get_or xs 0 0 ≡ 48 → length xs ≡ 1 =
     λ z. elim c.else-digits-eq48.branch [ else-digits-eq48-via-then-digits-eq48+else-digits-gt1 w ↦ omega (arith, there) | else-digits-eq48-via-else-digits-eq48 w ↦ absurd (omega (arith, z)) ] in
-    subst (λ (n : ℕ). (n < 100000) × (xs ≡ decimal n)) (sym value) (canonical xs all there zero (omega arith))
+    subst (λ (n : ℕ). (n < 1000000000000) × (xs ≡ decimal n)) (sym value) (canonical xs all there zero (omega arith))

@@ -1,6 +1,6 @@
 use Rattle.std.proofs.Common.{length, ◌+◌, ◌-◌, ◌≤◌}
 use Rattle.outside.specs.Reading.{Gives}
-use Rattle.rehearse.specs.Files.{most_bytes}
+use Rattle.rehearse.specs.Events.{most_bytes}
 use Rattle.rehearse.proofs.input.read_input.Given as goal
 
 abbrev pub invariant-pieces : goal.invariant-pieces

@@ -1,5 +1,5 @@
 use Rattle.std.proofs.Common.{◌∙◌, sym, arith}
-use Rattle.rehearse.proofs.EarlyRequests.{no_request, no_host, path_answers}
+use Rattle.rehearse.proofs.EarlyRequests.{no_request, no_host, no_url, request_found}
 use Rattle.rehearse.proofs.request.read_request.Goals as goal
 
 pub returns-then-not-is_alphanumeric_text : goal.returns-then-not-is_alphanumeric_text
@@ -9,6 +9,5 @@ returns-then-not-is_alphanumeric_text c =
 pub returns-in-None : goal.returns-in-None
 returns-in-None c = no_request c.args.bytes.now c.in-None.ensures
 
-pub returns-else-not-is_alphanumeric_text : goal.returns-else-not-is_alphanumeric_text
-returns-else-not-is_alphanumeric_text c =
-    path_answers c.args.bytes.now (c.in-Some.url.now, c.in-Some.host.now) c.in-Some.ensures (sym c.is_alphanumeric_text.ensures ∙ c.if-not-is_alphanumeric_text.false) (omega arith) c.read_url.result c.read_url.ensures
+pub returns-in-None-2 : goal.returns-in-None-2
+returns-in-None-2 c = no_url c.args.bytes.now (c.in-Some.url.now, c.in-Some.host.now) c.in-Some.ensures (rw c.in-None-2.is at c.in_ok-read_url-in-Some.ensures)

@@ -1,21 +1,20 @@
-use Rattle.std.proofs.Common.{sym, ap, ◌∙◌, List, ℕ, None}
-use Rattle.rehearse.specs.World.{World, connected}
-use Rattle.rehearse.specs.Playing.{worker_of}
-use Rattle.rehearse.proofs.Responding.{is_busy, is_free, no_request, connects, new_worker}
+use Rattle.std.proofs.Common.{refl, arith, sym, ◌∙◌, ◌≡◌, true}
+use Rattle.rehearse.proofs.Moving.{connects, no_connection_there, worker_busy, no_request}
 use Rattle.rehearse.proofs.machine.Machine.connect.Goals as goal
 
-pub returns-then-is_some : goal.returns-then-is_some
-returns-then-is_some c = λ listing.
-    is_busy c.args.self.now c.self.inside.connection c.args.input.now listing (sym (ap (λ (w : World). w.worker) c.self.view_is)) (sym c.is_some.ensures ∙ c.if-is_some.true)
+pub returns-then-number-len : goal.returns-then-number-len
+returns-then-number-len c natives listing = no_connection_there natives c.args.self.now c.args.number c.args.input.now listing (omega arith)
+
+pub returns-then-not-is_idle : goal.returns-then-not-is_idle
+returns-then-not-is_idle c natives listing =
+    worker_busy natives c.args.self.now c.args.number c.args.input.now listing c.index.result.now (omega arith)
+    (λ e. let idle : c.is_idle.result ≡ true = c.is_idle.ensures.1 (c.index.ensures ∙ e) in absurd (cc (idle, c.if-not-is_idle.true)))
 
 pub returns-in-None : goal.returns-in-None
-returns-in-None c = λ listing.
-    let none = rw c.in-None.is at c.in_ok-read.ensures in
-    no_request c.args.self.now c.args.input.now listing none
+returns-in-None c natives listing = no_request natives c.args.self.now c.args.number c.args.input.now listing (rw c.in-None.is at c.in_ok-read.ensures)
 
 pub returns-in-Some : goal.returns-in-Some
-returns-in-Some c = λ listing.
+returns-in-Some c natives listing =
     let found = rw c.in-Some.is at c.in_ok-read.ensures in
-    let free = is_free c.args.self.now.worker c.self.inside.connection (sym (ap (λ (w : World). w.worker) c.self.view_is)) (sym c.is_some.ensures ∙ c.if-is_some.false) in
-    connects c.args.self.now _ c.args.input.now found.1.0 listing free found.1.1
-    (new_worker c.args.self.now c.self.inside.epoch c.self.inside.definitions (worker_of c.self.inside.connection) (connected c.in-Some.connection None) (connected c.args.input.now None) c.self.view_is (ap (λ (i : List ℕ). connected i None) found.0))
+    connects natives c.args.self.now _ c.args.number c.args.input.now listing c.index.result.now c.in-Some.waiting (omega arith)
+    (sym c.index.ensures ∙ c.is_idle.ensures.0 c.if-not-is_idle.false) found.0 found.1 refl refl refl c.put.ensures
