@@ -338,56 +338,63 @@ fn push_body(alloc: Global, listing: &mut Text, epoch: u64, body: &[u8]) -> Resu
 const MANY_CALLS: &[u8] =
     b"proc a {} {b; b; b; b}\nproc b {} {c; c; c; c}\nproc c {} {d; d; d; d}\nproc d {} {e; e; e; e}\nproc e {} {f; f; f; f}\nproc f {} {g; g; g; g}\nproc g {} {h; h; h; h}\nproc h {} {i; i; i; i}\nproc i {} {j; j; j; j}\nproc j {} {}\na";
 
+/// Blocks, one after the other, and what is listed of them.
+const ENDS: [(&[&[u8]], &[u8]); 13] = [
+    (&[b""], b"defined 0\n"),
+    (&[b"return x"], b"defined 0\n"),
+    (&[b"proc p {} {}; return x"], b"defined 1\n"),
+    (
+        &[b"proc p {} {}", b"", b"proc p {} {}\nproc q {} {}"],
+        b"defined 1\ndefined 1\ndefined 2\n",
+    ),
+    (&[b"error oops"], b"define error 4\noops\n"),
+    (&[b"error {}"], b"define error 0\n\n"),
+    (
+        &[b"proc p {} {}; error a", b"nsv_get none k"],
+        b"define error 1\na\ndefine error 15\nno array \"none\"\n",
+    ),
+    (
+        &[b"break", b"continue"],
+        b"define error 33\ninvoked \"break\" outside of a loop\ndefine error 36\ninvoked \"continue\" outside of a loop\n",
+    ),
+    (&[b"proc p {"], b"define error 19\nunclosed brace at 7\n"),
+    (
+        &[b"ns_return 200 text/plain x"],
+        b"define error 13\nno connection\n",
+    ),
+    (&[b"proc r {} {r}; r"], b"define deep\n"),
+    // What a block did to the shared arrays stays where it fails; what it made doesn't.
+    (
+        &[
+            b"nsv_set a k v; proc p {} {}; error [nsv_get a k]",
+            b"error [nsv_get a k]",
+            b"p",
+        ],
+        b"define error 1\nv\ndefine error 1\nv\ndefine error 24\ninvalid command name \"p\"\n",
+    ),
+    // A block runs on what the blocks before it published, and at once on what it makes itself.
+    (
+        &[
+            b"proc p {} {return 1}",
+            b"proc q {} {error [p]}; proc p {} {return 2}; q",
+        ],
+        b"defined 1\ndefine error 1\n2\n",
+    ),
+];
+
+/// A file of these blocks.
+fn file_of_blocks(alloc: Global, blocks: &[&[u8]]) -> Result<Text, NoMemory> {
+    let mut file = Text::empty(alloc);
+    for block in blocks {
+        push_define(alloc, &mut file, block)?;
+    }
+    Ok(file)
+}
+
 #[test]
 fn blocks_end_as_they_run(rt: HostRuntime) -> Result<(), Fail> {
-    // Blocks, one after the other, and what is listed of them.
-    let cases: [(&[&[u8]], &[u8]); 13] = [
-        (&[b""], b"defined 0\n"),
-        (&[b"return x"], b"defined 0\n"),
-        (&[b"proc p {} {}; return x"], b"defined 1\n"),
-        (
-            &[b"proc p {} {}", b"", b"proc p {} {}\nproc q {} {}"],
-            b"defined 1\ndefined 1\ndefined 2\n",
-        ),
-        (&[b"error oops"], b"define error 4\noops\n"),
-        (&[b"error {}"], b"define error 0\n\n"),
-        (
-            &[b"proc p {} {}; error a", b"nsv_get none k"],
-            b"define error 1\na\ndefine error 15\nno array \"none\"\n",
-        ),
-        (
-            &[b"break", b"continue"],
-            b"define error 33\ninvoked \"break\" outside of a loop\ndefine error 36\ninvoked \"continue\" outside of a loop\n",
-        ),
-        (&[b"proc p {"], b"define error 19\nunclosed brace at 7\n"),
-        (
-            &[b"ns_return 200 text/plain x"],
-            b"define error 13\nno connection\n",
-        ),
-        (&[b"proc r {} {r}; r"], b"define deep\n"),
-        // What a block did to the shared arrays stays where it fails; what it made doesn't.
-        (
-            &[
-                b"nsv_set a k v; proc p {} {}; error [nsv_get a k]",
-                b"error [nsv_get a k]",
-                b"p",
-            ],
-            b"define error 1\nv\ndefine error 1\nv\ndefine error 24\ninvalid command name \"p\"\n",
-        ),
-        // A block runs on what the blocks before it published, and at once on what it makes itself.
-        (
-            &[
-                b"proc p {} {return 1}",
-                b"proc q {} {error [p]}; proc p {} {return 2}; q",
-            ],
-            b"defined 1\ndefine error 1\n2\n",
-        ),
-    ];
-    for (blocks, listing) in cases {
-        let mut file = Text::empty(rt.alloc());
-        for block in blocks {
-            push_define(rt.alloc(), &mut file, block)?;
-        }
+    for (blocks, listing) in &ENDS {
+        let file = file_of_blocks(rt.alloc(), blocks)?;
         let (answer, written) = rehearsed::<Brand>(
             rt.alloc(),
             Blank::new(1),
@@ -395,7 +402,7 @@ fn blocks_end_as_they_run(rt: HostRuntime) -> Result<(), Fail> {
             &AT_ONCE,
         )?;
         assert_eq!(rt; answer, Rehearsal::Done);
-        assert_eq!(rt; written.bytes(), listing);
+        assert_eq!(rt; written.bytes(), *listing);
     }
     Ok(())
 }
