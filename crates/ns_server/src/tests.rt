@@ -273,7 +273,8 @@ fn scripts_have_the_natives(rt: HostRuntime) -> Result<(), Fail> {
         push_error(alloc, &mut listing, text)?;
     }
     push_define(alloc, &mut file, b"rename llength ll")?;
-    listing.append(b"defined 1\n")?;
+    push_define(alloc, &mut file, b"rename set s")?;
+    listing.append(b"defined 1\ndefined 2\n")?;
     push_define(alloc, &mut file, b"error [ll {a b}]")?;
     push_error(alloc, &mut listing, b"2")?;
     push_define(alloc, &mut file, b"llength {}")?;
