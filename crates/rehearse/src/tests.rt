@@ -246,7 +246,7 @@ fn sixteen_workers_are_released_in_reverse_order(rt: HostRuntime) -> Result<(), 
         input.append(format!(in alloc; "step {worker}\n")?.as_bytes())?;
     }
     for number in 1..17 {
-        let worker = 16 - number;
+        let worker = 16_u64.saturating_sub(number);
         input.append(format!(in alloc; "run {worker}\n")?.as_bytes())?;
         let size = if number < 10 { 2 } else { 3 };
         listing.append(format!(in alloc; "response {worker} 1 {}\n", 154 + size)?.as_bytes())?;
