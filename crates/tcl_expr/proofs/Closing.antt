@@ -95,7 +95,7 @@ module _ (S : ℕ → List ℕ → Outcome → Type 0) where
 
 bare_by : (n : ℕ) (t : List ℕ) → ((o : Outcome) → WordGives n t o → ⊥) → (opening t ≡ bare) ⊎ ((w : script_outcome.Outcome Word) × Enclosed t w) → opening t ≡ bare
 bare_by n t none (inl e) = e
-bare_by n t none (inr x) = absurd (none (word_operand n x.0) (x.0, x.1, refl))
+bare_by n t none (inr x) = absurd (none (word_operand n t x.0) (x.0, x.1, refl))
 
 -- where no word in quotes or braces stands, an operand is what it is without them
 pub bare_operand : (room n : ℕ) (t : List ℕ) (o : Outcome) → ((p : Outcome) → WordGives n t p → ⊥) → BareGives room n t o → OperandGives room n t o

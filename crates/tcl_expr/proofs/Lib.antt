@@ -21,5 +21,6 @@ pub mod OpenLevels
 pub mod OpenExpressions
 pub mod Reached
 pub mod Suffixes
+pub mod Behind
 pub mod Pairs
 pub mod Slashes

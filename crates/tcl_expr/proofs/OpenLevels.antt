@@ -13,7 +13,10 @@ use Rattle.tcl_expr.specs.Laws.Some.{IsTotal, IsFit}
 use Rattle.tcl_expr.proofs.Tokens.{NextBinds, next_binds}
 use Rattle.tcl_expr.proofs.Stacks.{operand_bad, from_first, popped, pushed, ended}
 use Rattle.tcl_expr.proofs.OpenParts.{Follow, Firm, follow_firm, follow_operator, operator_kept, operator_zero, half_whole}
-use Rattle.tcl_expr.proofs.OpenOperands.{IsEnd, Ends, Kept}
+use Rattle.tcl_expr.proofs.OpenOperands.{IsEnd, Ends, Kept, Plain, plain_end}
+use Rattle.tcl_expr.proofs.OpenWords.{Adds}
+use Rattle.tcl_expr.proofs.Suffixes.{Suffix, suffix_trans}
+use Rattle.tcl_expr.proofs.Behind.{operator_leaves}
 
 -- where reading ends, whatever its tree
 pub data End : Type 0 where
@@ -126,11 +129,11 @@ module _ (S : ℕ → List ℕ → Outcome → Type 0) where
         let e : k.0 ≡ o = one_level S one loosest n t k.0 o k.1 h in
         subst (Row n t) (sym k.2 ∙ ap end_of e) w.1
 
-  module _ (S_kept : (n : ℕ) (t : List ℕ) (o : Outcome) → S n t o → (v : List ℕ) → Firm v → Kept S n t v o) (S_ends : (n : ℕ) (t : List ℕ) (b : ℕ) → S n t (bad b) → b ≡ 0 → Ends S n t)
-      (S_zero : (n : ℕ) (z : List ℕ) → Follow z → S n (48 ∷ z) (done (value (48 ∷ [])) n z)) where
+  module _ (S_kept : (n : ℕ) (t : List ℕ) (o : Outcome) → S n t o → (v : List ℕ) → Firm v → Kept S n t v o) (S_ends : (n : ℕ) (t : List ℕ) (b : ℕ) → S n t (bad b) → b ≡ 0 → Plain t → Ends S n t)
+      (S_zero : (n : ℕ) (z : List ℕ) → Follow z → S n (48 ∷ z) (done (value (48 ∷ [])) n z)) (S_leaves : (n m : ℕ) (t u : List ℕ) (x : Tree) → S n t (done x m u) → Suffix t u) where
     -- with more behind the text, a row ends before whatever may follow
     abbrev pub RowEnds : ℕ → List ℕ → Type 0
-    RowEnds n t = (T : List ℕ → List ℕ) × ((z : List ℕ) → Follow z → Firm (T z) × ((m : ℕ) × Row n (t ++ T z) (stops m z)))
+    RowEnds n t = (T : List ℕ → List ℕ) × Adds T × ((z : List ℕ) → Follow z → Firm (T z) × ((m : ℕ) × Row n (t ++ T z) (stops m z)))
 
     zero_row : (n : ℕ) (z : List ℕ) → Follow z → Row n (48 ∷ z) (stops n z)
     zero_row n z f = row_ends (value (48 ∷ [])) (S_zero n z f) (follow_operator n z f)
@@ -144,12 +147,13 @@ module _ (S : ℕ → List ℕ → Outcome → Type 0) where
     some_bytes b u = omega arith
 
     row_end : (n m : ℕ) (t u : List ℕ) (x : Tree) → S n t (done x m u) → stuck m u ≡ 0 → RowEnds n t
-    row_end n m t [] x h e = (λ z. z, λ z f. (follow_firm z f, (m, row_ends x (S_kept n t (done x m []) h z (follow_firm z f) (inr f)) (follow_operator m z f))))
+    row_end n m t [] x h e = (λ z. z, λ z b. b, λ z f. (follow_firm z f, (m, row_ends x (S_kept n t (done x m []) h z (follow_firm z f) (inr f)) (follow_operator m z f))))
     row_end n zero t (b ∷ u) x h e = absurd (omega (arith, e))
     row_end n (suc m) t (b ∷ u) x h e =
         let s = half_by m b u (is_half b) e refl in
         let w = half_whole b s.1 in (
           λ z. w.0 ∷ 48 ∷ z,
+          λ z b. rw (w.4) b,
           λ z f.
               let v : List ℕ = w.0 ∷ 48 ∷ z in
               let k = S_kept n t (done x (suc m) (b ∷ u)) h v w.3 (inl (some_bytes b u)) in
@@ -158,21 +162,22 @@ module _ (S : ℕ → List ℕ → Outcome → Type 0) where
 
     row_more : (n m i : ℕ) (t u r : List ℕ) (x : Tree) (op : Op) → S n t (done x m u) → next_operator m u ≡ Some (op, i, r) → 0 < length u → RowEnds i r → RowEnds n t
     row_more n m i t u [] x op h q lt k =
-        (λ z. 48 ∷ z, λ z f. (refl, (i, row_goes x op (S_kept n t (done x m u) h (48 ∷ z) refl (inl lt)) (operator_zero m i u z op q) (zero_row i z f))))
+        (λ z. 48 ∷ z, λ z b. b, λ z f. (refl, (i, row_goes x op (S_kept n t (done x m u) h (48 ∷ z) refl (inl lt)) (operator_zero m i u z op q) (zero_row i z f))))
     row_more n m i t u (b ∷ r) x op h q lt k =
-        (k.0, λ z f. let y = k.1 z f in (y.0, (y.1.0, row_goes x op (S_kept n t (done x m u) h (k.0 z) y.0 (inl lt)) (operator_kept m i u (b ∷ r) (k.0 z) op y.0 (some_bytes b r) q) y.1.1)))
+        (k.0, k.1, λ z f. let y = k.2 z f in (y.0, (y.1.0, row_goes x op (S_kept n t (done x m u) h (k.0 z) y.0 (inl lt)) (operator_kept m i u (b ∷ r) (k.0 z) op y.0 (some_bytes b r) q) y.1.1)))
 
     begins : (m i : ℕ) (u r : List ℕ) (op : Op) → next_operator m u ≡ Some (op, i, r) → 0 < length u
     begins zero i u r op e = absurd (cc)
     begins (suc m) i [] r op e = absurd (cc)
     begins (suc m) i (b ∷ u) r op e = omega arith
 
-    row_close : {n : ℕ} {t : List ℕ} {e : End} → Row n t e → outcome_end e → RowEnds n t
-    row_close {n} {t} (row_bad {b = b} h) q =
-        let k = S_ends n t b h q in
-        (k.0, λ z f. let y = k.1 z f in (y.0, (y.1.1, row_ends y.1.0 y.1.2 (follow_operator y.1.1 z f))))
-    row_close {n} {t} (row_ends x {m = m} {u = u} h e) q = row_end n m t u x h q
-    row_close {n} {t} (row_goes x op {m = m} {i = i} {u = u} {r = r} h e w) q = row_more n m i t u r x op h e (begins m i u r op e) (row_close w q)
+    row_close : {n : ℕ} {t : List ℕ} {e : End} → Row n t e → outcome_end e → Plain t → RowEnds n t
+    row_close {n} {t} (row_bad {b = b} h) q p =
+        let k = S_ends n t b h q p in
+        (k.0, k.1, λ z f. let y = k.2 z f in (y.0, (y.1.1, row_ends y.1.0 y.1.2 (follow_operator y.1.1 z f))))
+    row_close {n} {t} (row_ends x {m = m} {u = u} h e) q p = row_end n m t u x h q
+    row_close {n} {t} (row_goes x op {m = m} {i = i} {u = u} {r = r} h e w) q p =
+        row_more n m i t u r x op h e (begins m i u r op e) (row_close w q (plain_end t r (suffix_trans t u r (S_leaves n m t u x h) (operator_leaves m i u r op e).0) p))
 
     done_of : (o : Outcome) (m : ℕ) (r : List ℕ) → end_of o ≡ stops m r → (x : Tree) × (o ≡ done x m r)
     done_of (bad b) m r e = absurd (cc)
@@ -192,7 +197,7 @@ module _ (S : ℕ → List ℕ → Outcome → Type 0) where
     ends_as (done x m r) e = e
 
     -- The levels, with more behind the text, end before whatever may follow.
-    pub level_ends : IsTotal S → IsFit S → IsOne S → (n : ℕ) (t : List ℕ) (o : Outcome) → LevelAt S loosest n t o → IsEnd o → Ends (LevelAt S loosest) n t
-    level_ends some_s S_fits one n t o h e =
-        let k = row_close (level_row some_s S_fits one n t o h) (ends_as o e) in
-        (k.0, λ z f. let y = k.1 z f in let l = level_at n y.1.0 (t ++ k.0 z) z y.1.1 in (y.0, (l.0, y.1.0, l.1)))
+    pub level_ends : IsTotal S → IsFit S → IsOne S → (n : ℕ) (t : List ℕ) (o : Outcome) → LevelAt S loosest n t o → IsEnd o → Plain t → Ends (LevelAt S loosest) n t
+    level_ends some_s S_fits one n t o h e p =
+        let k = row_close (level_row some_s S_fits one n t o h) (ends_as o e) p in
+        (k.0, k.1, λ z f. let y = k.2 z f in let l = level_at n y.1.0 (t ++ k.0 z) z y.1.1 in (y.0, (l.0, y.1.0, l.1)))

@@ -1,14 +1,15 @@
 -- An operand with its unary operators stays one with more behind it, and one that is open at the end of a text can be closed.
 use Rattle.std.proofs.Common.{◌≡◌, ℕ, zero, suc, ◌-◌, ◌<◌, ◌≤◌, List, [], ◌∷◌, ◌++◌, length, take, drop, Bool, true, false, Option, None, Some, refl, ap, sym, ◌∙◌, subst, ◌⊎◌, inl, inr, arith, append-nil, append_assoc}
-use Rattle.std.specs.Prelude.{◌==◌, ◌&&◌, ◌||◌, max, codes, nat_le, if◌then◌else◌}
+use Rattle.std.specs.Prelude.{◌==◌, ◌&&◌, ◌||◌, max, codes, nat_le, nat_lt, if◌then◌else◌}
 use Rattle.std.specs.List.{list_all, prefix_len}
 use Rattle.std.proofs.Math.Nat.{eq-or-lt_of_le}
 use Rattle.std.proofs.lemmas.Bool.{eqb-true}
 use Rattle.std.proofs.lemmas.Bool.Decides.{nat_tests}
-use Rattle.std.proofs.lemmas.List.{length-drop, take_all}
+use Rattle.std.proofs.lemmas.List.{length-drop, take_all, take-append-drop}
 use Rattle.std.proofs.lemmas.List.Folds.{list_all-append}
 use Rattle.std.proofs.lemmas.List.Sums.{prefix_len-le-length}
 use Rattle.txt_core.specs.Number.{is_space, trimmed_front, number}
+use Rattle.tcl_parse.specs.Bytes.{begins_with, backslash}
 use Rattle.tcl_parse.specs.Tree.{Part, Word}
 use Rattle.tcl_parse.specs.Outcome as script_outcome
 use Rattle.tcl_parse.specs.Steps as steps
@@ -19,12 +20,15 @@ use Rattle.tcl_expr.specs.Trees.{Tree, value, word, unary}
 use Rattle.tcl_expr.specs.Outcome.{Outcome, done, bad, signed}
 use Rattle.tcl_expr.specs.Tokens.{next_sign, stuck}
 use Rattle.tcl_expr.specs.Runs.{is_word, run_at, names_value, next_value, one_more, digits_front, shared, word_front, zero_front, value_front}
-use Rattle.tcl_expr.specs.Grammar.{bad_place, word_operand, part_operand, run_operand, closed, Start, enclosed, substituted, run, parenthesis, nothing, start, start_by, Enclosed, Substituted, OperandBy, SignedAt, no_sign, one_sign}
+use Rattle.tcl_expr.specs.Grammar.{fault_place, behind_backslash, bad_place, word_operand, part_operand, run_operand, closed, Start, enclosed, substituted, run, parenthesis, nothing, start, start_by, Enclosed, Substituted, OperandBy, SignedAt, no_sign, one_sign}
 use Rattle.tcl_expr.specs.Laws.Fits.{trimmed_within}
 use Rattle.tcl_expr.proofs.Words as words
 use Rattle.tcl_expr.proofs.Fronts.{both}
 use Rattle.tcl_expr.proofs.Local as local
+use Rattle.tcl_expr.proofs.Suffixes.{Suffix, suffix_all, suffix_cons}
+use Rattle.tcl_expr.proofs.Behind.{sign_leaves}
 use Rattle.tcl_expr.proofs.OpenRuns.{run_makes}
+use Rattle.tcl_expr.proofs.OpenWords.{all_bytes, Adds}
 use Rattle.tcl_expr.proofs.OpenParts.{Follow, Firm, follow_firm, firm_trim, trim_firm, sign_kept, sign_none, substituted_stays, substituted_open, word_opens, word_stays}
 
 -- it is bad at the end of the text, or what is left can go on there
@@ -34,7 +38,31 @@ IsEnd (done x m r) = stuck m r ≡ 0
 
 -- With more behind the text it ends before whatever may follow.
 abbrev pub Ends : (ℕ → List ℕ → Outcome → Type 0) → ℕ → List ℕ → Type 0
-Ends R n t = (T : List ℕ → List ℕ) × ((z : List ℕ) → Follow z → Firm (T z) × ((x : Tree) × (m : ℕ) × R n (t ++ T z) (done x m z)))
+Ends R n t = (T : List ℕ → List ℕ) × Adds T × ((z : List ℕ) → Follow z → Firm (T z) × ((x : Tree) × (m : ℕ) × R n (t ++ T z) (done x m z)))
+
+-- it doesn't end in a backslash
+abbrev pub Plain : List ℕ → Type 0
+Plain t = (g : List ℕ) → t ≡ g ++ 92 ∷ [] → ⊥
+
+pub plain_end : (t r : List ℕ) → Suffix t r → Plain t → Plain r
+plain_end t r h p g e = p (h.0 ++ g) (h.1 ∙ ap (λ y. h.0 ++ y) e ∙ sym (append_assoc h.0 g (92 ∷ [])))
+
+one_slash : (r : List ℕ) → begins_with backslash r ≡ true → length r ≤ 1 → r ≡ 92 ∷ []
+one_slash [] e le = absurd (cc)
+one_slash (b ∷ []) e le = ap (λ x. x ∷ []) (eqb-true b 92 e)
+one_slash (b ∷ c ∷ r) e le = absurd (omega (arith, le))
+
+-- What is bad at the end of a text that ends in no backslash isn't closed there.
+open_place : (t : List ℕ) (m : ℕ) → Plain t → behind_backslash t m ≡ 0 → m ≡ 0
+open_place t m p e = by_test m (begins_with backslash (drop (length t - m) t)) refl e
+  where
+    by_test : (m : ℕ) (s : Bool) → begins_with backslash (drop (length t - m) t) ≡ s → (if s then m - 1 else m) ≡ 0 → m ≡ 0
+    by_test m false q e = e
+    by_test zero true q e = refl
+    by_test (suc zero) true q e =
+        let r = one_slash (drop (length t - 1) t) q (omega (arith, length-drop (length t - 1) t)) in
+        absurd (p (take (length t - 1) t) (sym (take-append-drop (length t - 1) t) ∙ ap (λ y. take (length t - 1) t ++ y) r))
+    by_test (suc (suc m)) true q e = absurd (omega (arith, e))
 
 -- What is read stays so with this behind the text; where nothing is left, it is something that may follow.
 abbrev pub Kept : (ℕ → List ℕ → Outcome → Type 0) → ℕ → List ℕ → List ℕ → Outcome → Type 0
@@ -130,6 +158,15 @@ prefix_whole (b ∷ t) h =
 word_firm : (c : ℕ) → is_word c ≡ true → is_space c ≡ false
 word_firm c h = grind (arith, nat_tests)
 
+word_byte : (c : ℕ) → is_word c ≡ true → nat_lt c 256 ≡ true
+word_byte c h = grind (arith, nat_tests)
+
+run_bytes : (w z : List ℕ) → list_all is_word w ≡ true → all_bytes z ≡ true → all_bytes (w ++ z) ≡ true
+run_bytes [] z h b = b
+run_bytes (c ∷ w) z h b =
+    let p = both (is_word c) (list_all is_word w) h in
+    rw (word_byte c p.0) (run_bytes w z p.1 b)
+
 firm_words : (t w z : List ℕ) → list_all is_word (t ++ w) ≡ true → Follow z → Firm (w ++ z)
 firm_words t [] z h f = follow_firm z f
 firm_words t (c ∷ w) z h f =
@@ -154,6 +191,7 @@ run_ends n t b e zero_b =
     let front : value_front t ≡ length t = whole t (subst (λ y. length t ≤ value_front y) a le) in
     let w = run_makes t all front in (
       λ z. w.0 ++ z,
+      λ z b. run_bytes w.0 z (both (list_all is_word t) (list_all is_word w.0) (sym (list_all-append is_word t w.0) ∙ w.1)).1 b,
       λ z f.
           let g = t ++ w.0 in
           let r : run_at (g ++ z) ≡ (g, z) = run_full g z f (prefix_whole g w.1) in
@@ -195,10 +233,10 @@ is_dollar b false true x y e none =
 is_dollar b false false x y e none = absurd (never_start (opening (b ∷ [])) b (b == 40) (is_word b) e x y refl refl)
 
 module _ (P : ℕ → List ℕ → Outcome → Type 0) (P_kept : (n m : ℕ) (t r v : List ℕ) (x : Tree) → Firm v → P n t (done x m (41 ∷ r)) → P n (t ++ v) (done x m (41 ∷ r ++ v)))
-    (P_ends : (n : ℕ) (t : List ℕ) (o : Outcome) → P n t o → IsEnd o → Ends P n t) where
+    (P_ends : (n : ℕ) (t : List ℕ) (o : Outcome) → P n t o → IsEnd o → Plain t → Ends P n t) where
   -- ---- operands
 
-  word_kept : (n : ℕ) (t v : List ℕ) (w : script_outcome.Outcome Word) → Firm v → Enclosed t w → Kept (OperandBy P enclosed) n t v (word_operand n w)
+  word_kept : (n : ℕ) (t v : List ℕ) (w : script_outcome.Outcome Word) → Firm v → Enclosed t w → Kept (OperandBy P enclosed) n t v (word_operand n t w)
   word_kept n t v (script_outcome.done y r) f h = λ c. (script_outcome.done y (r ++ v), word_stays t v y r f h, ap (λ (q : List ℕ). done (word y) n q) (sym (trim_firm r v f)))
   word_kept n t v (script_outcome.fault k d) f h = tt
 
@@ -206,7 +244,7 @@ module _ (P : ℕ → List ℕ → Outcome → Type 0) (P_kept : (n m : ℕ) (t 
   rest_some r v (inl lt) = inl (omega (arith, lt, trimmed_within r))
   rest_some r v (inr f) = inr f
 
-  part_kept : (n : ℕ) (t v : List ℕ) (w : script_outcome.Outcome Part) → Firm v → Substituted t w → Kept (OperandBy P substituted) n t v (part_operand n w)
+  part_kept : (n : ℕ) (t v : List ℕ) (w : script_outcome.Outcome Part) → Firm v → Substituted t w → Kept (OperandBy P substituted) n t v (part_operand n t w)
   part_kept n t v (script_outcome.done y r) f h = λ c. inl (script_outcome.done y (r ++ v), substituted_stays t v y r f (rest_some r v c) h, ap (λ (q : List ℕ). done (word (y ∷ [])) n q) (sym (trim_firm r v f)))
   part_kept n t v (script_outcome.fault k d) f h = tt
 
@@ -229,19 +267,19 @@ module _ (P : ℕ → List ℕ → Outcome → Type 0) (P_kept : (n m : ℕ) (t 
   operand_kept parenthesis n c g v o f h = subst (Kept (OperandBy P parenthesis) n (c ∷ g) v) (sym h.2) (closed_kept n c g v h.0 f h.1)
   operand_kept nothing n c g v o f h = subst (Kept (OperandBy P nothing) n (c ∷ g) v) (sym h) tt
 
-  word_ends : (n : ℕ) (t : List ℕ) (w : script_outcome.Outcome Word) (b : ℕ) → Enclosed t w → bad b ≡ word_operand n w → b ≡ 0 → Ends (OperandBy P enclosed) n t
-  word_ends n t (script_outcome.done y r) b h e q = absurd (cc)
-  word_ends n t (script_outcome.fault k d) b h e q =
-      let p : b ≡ bad_place k d = cc in
-      let c = word_opens t k d h (sym p ∙ q) in
-      (λ z. 59 ∷ c.0 z, λ z f. let y = c.1 z in (refl, (word y.0, n, (script_outcome.done y.0 z, y.1, ap (λ (q : List ℕ). done (word y.0) n q) (sym (firm_trim z (follow_firm z f)))))))
+  word_ends : (n : ℕ) (t : List ℕ) (w : script_outcome.Outcome Word) (b : ℕ) → Plain t → Enclosed t w → bad b ≡ word_operand n t w → b ≡ 0 → Ends (OperandBy P enclosed) n t
+  word_ends n t (script_outcome.done y r) b p h e q = absurd (cc)
+  word_ends n t (script_outcome.fault k d) b p h e q =
+      let w : b ≡ bad_place t k d = cc in
+      let c = word_opens t k d h (open_place t (fault_place k d) p (sym w ∙ q)) in
+      (λ z. 59 ∷ c.0 z, λ z b. c.1 z b, λ z f. let y = c.2 z in (refl, (word y.0, n, (script_outcome.done y.0 z, y.1, ap (λ (q : List ℕ). done (word y.0) n q) (sym (firm_trim z (follow_firm z f)))))))
 
-  part_ends : (n : ℕ) (t : List ℕ) (w : script_outcome.Outcome Part) (b : ℕ) → Substituted t w → bad b ≡ part_operand n w → b ≡ 0 → Ends (OperandBy P substituted) n t
-  part_ends n t (script_outcome.done y r) b h e q = absurd (cc)
-  part_ends n t (script_outcome.fault k d) b h e q =
-      let p : b ≡ bad_place k d = cc in
-      let c = substituted_open t k d h (sym p ∙ q) in
-      (λ z. 59 ∷ c.0 z, λ z f. let y = c.1 z in (refl, (word (y.0 ∷ []), n, inl (script_outcome.done y.0 z, y.1, ap (λ (q : List ℕ). done (word (y.0 ∷ [])) n q) (sym (firm_trim z (follow_firm z f)))))))
+  part_ends : (n : ℕ) (t : List ℕ) (w : script_outcome.Outcome Part) (b : ℕ) → Plain t → Substituted t w → bad b ≡ part_operand n t w → b ≡ 0 → Ends (OperandBy P substituted) n t
+  part_ends n t (script_outcome.done y r) b p h e q = absurd (cc)
+  part_ends n t (script_outcome.fault k d) b p h e q =
+      let w : b ≡ bad_place t k d = cc in
+      let c = substituted_open t k d h (open_place t (fault_place k d) p (sym w ∙ q)) in
+      (λ z. 59 ∷ c.0 z, λ z b. c.1 z b, λ z f. let y = c.2 z in (refl, (word (y.0 ∷ []), n, inl (script_outcome.done y.0 z, y.1, ap (λ (q : List ℕ). done (word (y.0 ∷ [])) n q) (sym (firm_trim z (follow_firm z f)))))))
 
   dollar_ends : (n c : ℕ) (g : List ℕ) → start (c ∷ g) ≡ substituted → ((o : script_outcome.Outcome Part) → Substituted (c ∷ g) o → ⊥) → length (c ∷ g) - 1 ≡ 0 → Ends (OperandBy P substituted) n (c ∷ g)
   dollar_ends n c (d ∷ g) e none q = absurd (omega (arith, q))
@@ -249,6 +287,7 @@ module _ (P : ℕ → List ℕ → Outcome → Type 0) (P_kept : (n m : ℕ) (t 
       let k : 36 ≡ c = sym (is_dollar c (c == 36) (c == 91) refl refl e none) in
       subst (λ y. Ends (OperandBy P substituted) n (y ∷ [])) k (
         λ z. 97 ∷ z,
+        λ z b. b,
         λ z f.
             let p = named_part (97 ∷ []) in
             (refl, (word (p ∷ []), n, inl (script_outcome.done p z, (steps.named (97 ∷ []) z, follow_name z f, refl), ap (λ (q : List ℕ). done (word (p ∷ [])) n q) (sym (firm_trim z (follow_firm z f)))))),
@@ -267,19 +306,20 @@ module _ (P : ℕ → List ℕ → Outcome → Type 0) (P_kept : (n m : ℕ) (t 
       by_test true e = absurd (cc)
       by_test false e = let p : b ≡ stuck m (c ∷ r) = cc in sym p ∙ q
 
-  operand_ends : (s : Start) (n c : ℕ) (g : List ℕ) (b : ℕ) → start (c ∷ g) ≡ s → OperandBy P s n (c ∷ g) (bad b) → b ≡ 0 → Ends (OperandBy P s) n (c ∷ g)
-  operand_ends enclosed n c g b e h q = word_ends n (c ∷ g) h.0 b h.1 h.2 q
-  operand_ends substituted n c g b e (inl h) q = part_ends n (c ∷ g) h.0 b h.1 h.2 q
-  operand_ends substituted n c g b e (inr h) q = let p : b ≡ length (c ∷ g) - 1 = cc in dollar_ends n c g e h.0 (sym p ∙ q)
-  operand_ends run n c g b e h q = run_ends n (c ∷ g) b h q
-  operand_ends parenthesis n c g b e h q =
-      let k = P_ends n g h.0 h.1 (shut_end h.0 b h.2 q) in (
+  operand_ends : (s : Start) (n c : ℕ) (g : List ℕ) (b : ℕ) → start (c ∷ g) ≡ s → OperandBy P s n (c ∷ g) (bad b) → b ≡ 0 → Plain (c ∷ g) → Ends (OperandBy P s) n (c ∷ g)
+  operand_ends enclosed n c g b e h q l = word_ends n (c ∷ g) h.0 b l h.1 h.2 q
+  operand_ends substituted n c g b e (inl h) q l = part_ends n (c ∷ g) h.0 b l h.1 h.2 q
+  operand_ends substituted n c g b e (inr h) q l = let p : b ≡ length (c ∷ g) - 1 = cc in dollar_ends n c g e h.0 (sym p ∙ q)
+  operand_ends run n c g b e h q l = run_ends n (c ∷ g) b h q
+  operand_ends parenthesis n c g b e h q l =
+      let k = P_ends n g h.0 h.1 (shut_end h.0 b h.2 q) (plain_end (c ∷ g) g (suffix_cons c g g (suffix_all g)) l) in (
         λ z. k.0 (41 ∷ z),
+        λ z b. k.1 (41 ∷ z) b,
         λ z f.
-            let y = k.1 (41 ∷ z) (inl refl) in
+            let y = k.2 (41 ∷ z) (inl refl) in
             (y.0, (y.1.0, y.1.1, (done y.1.0 y.1.1 (41 ∷ z), y.1.2, ap (λ (q : List ℕ). done y.1.0 y.1.1 q) (sym (firm_trim z (follow_firm z f)))))),
       )
-  operand_ends nothing n c g b e h q = absurd (let p : b ≡ length (c ∷ g) = cc in omega (arith, p, q))
+  operand_ends nothing n c g b e h q l = absurd (let p : b ≡ length (c ∷ g) = cc in omega (arith, p, q))
 
   -- ---- unary operators
 
@@ -309,13 +349,14 @@ module _ (P : ℕ → List ℕ → Outcome → Type 0) (P_kept : (n m : ℕ) (t 
   signed_zero zero z f = no_sign refl (zero_run zero z f)
   signed_zero (suc n) z f = no_sign refl (zero_run (suc n) z f)
 
-  plain_ends : (n : ℕ) (t : List ℕ) (b : ℕ) → next_sign n t ≡ None → OperandBy P (start t) n t (bad b) → b ≡ 0 → Ends (SignedAt P) n t
-  plain_ends n [] b e h q = (λ z. 48 ∷ z, λ z f. (refl, (value (48 ∷ []), n, signed_zero n z f)))
-  plain_ends n (c ∷ g) b e h q =
-      let k = operand_ends (start (c ∷ g)) n c g b refl h q in (
+  plain_ends : (n : ℕ) (t : List ℕ) (b : ℕ) → next_sign n t ≡ None → OperandBy P (start t) n t (bad b) → b ≡ 0 → Plain t → Ends (SignedAt P) n t
+  plain_ends n [] b e h q l = (λ z. 48 ∷ z, λ z b. b, λ z f. (refl, (value (48 ∷ []), n, signed_zero n z f)))
+  plain_ends n (c ∷ g) b e h q l =
+      let k = operand_ends (start (c ∷ g)) n c g b refl h q l in (
         k.0,
+        k.1,
         λ z f.
-            let y = k.1 z f in
+            let y = k.2 z f in
             (y.0, (y.1.0, y.1.1, no_sign (sign_none n c g (k.0 z) e) (subst (λ s. OperandBy P s n (c ∷ g ++ k.0 z) (done y.1.0 y.1.1 z)) (local.start_same c g (g ++ k.0 z)) y.1.2))),
       )
 
@@ -323,8 +364,8 @@ module _ (P : ℕ → List ℕ → Outcome → Type 0) (P_kept : (n m : ℕ) (t 
   bad_signed op (done x m r) b e = absurd (cc)
   bad_signed op (bad d) b e = e
 
-  pub signed_ends : {n : ℕ} {t : List ℕ} {o : Outcome} → SignedAt P n t o → (b : ℕ) → o ≡ bad b → b ≡ 0 → Ends (SignedAt P) n t
-  signed_ends {n} {t} {o} (no_sign e h) b p q = plain_ends n t b e (subst (OperandBy P (start t) n t) p h) q
-  signed_ends {n} {t} (one_sign {m = m} {r = r} {op = op} {o = o} e h) b p q =
-      let k = signed_ends h b (bad_signed op o b p) q in
-      (k.0, λ z f. let y = k.1 z f in (y.0, (unary op y.1.0, y.1.1, one_sign {o = done y.1.0 y.1.1 z} (sign_kept n m t r (k.0 z) op y.0 e) y.1.2)))
+  pub signed_ends : {n : ℕ} {t : List ℕ} {o : Outcome} → SignedAt P n t o → (b : ℕ) → o ≡ bad b → b ≡ 0 → Plain t → Ends (SignedAt P) n t
+  signed_ends {n} {t} {o} (no_sign e h) b p q l = plain_ends n t b e (subst (OperandBy P (start t) n t) p h) q l
+  signed_ends {n} {t} (one_sign {m = m} {r = r} {op = op} {o = o} e h) b p q l =
+      let k = signed_ends h b (bad_signed op o b p) q (plain_end t r (sign_leaves n m t r op e).0 l) in
+      (k.0, k.1, λ z f. let y = k.2 z f in (y.0, (unary op y.1.0, y.1.1, one_sign {o = done y.1.0 y.1.1 z} (sign_kept n m t r (k.0 z) op y.0 e) y.1.2)))

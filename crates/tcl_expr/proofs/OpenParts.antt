@@ -20,7 +20,7 @@ use Rattle.tcl_parse.specs.Laws.Within.{bracket_within, index_within}
 use Rattle.tcl_expr.specs.declared.operator.Op.{Op}
 use Rattle.tcl_expr.specs.declared.operator.Op.TheVariants.{EqNumber, NeNumber, EqText, NeText}
 use Rattle.tcl_expr.specs.Tokens.{single, double, sign, before, either, counted, next_operator, next_sign, next_question, next_colon, is_half}
-use Rattle.tcl_expr.specs.Grammar.{bad_place, Enclosed, Substituted}
+use Rattle.tcl_expr.specs.Grammar.{fault_place, Enclosed, Substituted}
 use Rattle.tcl_expr.proofs.Words as words
 use Rattle.tcl_expr.proofs.Tokens.{no_operator, with_count}
 use Rattle.tcl_expr.proofs.Open.{append_if, Goes, IsLone, step_goes, prefix_near}
@@ -133,16 +133,16 @@ operator_zero (suc n) m (b ∷ c ∷ g) z op e = two_kept n m c (double b c) (si
 
 -- half of an operator can be made one, with an operand
 abbrev pub HalfWhole : ℕ → Type 0
-HalfWhole h = (c : ℕ) × (op : Op) × ((m : ℕ) (z : List ℕ) → next_operator (suc m) (h ∷ c ∷ 48 ∷ z) ≡ Some (op, m, 48 ∷ z)) × (is_space c ≡ false)
+HalfWhole h = (c : ℕ) × (op : Op) × ((m : ℕ) (z : List ℕ) → next_operator (suc m) (h ∷ c ∷ 48 ∷ z) ≡ Some (op, m, 48 ∷ z)) × (is_space c ≡ false) × (nat_lt c 256 ≡ true)
 
 pub half_whole : (h : ℕ) → is_half h ≡ true → HalfWhole h
 half_whole h e = by_test (h == 61) (h == 33) (h == 101) (h == 110) refl refl refl refl e
   where
     by_test : (p q r s : Bool) → (h == 61) ≡ p → (h == 33) ≡ q → (h == 101) ≡ r → (h == 110) ≡ s → (p || q || r || s) ≡ true → HalfWhole h
-    by_test true q r s a b c d e = subst HalfWhole (sym (eqb-true h 61 a)) (61, EqNumber, (λ m z. refl), refl)
-    by_test false true r s a b c d e = subst HalfWhole (sym (eqb-true h 33 b)) (61, NeNumber, (λ m z. refl), refl)
-    by_test false false true s a b c d e = subst HalfWhole (sym (eqb-true h 101 c)) (113, EqText, (λ m z. refl), refl)
-    by_test false false false true a b c d e = subst HalfWhole (sym (eqb-true h 110 d)) (101, NeText, (λ m z. refl), refl)
+    by_test true q r s a b c d e = subst HalfWhole (sym (eqb-true h 61 a)) (61, EqNumber, (λ m z. refl), refl, refl)
+    by_test false true r s a b c d e = subst HalfWhole (sym (eqb-true h 33 b)) (61, NeNumber, (λ m z. refl), refl, refl)
+    by_test false false true s a b c d e = subst HalfWhole (sym (eqb-true h 101 c)) (113, EqText, (λ m z. refl), refl, refl)
+    by_test false false false true a b c d e = subst HalfWhole (sym (eqb-true h 110 d)) (101, NeText, (λ m z. refl), refl, refl)
     by_test false false false false a b c d e = absurd (cc)
 
 abbrev more_rest : List ℕ → Option (List ℕ) → Option (List ℕ)
@@ -337,14 +337,14 @@ step_into [] s e = absurd (cc)
 step_into (b ∷ g) s e = subst (λ y. Goes y (λ z. step_at (b ∷ g ++ 59 ∷ z))) e (step_goes b g (lone_by (b == 92) b g s refl e)).goes
 
 -- What is substituted and is open at the end of a text can be closed.
-pub substituted_open : (t : List ℕ) (k : Kind) (n : ℕ) → Substituted t (fault k n) → bad_place k n ≡ 0 → ClosesAll Substituted t
+pub substituted_open : (t : List ℕ) (k : Kind) (n : ℕ) → Substituted t (fault k n) → fault_place k n ≡ 0 → ClosesAll Substituted t
 substituted_open t k n h e =
     let c = part_open (InBracket most_nested) (InIndex most_nested) (bracket_within most_nested) (index_within most_nested) (λ w. words.bracket_local [] w most_nested) (λ w. words.index_local [] w most_nested) (bracket_open most_nested) (index_open most_nested)
     h.0 (λ z. step_at (t ++ 59 ∷ z)) (length t) k n (step_into t h.0 h.1) h.2 e in
-    (c.0, λ z. let y = c.1 z in (y.1, (y.0, y.2, y.3 (length (t ++ 59 ∷ c.0 z)))))
+    (c.0, c.1, λ z. let y = c.2 z in (y.1, (y.0, y.2, y.3 (length (t ++ 59 ∷ c.0 z)))))
 
 -- The same of a word in braces or quotes.
-pub word_opens : (t : List ℕ) (k : Kind) (n : ℕ) → Enclosed t (fault k n) → bad_place k n ≡ 0 → ClosesAll Enclosed t
+pub word_opens : (t : List ℕ) (k : Kind) (n : ℕ) → Enclosed t (fault k n) → fault_place k n ≡ 0 → ClosesAll Enclosed t
 word_opens t k n h e =
     enclosed_open (InBracket most_nested) (InIndex most_nested) (bracket_within most_nested) (index_within most_nested) (λ w. words.bracket_local [] w most_nested) (λ w. words.index_local [] w most_nested) (bracket_open most_nested) (index_open most_nested) h k n refl e
 

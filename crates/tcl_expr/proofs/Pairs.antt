@@ -1,12 +1,13 @@
 -- The bad place of a text never stands between a backslash and a newline.
-use Rattle.std.proofs.Common.{◌≡◌, ℕ, zero, suc, ◌+◌, ◌-◌, ◌<◌, ◌≤◌, List, [], ◌∷◌, ◌++◌, length, take, drop, Bool, true, false, Option, None, Some, refl, ap, sym, ◌∙◌, subst, ◌⊎◌, inl, inr, arith, append_assoc}
+use Rattle.std.proofs.Common.{◌≡◌, ℕ, zero, suc, ◌+◌, ◌-◌, ◌<◌, ◌≤◌, List, [], ◌∷◌, ◌++◌, length, take, drop, Bool, true, false, Some, refl, ap, sym, ◌∙◌, subst, ◌⊎◌, inl, inr, arith, append_assoc}
 use Rattle.std.specs.Prelude.{◌==◌, ◌||◌, if◌then◌else◌}
 use Rattle.std.specs.List.{prefix_len}
 use Rattle.std.proofs.Math.Nat.{eq-or-lt_of_le}
-use Rattle.std.proofs.lemmas.Bool.{ne_eqb, eqb-true}
+use Rattle.std.proofs.lemmas.Bool.{eqb-true}
 use Rattle.std.proofs.lemmas.List.{length-append}
-use Rattle.txt_core.specs.Number.{is_space, trimmed_front}
-use Rattle.tcl_parse.specs.Bytes.{begins_with, newline}
+use Rattle.txt_core.specs.Number.{trimmed_front}
+use Rattle.tcl_parse.specs.Bytes.{begins_with, newline, backslash}
+use Rattle.tcl_parse.specs.declared.fault.Kind.{Kind}
 use Rattle.tcl_parse.specs.Tree.{Part, Word}
 use Rattle.tcl_parse.specs.Outcome as script_outcome
 use Rattle.tcl_parse.specs.Grammar.{Opening, by_brace, by_quote, bare, opening, InBracket, InIndex, most_nested}
@@ -14,13 +15,13 @@ use Rattle.tcl_parse.specs.Laws.Within.{bracket_within, index_within}
 use Rattle.tcl_expr.specs.declared.operator.Op.{Op}
 use Rattle.tcl_expr.specs.Trees.{Tree, value}
 use Rattle.tcl_expr.specs.Outcome.{Outcome, done, bad, signed, chosen, bad_from}
-use Rattle.tcl_expr.specs.Tokens.{loosest, single, double, sign, before, either, counted, next_operator, next_sign, next_question, next_colon, is_half, stuck}
+use Rattle.tcl_expr.specs.Tokens.{loosest, next_question, is_half, stuck}
 use Rattle.tcl_expr.specs.Runs.{is_word, names_value, value_front}
-use Rattle.tcl_expr.specs.Grammar.{bad_place, word_operand, part_operand, closed, Start, enclosed, substituted, run, parenthesis, nothing, start, start_by, Enclosed, Substituted, OperandBy, SignedAt, no_sign, one_sign, LevelAt, ChoiceAt, bad_test, no_choice, bad_middle, no_last, one_choice, ExpressionBy, InParens, most_parentheses, most_operators, whole, Reads}
+use Rattle.tcl_expr.specs.Grammar.{fault_place, bad_place, word_operand, part_operand, closed, Start, enclosed, substituted, run, parenthesis, nothing, start, start_by, Enclosed, Substituted, OperandBy, SignedAt, no_sign, one_sign, LevelAt, ChoiceAt, bad_test, no_choice, bad_middle, no_last, one_choice, ExpressionBy, InParens, most_parentheses, most_operators, whole, Reads}
 use Rattle.tcl_expr.specs.Laws.Fits.{Fits, signed_at_fits, level_fits, choice_fits, expression_fits, parens_fits}
 use Rattle.tcl_expr.specs.Laws.One.{IsOne, one_signed, one_parens}
 use Rattle.tcl_expr.specs.Laws.Some.{IsTotal, IsFit, some_signed, some_parens}
-use Rattle.tcl_expr.proofs.Tokens.{with_count}
+use Rattle.tcl_expr.proofs.Behind.{Clean, Leaves, trim_clean, trim_suffix, trim_apart, cons_apart, sign_leaves, operator_leaves, question_leaves, colon_leaves}
 use Rattle.tcl_expr.proofs.OpenOperands.{front_le}
 use Rattle.tcl_expr.proofs.OpenLevels.{End, stops, breaks, end_of, Row, row_bad, row_ends, row_goes, row_level, level_row}
 use Rattle.tcl_expr.proofs.Suffixes as suffixes
@@ -30,9 +31,6 @@ use Rattle.tcl_expr.proofs.Suffixes.{Suffix, suffix_all, suffix_trans, suffix_co
 abbrev pub NotPair : List ℕ → ℕ → Type 0
 NotPair t n = (g u : List ℕ) → t ≡ g ++ 92 ∷ u → length u ≡ n → begins_with newline u ≡ false
 
-abbrev Clean : List ℕ → Type 0
-Clean r = begins_with newline r ≡ false
-
 -- what is left is an end of the text that begins with no newline, and a bad place is no such place
 abbrev pub Apart : List ℕ → Outcome → Type 0
 Apart t (done x m r) = Suffix t r × Clean r
@@ -40,6 +38,18 @@ Apart t (bad b) = NotPair t b
 
 line_pair : (t : List ℕ) (n : ℕ) → NotLine t n → NotPair t n
 line_pair t n h g u e l = suffixes.stands_line u (h (g ++ 92 ∷ []) u (e ∙ sym (append_assoc g (92 ∷ []) u)) l)
+
+-- no newline stands behind the backslash at which a fault stands
+behind_pair : (t : List ℕ) (n : ℕ) → NotLine t n → NotPair t (n - 1)
+behind_pair t n h g [] e l = refl
+behind_pair t n h g (c ∷ u) e l = suffixes.stands_slash (c ∷ u) (h g (92 ∷ c ∷ u) e (omega (arith, l)))
+
+behind_if : (s : Bool) (t : List ℕ) (n : ℕ) → NotLine t n → NotPair t (if s then n - 1 else n)
+behind_if true t n h = behind_pair t n h
+behind_if false t n h = line_pair t n h
+
+place_pair : (t : List ℕ) (k : Kind) (d : ℕ) → NotLine t (fault_place k d) → NotPair t (bad_place t k d)
+place_pair t k d h = behind_if (begins_with backslash (drop (length t - fault_place k d) t)) t (fault_place k d) h
 
 far_pair : (t : List ℕ) (n : ℕ) → length t ≤ n → NotPair t n
 far_pair t n le g u e l = absurd (omega (arith, le, l, ap length e, length-append g (92 ∷ u)))
@@ -68,81 +78,6 @@ apart_more : (n : ℕ) (t r : List ℕ) (o : Outcome) → Suffix t r → Clean r
 apart_more n t r (done x m s) h c f k = (suffix_trans t r s h k.0, k.1)
 apart_more n t r (bad b) h c f k = pair_more t r b h c f k
 
-clean_if : (s : Bool) (b : ℕ) (x t : List ℕ) → is_space b ≡ s → Clean x → Clean (if s then x else b ∷ t)
-clean_if true b x t e c = c
-clean_if false b x t e c = ne_eqb b 10 (λ q. let w : is_space 10 ≡ false = subst (λ y. is_space y ≡ false) q e in cc)
-
-trim_clean : (t : List ℕ) → Clean (trimmed_front t)
-trim_clean [] = refl
-trim_clean (b ∷ t) = clean_if (is_space b) b (trimmed_front t) t refl (trim_clean t)
-
-trim_suffix : (t : List ℕ) → Suffix t (trimmed_front t)
-trim_suffix [] = suffix_all []
-trim_suffix (b ∷ t) = suffix_if (is_space b) (b ∷ t) (trimmed_front t) (b ∷ t) (suffix_cons b t (trimmed_front t) (trim_suffix t)) (suffix_all (b ∷ t))
-
-trim_apart : (t r : List ℕ) → Suffix t r → Suffix t (trimmed_front r) × Clean (trimmed_front r)
-trim_apart t r h = (suffix_trans t r (trimmed_front r) h (trim_suffix r), trim_clean r)
-
-cons_apart : (b : ℕ) (t : List ℕ) → Suffix (b ∷ t) (trimmed_front t) × Clean (trimmed_front t)
-cons_apart b t = trim_apart (b ∷ t) t (suffix_cons b t t (suffix_all t))
-
--- ---- what comes next
-
-abbrev Leaves : List ℕ → List ℕ → Type 0
-Leaves t r = Suffix t r × Clean r
-
-abbrev rest_of : Option (Op × ℕ × List ℕ) → List ℕ
-rest_of None = []
-rest_of (Some x) = x.2
-
-abbrev ask_of : Option (ℕ × List ℕ) → List ℕ
-ask_of None = []
-ask_of (Some x) = x.1
-
-abbrev colon_of : Option (List ℕ) → List ℕ
-colon_of None = []
-colon_of (Some x) = x
-
-taken : (n m : ℕ) (o op : Op) (t g r : List ℕ) → Suffix t g → counted (suc n) (Some (o, g)) ≡ Some (op, m, r) → Leaves t r
-taken n m o op t g r h e = subst (Leaves t) (ap rest_of e) (trim_apart t g h)
-
-sign_by : (n m b : ℕ) (s : Option Op) (op : Op) (g r : List ℕ) → counted (suc n) (before s g) ≡ Some (op, m, r) → Leaves (b ∷ g) r
-sign_by n m b None op g r e = absurd (cc)
-sign_by n m b (Some o) op g r e = taken n m o op (b ∷ g) g r (suffix_cons b g g (suffix_all g)) e
-
-sign_leaves : (n m : ℕ) (t r : List ℕ) (op : Op) → next_sign n t ≡ Some (op, m, r) → Leaves t r
-sign_leaves zero m t r op e = absurd (cc)
-sign_leaves (suc n) m [] r op e = absurd (cc)
-sign_leaves (suc n) m (b ∷ g) r op e = sign_by n m b (sign b) op g r e
-
-two_by : (n m b c : ℕ) (d s : Option Op) (op : Op) (g r : List ℕ) → counted (suc n) (either (before d g) (before s (c ∷ g))) ≡ Some (op, m, r) → Leaves (b ∷ c ∷ g) r
-two_by n m b c (Some o) s op g r e = taken n m o op (b ∷ c ∷ g) g r (b ∷ c ∷ [], refl) e
-two_by n m b c None (Some o) op g r e = taken n m o op (b ∷ c ∷ g) (c ∷ g) r (b ∷ [], refl) e
-two_by n m b c None None op g r e = absurd (cc)
-
-operator_leaves : (n m : ℕ) (t r : List ℕ) (op : Op) → next_operator n t ≡ Some (op, m, r) → Leaves t r
-operator_leaves zero m t r op e = absurd (cc)
-operator_leaves (suc n) m [] r op e = absurd (cc)
-operator_leaves (suc n) m (b ∷ []) r op e = sign_by n m b (single b) op [] r e
-operator_leaves (suc n) m (b ∷ c ∷ g) r op e = two_by n m b c (double b c) (single b) op g r e
-
-colon_by : (s : Bool) (b : ℕ) (g r : List ℕ) → (if s then Some (trimmed_front g) else None) ≡ Some r → Leaves (b ∷ g) r
-colon_by true b g r e = subst (Leaves (b ∷ g)) (ap colon_of e) (cons_apart b g)
-colon_by false b g r e = absurd (cc)
-
-colon_leaves : (t r : List ℕ) → next_colon t ≡ Some r → Leaves t r
-colon_leaves [] r e = absurd (cc)
-colon_leaves (b ∷ g) r e = colon_by (b == 58) b g r e
-
-ask_by : (n i : ℕ) (s : Bool) (b : ℕ) (g r : List ℕ) → with_count n (if s then Some (trimmed_front g) else None) ≡ Some (i, r) → Leaves (b ∷ g) r
-ask_by n i true b g r e = subst (Leaves (b ∷ g)) (ap ask_of e) (cons_apart b g)
-ask_by n i false b g r e = absurd (cc)
-
-question_leaves : (n i : ℕ) (t r : List ℕ) → next_question n t ≡ Some (i, r) → Leaves t r
-question_leaves zero i t r e = absurd (cc)
-question_leaves (suc n) i [] r e = absurd (cc)
-question_leaves (suc n) i (b ∷ g) r e = ask_by n i (b == 63) b g r e
-
 -- behind a whole operand
 half_by : (s : Bool) (t : List ℕ) (c : ℕ) (r : List ℕ) → is_half c ≡ s → Suffix t (c ∷ r) → Clean (c ∷ r) → NotPair t (if s then length r else length (c ∷ r))
 half_by true t c r q h k g u e l =
@@ -159,13 +94,13 @@ stuck_pair (suc m) t (c ∷ r) h = half_by (is_half c) t c r refl h.0 h.1
 
 -- ---- operands
 
-word_apart : (n : ℕ) (t : List ℕ) (w : script_outcome.Outcome Word) → Good t w → Apart t (word_operand n w)
+word_apart : (n : ℕ) (t : List ℕ) (w : script_outcome.Outcome Word) → Good t w → Apart t (word_operand n t w)
 word_apart n t (script_outcome.done y r) h = trim_apart t r h
-word_apart n t (script_outcome.fault k d) h = line_pair t (bad_place k d) h
+word_apart n t (script_outcome.fault k d) h = place_pair t k d h
 
-part_apart : (n : ℕ) (t : List ℕ) (w : script_outcome.Outcome Part) → Good t w → Apart t (part_operand n w)
+part_apart : (n : ℕ) (t : List ℕ) (w : script_outcome.Outcome Part) → Good t w → Apart t (part_operand n t w)
 part_apart n t (script_outcome.done y r) h = trim_apart t r h
-part_apart n t (script_outcome.fault k d) h = line_pair t (bad_place k d) h
+part_apart n t (script_outcome.fault k d) h = place_pair t k d h
 
 pub enclosed_good : (t : List ℕ) (w : script_outcome.Outcome Word) → Enclosed t w → Good t w
 enclosed_good t w h = suffixes.enclosed_good (InBracket most_nested) (InIndex most_nested) (bracket_within most_nested) (index_within most_nested) (suffixes.bracket_good most_nested) (suffixes.index_good most_nested) h
@@ -250,7 +185,7 @@ module _ (P : ℕ → List ℕ → Outcome → Type 0) (P_fits : (n : ℕ) (t : 
   signed_as t op (done x m r) h = h
   signed_as t op (bad b) h = h
 
-  signed_apart : {n : ℕ} {t : List ℕ} {o : Outcome} → SignedAt P n t o → Apart t o
+  pub signed_apart : {n : ℕ} {t : List ℕ} {o : Outcome} → SignedAt P n t o → Apart t o
   signed_apart {n} {t} {o} (no_sign e h) = plain_apart n t o h
   signed_apart {n} {t} (one_sign {m = m} {r = r} {op = op} {o = o} e h) =
       let s = sign_leaves n m t r op e in
@@ -290,7 +225,7 @@ module _ (P : ℕ → List ℕ → Outcome → Type 0) (P_fits : (n : ℕ) (t : 
   T_fits : IsFit (LevelAt (SignedAt P) loosest)
   T_fits = level_fits (SignedAt P) S_fits loosest
 
-  level_apart : (n : ℕ) (t : List ℕ) (o : Outcome) → LevelAt (SignedAt P) loosest n t o → Apart t o
+  pub level_apart : (n : ℕ) (t : List ℕ) (o : Outcome) → LevelAt (SignedAt P) loosest n t o → Apart t o
   level_apart n t o h = end_apart t o (row_apart (level_row (SignedAt P) (some_signed P some_p) S_fits (one_signed P one_p) n t o h))
 
   -- ---- choices
@@ -305,7 +240,7 @@ module _ (P : ℕ → List ℕ → Outcome → Type 0) (P_fits : (n : ℕ) (t : 
       let s = question_leaves m i u r q in
       (suffix_trans t u r a.0 s.0, s.1)
 
-  choice_apart : {n : ℕ} {t : List ℕ} {o : Outcome} → ChoiceAt (LevelAt (SignedAt P) loosest) n t o → Apart t o
+  pub choice_apart : {n : ℕ} {t : List ℕ} {o : Outcome} → ChoiceAt (LevelAt (SignedAt P) loosest) n t o → Apart t o
   choice_apart {n} {t} (bad_test {b = b} h) = level_apart n t (bad b) h
   choice_apart {n} {t} (no_choice x {m = m} {u = u} h q) = level_apart n t (done x m u) h
   choice_apart {n} {t} (bad_middle x {m = m} {i = i} {b = b} {u = u} {r = r} h q k) =
@@ -325,7 +260,7 @@ module _ (P : ℕ → List ℕ → Outcome → Type 0) (P_fits : (n : ℕ) (t : 
   pub expression_apart : (n : ℕ) (t : List ℕ) (o : Outcome) → ExpressionBy P n t o → Apart t o
   expression_apart n t o h = choice_apart h
 
-parens_apart : (room n : ℕ) (t : List ℕ) (o : Outcome) → InParens room n t o → Apart (40 ∷ t) o
+pub parens_apart : (room n : ℕ) (t : List ℕ) (o : Outcome) → InParens room n t o → Apart (40 ∷ t) o
 unfolding InParens
 parens_apart zero n t o h = subst (Apart (40 ∷ t)) (sym h) (far_pair (40 ∷ t) (length t + 1) (omega arith))
 parens_apart (suc room) n t o h =

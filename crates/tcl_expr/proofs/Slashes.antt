@@ -1,16 +1,17 @@
--- A text that is bad at a backslash before a newline is bad there whatever stands behind the backslash.
+-- A text that is bad at a backslash is bad whatever stands behind the backslash; so with the byte at the bad place of a text no expression can go on.
 use Rattle.std.proofs.Common.{◌≡◌, ℕ, ◌+◌, ◌-◌, ◌<◌, ◌≤◌, List, [], ◌∷◌, ◌++◌, length, take, drop, Bool, true, false, cond, Option, None, Some, refl, ap, sym, ◌∙◌, subst, ◌⊎◌, inl, inr, arith, append_assoc}
 use Rattle.std.specs.Prelude.{not, ◌==◌, ◌||◌, nat_lt, if◌then◌else◌}
 use Rattle.std.specs.List.{prefix_len, position_or_len}
 use Rattle.std.specs.Option.{option_map}
 use Rattle.std.proofs.Math.Nat.{eq-or-lt_of_le}
+use Rattle.std.proofs.Math.Seq.{drop-append-add}
 use Rattle.std.proofs.lemmas.Bool.{lt-ltb, eqb-true}
 use Rattle.std.proofs.lemmas.List.{length-append, length-drop, take-append-le, drop-append-le}
 use Rattle.std.proofs.lemmas.List.Sums.{prefix_len-le-length}
 use Rattle.txt_core.specs.Escape.{skip_margin, escape_of}
 use Rattle.txt_core.specs.Number.{trimmed_front}
 use Rattle.tcl_parse.specs.declared.fault.Kind.{Kind}
-use Rattle.tcl_parse.specs.Bytes.{begins_with, newline}
+use Rattle.tcl_parse.specs.Bytes.{begins_with, backslash}
 use Rattle.tcl_parse.specs.Tree.{Part, Word}
 use Rattle.tcl_parse.specs.Names.{name_at, up_to}
 use Rattle.tcl_parse.specs.Outcome as script_outcome
@@ -22,10 +23,10 @@ use Rattle.tcl_parse.specs.Laws.Within.{bracket_within, index_within}
 use Rattle.tcl_expr.specs.Trees.{Tree, word}
 use Rattle.tcl_expr.specs.Outcome as outcome
 use Rattle.tcl_expr.specs.Outcome.{Outcome, bad, tree, bad_from}
-use Rattle.tcl_expr.specs.Grammar.{bad_place, word_operand, part_operand, Enclosed, Substituted, Reads}
+use Rattle.tcl_expr.specs.Grammar.{fault_place, behind_backslash, bad_place, word_operand, part_operand, Enclosed, Substituted, Reads}
 use Rattle.tcl_expr.specs.Answers.{WordGives, PartGives}
 use Rattle.tcl_expr.specs.Reading.{IsTree, IsBad}
-use Rattle.tcl_expr.specs.Laws.Fits.{trimmed_within}
+use Rattle.tcl_expr.specs.Laws.Fits.{trimmed_within, behind_within}
 use Rattle.tcl_expr.specs.Laws.Answers.{one_answer}
 use Rattle.tcl_expr.specs.Places.{NoneGoesPast}
 use Rattle.tcl_expr.proofs.Words as words
@@ -33,7 +34,7 @@ use Rattle.tcl_expr.proofs.Local as local
 use Rattle.tcl_expr.proofs.Least as least
 use Rattle.tcl_expr.proofs.Open.{prefix_near, prefix_far}
 use Rattle.tcl_expr.proofs.OpenParts.{trim_firm, name_until}
-use Rattle.tcl_expr.proofs.Suffixes.{Suffix, overlap, stands_joined, tail_same}
+use Rattle.tcl_expr.proofs.Suffixes.{Suffix, overlap, tail_same}
 use Rattle.tcl_expr.proofs.Pairs.{enclosed_good, substituted_good}
 
 cancel : (h p r : List ℕ) → h ++ r ≡ p ++ r → h ≡ p
@@ -127,10 +128,10 @@ abbrev left_of : {A : Type 0} → script_outcome.Outcome A → List ℕ
 left_of (done x r) = r
 left_of (fault k n) = []
 
-module _ (s v : List ℕ) where
+module _ (u v : List ℕ) where
   -- both texts, from the backslash on
   abbrev A : List ℕ
-  A = 92 ∷ 10 ∷ s
+  A = 92 ∷ u
 
   abbrev B : List ℕ
   B = 92 ∷ v
@@ -235,7 +236,7 @@ module _ (s v : List ℕ) where
   swap_dollar (b ∷ g) =
       swap_if (b == 123) (between_braces (up_to 125 (g ++ A))) (by_name (name_at (b ∷ g ++ A)).0 (name_at (b ∷ g ++ A)).1) (between_braces (up_to 125 (g ++ B))) (by_name (name_at (b ∷ g ++ B)).0 (name_at (b ∷ g ++ B)).1)
       (swap_braces g (eq-or-lt_of_le (prefix_len-le-length (λ b. not (b == 125)) g)))
-      (by_name_same ((name_at (b ∷ g)).0, (name_at (b ∷ g)).1 ++ A) ((name_at (b ∷ g)).0, (name_at (b ∷ g)).1 ++ B) (name_at (b ∷ g ++ A)) (name_at (b ∷ g ++ B)) (name_until (b ∷ g) 92 (10 ∷ s) refl) (name_until (b ∷ g) 92 v refl)
+      (by_name_same ((name_at (b ∷ g)).0, (name_at (b ∷ g)).1 ++ A) ((name_at (b ∷ g)).0, (name_at (b ∷ g)).1 ++ B) (name_at (b ∷ g ++ A)) (name_at (b ∷ g ++ B)) (name_until (b ∷ g) 92 u refl) (name_until (b ∷ g) 92 v refl)
       (swap_name (name_at (b ∷ g)).0 (name_at (b ∷ g)).1))
 
   swap_step : (b : ℕ) (g n : List ℕ) → step_at (b ∷ g ++ A) ≡ substituted (named n A) → step_at (b ∷ g ++ B) ≡ substituted (named n B)
@@ -298,53 +299,63 @@ module _ (s v : List ℕ) where
   ends_tail b g (inr (c ∷ k, e)) = inr (k, tail_same b c g (k ++ 92 ∷ []) e)
 
   abbrev Early : Outcome → Type 0
-  Early o = local.Early (10 ∷ s) v Ends ends_tail o
+  Early o = local.Early u v Ends ends_tail o
 
   abbrev Moved : (Outcome → Type 0) → Outcome → Type 0
-  Moved Q o = local.Moved (10 ∷ s) v Ends ends_tail Q o
+  Moved Q o = local.Moved u v Ends ends_tail Q o
 
   -- what is left behind a word or a variable, behind the blanks
   done_moves : (n : ℕ) (x : Tree) (p : List ℕ) (Q : Outcome → Type 0) → Q (outcome.done x n (trimmed_front (p ++ B))) → Moved Q (outcome.done x n (trimmed_front (p ++ A)))
   done_moves n x p Q h =
       let k = trimmed_front p in
-      (k ++ 92 ∷ [], trim_firm p A refl ∙ sym (append_assoc k (92 ∷ []) (10 ∷ s)), inr (k, refl), subst (λ y. Q (outcome.done x n y)) (trim_firm p B refl ∙ sym (append_assoc k (92 ∷ []) v)) h)
+      (k ++ 92 ∷ [], trim_firm p A refl ∙ sym (append_assoc k (92 ∷ []) u), inr (k, refl), subst (λ y. Q (outcome.done x n y)) (trim_firm p B refl ∙ sym (append_assoc k (92 ∷ []) v)) h)
 
-  front_of : (n : ℕ) (t r : List ℕ) → Suffix (t ++ A) r → local.Left (10 ∷ s) v Ends ends_tail n (trimmed_front r) → (p : List ℕ) × (r ≡ p ++ A)
+  front_of : (n : ℕ) (t r : List ℕ) → Suffix (t ++ A) r → local.Left u v Ends ends_tail n (trimmed_front r) → (p : List ℕ) × (r ≡ p ++ A)
   front_of n t r h e =
-      let m = local.left_more (10 ∷ s) v Ends ends_tail n (trimmed_front r) e in
+      let m = local.left_more u v Ends ends_tail n (trimmed_front r) e in
       overlap h.0 r t A (sym h.1) (omega (arith, m, trimmed_within r))
 
-  bad_moves : (k : Kind) (d c : ℕ) → length A < bad_place k d → d + length B ≡ c + length A → bad_place k d + length v ≡ bad_place k c + length (10 ∷ s)
-  bad_moves k d c lt q = let e = least.place_moves A B k d c lt q in omega (arith, e)
+  bad_moves : (b : ℕ) (g : List ℕ) (k : Kind) (d c : ℕ) → length A < fault_place k d → d + length B ≡ c + length A → bad_place (b ∷ g ++ A) k d + length v ≡ bad_place (b ∷ g ++ B) k c + length u
+  bad_moves b g k d c lt q = let e = least.place_moves A B b g k d c lt q in omega (arith, e)
 
-  word_by : (n b : ℕ) (g : List ℕ) (w : script_outcome.Outcome Word) → Enclosed (b ∷ g ++ A) w → Early (word_operand n w) → Moved (WordGives n (b ∷ g ++ B)) (word_operand n w)
+  -- a fault at the backslash is bad behind it
+  slash_at : (g : List ℕ) → behind_backslash (g ++ A) (length A) ≡ length u
+  slash_at g =
+      let i : length (g ++ A) - length A ≡ length g + 0 = omega (arith, length-append g A) in
+      let d : drop (length (g ++ A) - length A) (g ++ A) ≡ A = ap (λ k. drop k (g ++ A)) i ∙ drop-append-add g A 0 in
+      let e : length A - 1 ≡ length u = omega arith in
+      ap (λ y. if begins_with backslash y then length A - 1 else length A) d ∙ e
+
+  -- a fault that is bad at the backslash or before it stands before it
+  stands_before : (g : List ℕ) (k : Kind) (d : ℕ) → length u < bad_place (g ++ A) k d → length A < fault_place k d
+  stands_before g k d lt = by_place (eq-or-lt_of_le (let le : length A ≤ fault_place k d = omega (arith, lt, behind_within (g ++ A) (fault_place k d)) in le))
+    where
+      by_place : (length A ≡ fault_place k d) ⊎ (length A < fault_place k d) → length A < fault_place k d
+      by_place (inl q) = let e : bad_place (g ++ A) k d ≡ length u = ap (behind_backslash (g ++ A)) (sym q) ∙ slash_at g in absurd (omega (arith, lt, e))
+      by_place (inr l) = l
+
+  word_by : (n b : ℕ) (g : List ℕ) (w : script_outcome.Outcome Word) → Enclosed (b ∷ g ++ A) w → Early (word_operand n (b ∷ g ++ A) w) → Moved (WordGives n (b ∷ g ++ B)) (word_operand n (b ∷ g ++ A) w)
   word_by n b g (done y r) h e =
       let p = front_of n (b ∷ g) r (enclosed_good (b ∷ g ++ A) (done y r) h) e in
       let k = enclosed_swap b g y p.0 (subst (λ z. Enclosed (b ∷ g ++ A) (done y z)) p.1 h) in
       subst (λ z. Moved (WordGives n (b ∷ g ++ B)) (outcome.done (word y) n (trimmed_front z))) (sym p.1) (done_moves n (word y) p.0 (WordGives n (b ∷ g ++ B)) (done y (p.0 ++ B), k, refl))
-  word_by n b g (fault l d) h e = by_place (eq-or-lt_of_le (let le : length A ≤ bad_place l d = omega (arith, e) in le))
-    where
-      by_place : (length A ≡ bad_place l d) ⊎ (length A < bad_place l d) → Moved (WordGives n (b ∷ g ++ B)) (bad (bad_place l d))
-      by_place (inl q) = absurd (stands_joined s (enclosed_good (b ∷ g ++ A) (fault l d) h (b ∷ g) A refl q))
-      by_place (inr lt) =
-          let z = words.enclosed_is_local A B b g (fault l d) (fine_any (b ∷ g)) h lt in
-          (bad_place l z.0, bad_moves l d z.0 lt z.1, (fault l z.0, z.2, refl))
+  word_by n b g (fault l d) h e =
+      let lt = stands_before (b ∷ g) l d e in
+      let z = words.enclosed_is_local A B b g (fault l d) (fine_any (b ∷ g)) h lt in
+      (bad_place (b ∷ g ++ B) l z.0, bad_moves b g l d z.0 lt z.1, (fault l z.0, z.2, refl))
 
-  part_by : (n b : ℕ) (g : List ℕ) (w : script_outcome.Outcome Part) → Substituted (b ∷ g ++ A) w → Early (part_operand n w) → Moved (PartGives n (b ∷ g ++ B)) (part_operand n w)
+  part_by : (n b : ℕ) (g : List ℕ) (w : script_outcome.Outcome Part) → Substituted (b ∷ g ++ A) w → Early (part_operand n (b ∷ g ++ A) w) → Moved (PartGives n (b ∷ g ++ B)) (part_operand n (b ∷ g ++ A) w)
   part_by n b g (done y r) h e =
       let p = front_of n (b ∷ g) r (substituted_good (b ∷ g ++ A) (done y r) h) e in
       let k = part_swap b g y p.0 (subst (λ z. Substituted (b ∷ g ++ A) (done y z)) p.1 h) in
       subst (λ z. Moved (PartGives n (b ∷ g ++ B)) (outcome.done (word (y ∷ [])) n (trimmed_front z))) (sym p.1) (done_moves n (word (y ∷ [])) p.0 (PartGives n (b ∷ g ++ B)) (inl (done y (p.0 ++ B), k, refl)))
-  part_by n b g (fault l d) h e = by_place (eq-or-lt_of_le (let le : length A ≤ bad_place l d = omega (arith, e) in le))
-    where
-      by_place : (length A ≡ bad_place l d) ⊎ (length A < bad_place l d) → Moved (PartGives n (b ∷ g ++ B)) (bad (bad_place l d))
-      by_place (inl q) = absurd (stands_joined s (substituted_good (b ∷ g ++ A) (fault l d) h (b ∷ g) A refl q))
-      by_place (inr lt) =
-          let z = words.substituted_is_local A B b g (fault l d) (fine_any (b ∷ g)) h lt in
-          (bad_place l z.0, bad_moves l d z.0 lt z.1, inl (fault l z.0, z.2, refl))
+  part_by n b g (fault l d) h e =
+      let lt = stands_before (b ∷ g) l d e in
+      let z = words.substituted_is_local A B b g (fault l d) (fine_any (b ∷ g)) h lt in
+      (bad_place (b ∷ g ++ B) l z.0, bad_moves b g l d z.0 lt z.1, inl (fault l z.0, z.2, refl))
 
   none_first : (b : ℕ) (g : List ℕ) → ((p : script_outcome.Outcome Part) → Substituted (b ∷ g ++ A) p → ⊥) → (p : script_outcome.Outcome Part) → Substituted (b ∷ g ++ B) p → ⊥
-  none_first b [] none = words.none_moves b 92 (10 ∷ s) v none
+  none_first b [] none = words.none_moves b 92 u v none
   none_first b (c ∷ g) none = words.none_moves b c (g ++ A) (g ++ B) none
 
   none_by : (n b : ℕ) (g : List ℕ) → ((p : script_outcome.Outcome Part) → Substituted (b ∷ g ++ A) p → ⊥) → Moved (PartGives n (b ∷ g ++ B)) (bad (length (b ∷ g ++ A) - 1))
@@ -358,63 +369,51 @@ module _ (s v : List ℕ) where
   never_word (in_braces x e h) q = absurd (let w = subst (λ y. opening y ≡ by_brace) q e in cc)
   never_word (in_quotes e h) q = absurd (let w = subst (λ y. opening y ≡ by_quote) q e in cc)
 
-  word_moves : (n b : ℕ) (g : List ℕ) (o : Outcome) → Ends (b ∷ g) → WordGives n (b ∷ g ++ 10 ∷ s) o → Early o → Moved (WordGives n (b ∷ g ++ v)) o
+  word_moves : (n b : ℕ) (g : List ℕ) (o : Outcome) → Ends (b ∷ g) → WordGives n (b ∷ g ++ u) o → Early o → Moved (WordGives n (b ∷ g ++ v)) o
   word_moves n b g o (inl q) h e = absurd (cc)
-  word_moves n b g o (inr ([], q)) h e = absurd (never_word h.1 (as_one (b ∷ g) [] (10 ∷ s) q))
+  word_moves n b g o (inr ([], q)) h e = absurd (never_word h.1 (as_one (b ∷ g) [] u q))
   word_moves n b g o (inr (c ∷ k, q)) h e =
-      let x = subst (λ y. Enclosed y h.0) (as_one (b ∷ g) (c ∷ k) (10 ∷ s) q) h.1 in
-      let m = word_by n c k h.0 x (subst Early h.2 e) in
-      subst (Moved (WordGives n (b ∷ g ++ v))) (sym h.2) (subst (λ y. Moved (WordGives n y) (word_operand n h.0)) (sym (as_one (b ∷ g) (c ∷ k) v q)) m)
+      let x = subst (λ y. WordGives n y o) (as_one (b ∷ g) (c ∷ k) u q) h in
+      let m = word_by n c k x.0 x.1 (subst Early x.2 e) in
+      subst (Moved (WordGives n (b ∷ g ++ v))) (sym x.2) (subst (λ y. Moved (WordGives n y) (word_operand n (c ∷ k ++ A) x.0)) (sym (as_one (b ∷ g) (c ∷ k) v q)) m)
 
-  part_moves : (n b : ℕ) (g : List ℕ) (o : Outcome) → Ends (b ∷ g) → PartGives n (b ∷ g ++ 10 ∷ s) o → Early o → Moved (PartGives n (b ∷ g ++ v)) o
+  part_moves : (n b : ℕ) (g : List ℕ) (o : Outcome) → Ends (b ∷ g) → PartGives n (b ∷ g ++ u) o → Early o → Moved (PartGives n (b ∷ g ++ v)) o
   part_moves n b g o (inl q) h e = absurd (cc)
-  part_moves n b g o (inr ([], q)) (inl h) e = absurd (let w : step_at A ≡ substituted h.1.0 = subst (λ y. step_at y ≡ substituted h.1.0) (as_one (b ∷ g) [] (10 ∷ s) q) h.1.1 in cc)
+  part_moves n b g o (inr ([], q)) (inl h) e = absurd (let w : step_at A ≡ substituted h.1.0 = subst (λ y. step_at y ≡ substituted h.1.0) (as_one (b ∷ g) [] u q) h.1.1 in cc)
   part_moves n b g o (inr ([], q)) (inr h) e =
-      let l : length (10 ∷ s) < length (b ∷ g ++ 10 ∷ s) - 1 = subst Early h.1 e in
-      absurd (omega (arith, l, ap length (as_one (b ∷ g) [] (10 ∷ s) q)))
+      let l : length u < length (b ∷ g ++ u) - 1 = subst Early h.1 e in
+      absurd (omega (arith, l, ap length (as_one (b ∷ g) [] u q)))
   part_moves n b g o (inr (c ∷ k, q)) (inl h) e =
-      let x = subst (λ y. Substituted y h.0) (as_one (b ∷ g) (c ∷ k) (10 ∷ s) q) h.1 in
-      let m = part_by n c k h.0 x (subst Early h.2 e) in
-      subst (Moved (PartGives n (b ∷ g ++ v))) (sym h.2) (subst (λ y. Moved (PartGives n y) (part_operand n h.0)) (sym (as_one (b ∷ g) (c ∷ k) v q)) m)
+      let x = subst (λ y. (p : script_outcome.Outcome Part) × Substituted y p × (o ≡ part_operand n y p)) (as_one (b ∷ g) (c ∷ k) u q) h in
+      let m = part_by n c k x.0 x.1 (subst Early x.2 e) in
+      subst (Moved (PartGives n (b ∷ g ++ v))) (sym x.2) (subst (λ y. Moved (PartGives n y) (part_operand n (c ∷ k ++ A) x.0)) (sym (as_one (b ∷ g) (c ∷ k) v q)) m)
   part_moves n b g o (inr (c ∷ k, q)) (inr h) e =
-      let f = as_one (b ∷ g) (c ∷ k) (10 ∷ s) q in
+      let f = as_one (b ∷ g) (c ∷ k) u q in
       let none = subst (λ y. ((p : script_outcome.Outcome Part) → Substituted y p → ⊥)) f h.0 in
       let m = none_by n c k none in
-      let l : bad (length (b ∷ g ++ 10 ∷ s) - 1) ≡ bad (length (c ∷ k ++ A) - 1) = ap (λ (y : List ℕ). bad (length y - 1)) f in
+      let l : bad (length (b ∷ g ++ u) - 1) ≡ bad (length (c ∷ k ++ A) - 1) = ap (λ (y : List ℕ). bad (length y - 1)) f in
       subst (Moved (PartGives n (b ∷ g ++ v))) (sym (h.1 ∙ l)) (subst (λ y. Moved (PartGives n y) (bad (length (c ∷ k ++ A) - 1))) (sym (as_one (b ∷ g) (c ∷ k) v q)) m)
 
-  -- a text that is bad at a backslash before a newline is bad with anything else behind the backslash
-  slash_stays : (front : List ℕ) (left : ℕ) → length (10 ∷ s) < left → Reads (front ++ A) (bad_from left) → (c : ℕ) × Reads (front ++ B) (bad_from c)
+  -- a text that is bad at a backslash or before it is bad there with anything else behind the backslash
+  pub slash_stays : (front : List ℕ) (left : ℕ) → length u < left → Reads (front ++ A) (bad_from left) → (c : ℕ) × (left + length v ≡ c + length u) × Reads (front ++ B) (bad_from c)
   slash_stays front left lt h =
-      let k = local.bad_stays (10 ∷ s) v Ends ends_tail word_moves part_moves (front ++ 92 ∷ []) left (inr (front, refl)) lt (subst (λ y. Reads y (bad_from left)) (sym (append_assoc front (92 ∷ []) (10 ∷ s))) h) in
-      (k.0, subst (λ y. Reads y (bad_from k.0)) (append_assoc front (92 ∷ []) v) k.2)
-
-newline_is : (r : List ℕ) → begins_with newline r ≡ true → (s : List ℕ) × (r ≡ 10 ∷ s)
-newline_is [] e = absurd (cc)
-newline_is (b ∷ s) e = (s, ap (λ x. x ∷ s) (eqb-true b 10 e))
+      let k = local.bad_stays u v Ends ends_tail word_moves part_moves (front ++ 92 ∷ []) left (inr (front, refl)) lt (subst (λ y. Reads y (bad_from left)) (sym (append_assoc front (92 ∷ []) u)) h) in
+      (k.0, k.1, subst (λ y. Reads y (bad_from k.0)) (append_assoc front (92 ∷ []) v) k.2)
 
 two : (c : ℕ) (x : Tree) → bad_from c ≡ tree x → ⊥
 two c x e = cc
 
-never_slash : (place : ℕ) (t front rest other : List ℕ) (x : Tree) → IsBad place t → t ≡ front ++ 92 ∷ rest → length front ≡ place → begins_with newline rest ≡ true → IsTree x (front ++ 92 ∷ other) → ⊥
-never_slash place t front rest other x h q n e k =
-    let r = newline_is rest e in
-    let f : t ≡ front ++ 92 ∷ 10 ∷ r.0 = q ∙ ap (λ (y : List ℕ). front ++ 92 ∷ y) r.1 in
-    let w = slash_stays r.0 other front h.0 (omega (arith, h.1, n, ap length f, length-append front (92 ∷ 10 ∷ r.0))) (subst (λ y. Reads y (bad_from h.0)) f h.2) in
-    two w.0 x (one_answer (front ++ 92 ∷ other) (bad_from w.0) (tree x) w.1 k)
+never_slash : (place : ℕ) (t front rest other : List ℕ) (x : Tree) → IsBad place t → t ≡ front ++ 92 ∷ rest → length front ≡ place → IsTree x (front ++ 92 ∷ other) → ⊥
+never_slash place t front rest other x h q n k =
+    let w = slash_stays rest other front h.0 (omega (arith, h.1, n, ap length q, length-append front (92 ∷ rest))) (subst (λ y. Reads y (bad_from h.0)) q h.2) in
+    two w.0 x (one_answer (front ++ 92 ∷ other) (bad_from w.0) (tree x) w.2 k)
 
 -- A text that is bad at a place can't go on with the byte there.
 pub none_goes_past : (place : ℕ) (t : List ℕ) → IsBad place t → NoneGoesPast place t
-none_goes_past place t h front b rest other x q n told k = by_test (b == 92) (begins_with newline rest) (begins_with newline other) refl refl refl
+none_goes_past place t h front b rest other x q n k = by_test (b == 92) refl
   where
-    alike : (b ≡ 92 → begins_with newline rest ≡ begins_with newline other) → ⊥
-    alike a = least.none_past place t h front b rest other x q n a k
-
-    by_test : (p r o : Bool) → (b == 92) ≡ p → begins_with newline rest ≡ r → begins_with newline other ≡ o → ⊥
-    by_test false r o e f g = alike (λ w. absurd (let z : (92 == 92) ≡ false = subst (λ y. (y == 92) ≡ false) w e in cc))
-    by_test true true true e f g = alike (λ w. f ∙ sym g)
-    by_test true false false e f g = alike (λ w. f ∙ sym g)
-    by_test true false true e f g = absurd (let z = told (eqb-true b 92 e) g in cc)
-    by_test true true false e f g =
+    by_test : (p : Bool) → (b == 92) ≡ p → ⊥
+    by_test false e = least.none_past place t h front b rest other x q n (λ w. absurd (let z : (92 == 92) ≡ false = subst (λ y. (y == 92) ≡ false) w e in cc)) k
+    by_test true e =
         let w : b ≡ 92 = eqb-true b 92 e in
-        never_slash place t front rest other x h (subst (λ y. t ≡ front ++ y ∷ rest) w q) n f (subst (λ y. IsTree x (front ++ y ∷ other)) w k)
+        never_slash place t front rest other x h (subst (λ y. t ≡ front ++ y ∷ rest) w q) n (subst (λ y. IsTree x (front ++ y ∷ other)) w k)

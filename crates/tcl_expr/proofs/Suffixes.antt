@@ -17,8 +17,8 @@ use Rattle.tcl_parse.specs.Steps.{Mode, quotes, index, bare_word, Substitution, 
 use Rattle.tcl_parse.specs.Grammar.{PartIs, PartsAt, no_part, some_bytes, bad_part, one_part, EnclosedAt, in_braces, in_quotes, WordAt, enclosed, in_nothing, WordsAt, no_word, bad_word, one_word, ScriptAt, no_command, bad_command, one_command, InBracket, InIndex, close_bracket, close_index, close_brace, close_quote, followed, by_brace, opening}
 use Rattle.tcl_parse.specs.Braces.{Braced, BracedAt, matching_brace, joined_lines, taken_byte, inner_braces, plain_byte}
 use Rattle.tcl_parse.specs.Laws.Within.{Within, parts_within, words_within, script_within, bracket_within, index_within}
-use Rattle.tcl_expr.specs.Grammar.{bad_place}
-use Rattle.tcl_expr.proofs.Words as words
+use Rattle.tcl_expr.specs.Grammar.{fault_place}
+use Rattle.tcl_expr.specs.Laws.Fits.{fault_within}
 
 -- the first text ends in the second
 abbrev pub Suffix : List ℕ → List ℕ → Type 0
@@ -68,9 +68,9 @@ stands_line u (inl e) = subst (λ y. begins_with newline y ≡ false) (sym e) re
 stands_line u (inr e) = newline_ends u e
 
 -- and so may a backslash-newline
-pub stands_joined : (s : List ℕ) → Stands (92 ∷ 10 ∷ s) → ⊥
-stands_joined s (inl e) = absurd (cc)
-stands_joined s (inr e) = absurd (cc)
+pub stands_slash : (u : List ℕ) → Stands (92 ∷ u) → begins_with newline u ≡ false
+stands_slash u (inl e) = absurd (cc)
+stands_slash u (inr e) = e
 
 -- so is what stands where so much is left
 abbrev pub NotLine : List ℕ → ℕ → Type 0
@@ -101,11 +101,11 @@ line_all t r h f g u e l =
 -- what is left is an end of the text, and a fault stands at nothing that may follow a word
 abbrev pub Good : {A : Type 0} → List ℕ → Outcome A → Type 0
 Good t (done x r) = Suffix t r
-Good t (fault k n) = NotLine t (bad_place k n)
+Good t (fault k n) = NotLine t (fault_place k n)
 
 pub good_more : {A : Type 0} (t r : List ℕ) (o : Outcome A) → Suffix t r → Within o (length r) → Good r o → Good t o
 good_more t r (done x s) h w k = suffix_trans t r s h k
-good_more t r (fault k n) h w l = line_more t r (bad_place k n) h (omega (arith, w, words.place_le [] [] k n)) l
+good_more t r (fault k n) h w l = line_more t r (fault_place k n) h (omega (arith, w, fault_within k n)) l
 
 good_put : {A : Type 0} (x : A) (t : List ℕ) (o : Outcome (List A)) → Good t o → Good t (put x o)
 good_put x t (done y r) h = h
@@ -247,14 +247,14 @@ module _ (S : List ℕ → Outcome Script → Type 0) (I : List ℕ → Outcome 
   index_good_by left x t r (done w (b ∷ s)) h k =
       let g : Suffix (40 ∷ r) (b ∷ s) = I_good r (done w (b ∷ s)) k in
       suffix_trans t (40 ∷ r) s h (suffix_trans (40 ∷ r) (b ∷ s) s g (suffix_cons b s s (suffix_all s)))
-  index_good_by left x t r (fault l n) h k = line_more t (40 ∷ r) (bad_place l n) h (omega (arith, in_i r (fault l n) k, words.place_le [] [] l n)) (I_good r (fault l n) k)
+  index_good_by left x t r (fault l n) h k = line_more t (40 ∷ r) (fault_place l n) h (omega (arith, in_i r (fault l n) k, fault_within l n)) (I_good r (fault l n) k)
 
   bracket_good_by : (left : ℕ) (t r : List ℕ) (i : Outcome Script) → Suffix t (91 ∷ r) → S r i → Good t (close_bracket left i)
   bracket_good_by left t r (done w []) h k = line_none t
   bracket_good_by left t r (done w (b ∷ s)) h k =
       let g : Suffix (91 ∷ r) (b ∷ s) = S_good r (done w (b ∷ s)) k in
       suffix_trans t (91 ∷ r) s h (suffix_trans (91 ∷ r) (b ∷ s) s g (suffix_cons b s s (suffix_all s)))
-  bracket_good_by left t r (fault l n) h k = line_more t (91 ∷ r) (bad_place l n) h (omega (arith, in_s r (fault l n) k, words.place_le [] [] l n)) (S_good r (fault l n) k)
+  bracket_good_by left t r (fault l n) h k = line_more t (91 ∷ r) (fault_place l n) h (omega (arith, in_s r (fault l n) k, fault_within l n)) (S_good r (fault l n) k)
 
   pub part_good : (s : Substitution) (left : ℕ) (t : List ℕ) (o : Outcome Part) → StepEnds t (substituted s) → PartIs S I left s o → Good t o
   part_good (named x r) left t o h k = subst (Good t) (sym k) h
@@ -276,7 +276,7 @@ module _ (S : List ℕ → Outcome Script → Type 0) (I : List ℕ → Outcome 
   quote_good : (t : List ℕ) (o : Outcome Word) → Within o (length (drop 1 t)) → Good (drop 1 t) o → Good t (close_quote (length t) o)
   quote_good t (done w []) i h = line_none t
   quote_good t (done w (b ∷ r)) i h = suffix_trans t (drop 1 t) r (suffix_drop 1 t) (suffix_trans (drop 1 t) (b ∷ r) r h (suffix_cons b r r (suffix_all r)))
-  quote_good t (fault k n) i h = line_more t (drop 1 t) (bad_place k n) (suffix_drop 1 t) (omega (arith, i, words.place_le [] [] k n)) h
+  quote_good t (fault k n) i h = line_more t (drop 1 t) (fault_place k n) (suffix_drop 1 t) (omega (arith, i, fault_within k n)) h
 
   pub enclosed_good : {t : List ℕ} {o : Outcome Word} → EnclosedAt S I t o → Good t o
   enclosed_good {t} (in_braces x e h) = brace_good t x e h

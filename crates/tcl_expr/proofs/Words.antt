@@ -12,8 +12,7 @@ use Rattle.std.proofs.lemmas.List.Sums.{prefix_len-le-length, take_while-cons}
 use Rattle.txt_core.specs.Digits.{digit_of, is_digit, value_of, leading_digits}
 use Rattle.txt_core.specs.Escape.{utf8, low_byte, letter_and_digits, byte_form, character_form, octal_form, skip_margin, letter_form, escape_of}
 use Rattle.txt_core.specs.EscapeWithin.{escape_within, margin_within}
-use Rattle.tcl_parse.specs.declared.fault.Kind.{Kind}
-use Rattle.tcl_parse.specs.declared.fault.Kind.TheVariants.{Quote, Brace, Bracket, Variable, Extra, Deep}
+use Rattle.tcl_parse.specs.declared.fault.Kind.TheVariants.{Variable, Extra, Deep}
 use Rattle.tcl_parse.specs.Bytes.{begins_with, newline, is_name, is_blank, ends_command, joins_lines}
 use Rattle.tcl_parse.specs.Gaps.{skip, skip_blanks, between, joining, comment, escaped, Before, ends_word, at_end, closes}
 use Rattle.tcl_parse.specs.Tree.{Part, Word, Command, Script}
@@ -26,7 +25,8 @@ use Rattle.tcl_parse.specs.Laws.Braces.{Inside, braced, in_front, passes, is_esc
 use Rattle.tcl_parse.specs.Laws.Braces as braces
 use Rattle.tcl_parse.specs.Laws.Within.{Within, skip_within, skip_blanks_within, parts_within, enclosed_within, words_within, script_within, bracket_within, index_within}
 use Rattle.tcl_parse.specs.Laws.Some.{some_in_bracket, some_in_index}
-use Rattle.tcl_expr.specs.Grammar.{bad_place}
+use Rattle.tcl_expr.specs.Grammar.{fault_place}
+use Rattle.tcl_expr.specs.Laws.Fits.{fault_within}
 
 leading_local : (p : ℕ → Bool) (m : ℕ) (g u v : List ℕ) → length (take_while p (take m (g ++ u))) < length g → take_while p (take m (g ++ v)) ≡ take_while p (take m (g ++ u))
 leading_local p zero g u v h = refl
@@ -403,7 +403,7 @@ module _ (u v : List ℕ) where
   -- it ends in the front, or has a fault there that no more bytes can mend
   abbrev pub Early : {A : Type 0} → Outcome A → Type 0
   Early (done x r) = length u < length r
-  Early (fault k n) = length u < bad_place k n
+  Early (fault k n) = length u < fault_place k n
 
   -- the same outcome for the other text is as Q says
   abbrev pub Moved : {A : Type 0} → (Outcome A → Type 0) → Outcome A → Type 0
@@ -430,17 +430,9 @@ module _ (u v : List ℕ) where
   early_text bs (done y r) e = e
   early_text bs (fault k n) e = e
 
-  pub place_le : (k : Kind) (n : ℕ) → bad_place k n ≤ n
-  place_le Quote n = omega arith
-  place_le Brace n = omega arith
-  place_le Bracket n = omega arith
-  place_le Variable n = omega arith
-  place_le Extra n = omega arith
-  place_le Deep n = omega arith
-
   pub early_less : {A : Type 0} (o : Outcome A) (n : ℕ) → Within o n → Early o → length u < n
   early_less (done x r) n w e = omega (arith, w, e)
-  early_less (fault k m) n w e = omega (arith, w, e, place_le k m)
+  early_less (fault k m) n w e = omega (arith, w, e, fault_within k m)
 
   abbrev pub IsLocal : {A : Type 0} → (List ℕ → Outcome A → Type 0) → Type 0
   IsLocal {A} R = (t : List ℕ) (o : Outcome A) → R t o → (g : List ℕ) → t ≡ g ++ u → Fine g → Early o → Moved (R (g ++ v)) o

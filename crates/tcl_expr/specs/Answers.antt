@@ -30,19 +30,19 @@ GivesAny view count rest (Ok None) P = (o : Outcome) → P o → ⊥
 GivesAny view count rest (Ok (Some x)) P = P (done (view x) (count x) (rest x))
 GivesAny view count rest (Err e) P = Stopped e P
 
--- the bad place of a word's fault
-abbrev pub stopped_word : word_fault.Stop → Stop
-stopped_word word_faults.NoMemory = stop.NoMemory
-stopped_word (word_faults.Fault k n) = stop.Bad (bad_place k n)
+-- the bad place of a fault that a word of this text has
+abbrev pub stopped_word : List ℕ → word_fault.Stop → Stop
+stopped_word t word_faults.NoMemory = stop.NoMemory
+stopped_word t (word_faults.Fault k n) = stop.Bad (bad_place t k n)
 
 -- a word in quotes or braces as an operand
 abbrev pub WordGives : ℕ → List ℕ → Outcome → Type 0
-WordGives n t o = (w : script_outcome.Outcome Word) × Enclosed t w × (o ≡ word_operand n w)
+WordGives n t o = (w : script_outcome.Outcome Word) × Enclosed t w × (o ≡ word_operand n t w)
 
 -- what begins with a dollar or a bracket as an operand
 abbrev pub PartGives : ℕ → List ℕ → Outcome → Type 0
 PartGives n t o =
-    ((p : script_outcome.Outcome Part) × Substituted t p × (o ≡ part_operand n p))
+    ((p : script_outcome.Outcome Part) × Substituted t p × (o ≡ part_operand n t p))
     ⊎ (((p : script_outcome.Outcome Part) → Substituted t p → ⊥) × (o ≡ bad (length t - 1)))
 
 -- an expression in parentheses, from behind the opening one on

@@ -3,7 +3,7 @@ use Rattle.std.specs.Prelude.{◌≡◌, ℕ, zero, suc, ◌+◌, ◌-◌, List,
 use Rattle.txt_core.specs.Number.{trimmed_front}
 use Rattle.tcl_parse.specs.declared.fault.Kind.{Kind}
 use Rattle.tcl_parse.specs.declared.fault.Kind.TheVariants.{Quote, Brace, Bracket, Variable, Extra, Deep}
-use Rattle.tcl_parse.specs.Bytes.{dollar, left_bracket, left_parenthesis, right_parenthesis}
+use Rattle.tcl_parse.specs.Bytes.{dollar, left_bracket, left_parenthesis, right_parenthesis, backslash, begins_with}
 use Rattle.tcl_parse.specs.Tree.{Part, Word}
 use Rattle.tcl_parse.specs.Outcome as script_outcome
 use Rattle.tcl_parse.specs.Grammar.{InBracket, InIndex, EnclosedAt, SubstitutedAt, Opening, by_brace, by_quote, bare, opening, most_nested}
@@ -13,24 +13,33 @@ use Rattle.tcl_expr.specs.Outcome.{Outcome, done, bad, signed, chosen, Answer, t
 use Rattle.tcl_expr.specs.Tokens.{level, loosest, next_operator, next_sign, next_question, next_colon, stuck}
 use Rattle.tcl_expr.specs.Runs.{is_word, run_at, names_value, value_front}
 
--- The bad place of a word with a fault: what isn't closed can go on to the end of the text; else the fault's own place.
-abbrev pub bad_place : Kind → ℕ → ℕ
-bad_place Quote left = 0
-bad_place Brace left = 0
-bad_place Bracket left = 0
-bad_place Variable left = 0
-bad_place Extra left = left
-bad_place Deep left = left
+-- The place of a word's fault, as how many bytes are left from there on: what isn't closed can go on to the end of the text; else the fault's own place.
+abbrev pub fault_place : Kind → ℕ → ℕ
+fault_place Quote left = 0
+fault_place Brace left = 0
+fault_place Bracket left = 0
+fault_place Variable left = 0
+fault_place Extra left = left
+fault_place Deep left = left
 
--- a word in quotes or braces as an operand, from what reading it gives
-abbrev pub word_operand : ℕ → script_outcome.Outcome Word → Outcome
-word_operand n (script_outcome.done w r) = done (word w) n (trimmed_front r)
-word_operand n (script_outcome.fault k left) = bad (bad_place k left)
+-- Behind a word in braces or quotes a newline could follow a backslash, and the two would end the word.
+-- So where a fault stands at a backslash, the byte behind it is the first one with which nothing can go on.
+abbrev pub behind_backslash : List ℕ → ℕ → ℕ
+behind_backslash t left = if begins_with backslash (drop (length t - left) t) then left - 1 else left
+
+-- the bad place of a fault that reading a word of this text gives
+abbrev pub bad_place : List ℕ → Kind → ℕ → ℕ
+bad_place t k left = behind_backslash t (fault_place k left)
+
+-- a word in quotes or braces as an operand, from the text and what reading it gives
+abbrev pub word_operand : ℕ → List ℕ → script_outcome.Outcome Word → Outcome
+word_operand n t (script_outcome.done w r) = done (word w) n (trimmed_front r)
+word_operand n t (script_outcome.fault k left) = bad (bad_place t k left)
 
 -- a variable, an element or a bracket as an operand
-abbrev pub part_operand : ℕ → script_outcome.Outcome Part → Outcome
-part_operand n (script_outcome.done p r) = done (word (p ∷ [])) n (trimmed_front r)
-part_operand n (script_outcome.fault k left) = bad (bad_place k left)
+abbrev pub part_operand : ℕ → List ℕ → script_outcome.Outcome Part → Outcome
+part_operand n t (script_outcome.done p r) = done (word (p ∷ [])) n (trimmed_front r)
+part_operand n t (script_outcome.fault k left) = bad (bad_place t k left)
 
 -- A run of digits and letters as an operand: it must be a number or a word of truth. Else it is bad at the first byte with which none of them goes on.
 abbrev pub run_operand : ℕ → List ℕ → Outcome
@@ -78,9 +87,9 @@ Substituted t p = SubstitutedAt (InBracket most_nested) (InIndex most_nested) t 
 module _ (Parens : ℕ → List ℕ → Outcome → Type 0) where
   -- An operand, by how it begins. A dollar that substitutes nothing is bad at the byte behind it.
   abbrev pub OperandBy : Start → ℕ → List ℕ → Outcome → Type 0
-  OperandBy enclosed n t o = (w : script_outcome.Outcome Word) × Enclosed t w × (o ≡ word_operand n w)
+  OperandBy enclosed n t o = (w : script_outcome.Outcome Word) × Enclosed t w × (o ≡ word_operand n t w)
   OperandBy substituted n t o =
-      ((p : script_outcome.Outcome Part) × Substituted t p × (o ≡ part_operand n p))
+      ((p : script_outcome.Outcome Part) × Substituted t p × (o ≡ part_operand n t p))
       ⊎ (((p : script_outcome.Outcome Part) → Substituted t p → ⊥) × (o ≡ bad (length t - 1)))
   OperandBy run n t o = o ≡ run_operand n t
   OperandBy parenthesis n t o = (v : Outcome) × Parens n (drop 1 t) v × (o ≡ closed v)

@@ -4,7 +4,7 @@ ghost use Rattle.std.specs.Prelude.{◌≡◌, ◌<◌, ◌≤◌, ◌∷◌, �
 ghost use Rattle.tcl_expr.specs.Trees.{unary, binary, choice};
 ghost use Rattle.tcl_expr.specs.Outcome.{Outcome, done};
 ghost use Rattle.tcl_expr.specs.Tokens.{level, loosest, next_operator};
-ghost use Rattle.tcl_expr.specs.Grammar.{InParens, SignedAt, LevelAt, ExpressionBy, run_operand};
+ghost use Rattle.tcl_expr.specs.Grammar.{behind_backslash, InParens, SignedAt, LevelAt, ExpressionBy, run_operand};
 ghost use Rattle.tcl_expr.specs.View.{tree_of};
 ghost use Rattle.tcl_expr.specs.Stack.{frame_of, stack, IsStack, IsLoose, AtLeast, FromOperand, parts, Waits, IsSettled, with_signs};
 ghost use Rattle.tcl_expr.specs.Answers.{Gives, GivesAny, stopped_word, WordGives, PartGives, ClosedGives, OperandGives, BareGives, Answers};
@@ -50,14 +50,26 @@ pub enum Settled {
     Middle(Expr, Expr),
 }
 
-/// Where a fault of a word stands: what isn't closed could go on at the end of the text.
-fn bad_word(fault: tcl_parse::Stop) -> Stop
-    ensures { result ≡ stopped_word fault }
+/// How many bytes are left from the first byte on with which no word can go on, where its fault
+/// stands at this many: a newline could follow a backslash there, so then it is the next one.
+fn behind_backslash(bytes: &[u8], left: usize) -> usize
+    ensures { result ≡ behind_backslash bytes.now left }
+{
+    let at = bytes.len().saturating_sub(left);
+    match bytes[at..].split_first() {
+        Some((b'\\', _)) => left.saturating_sub(1),
+        _ => left,
+    }
+}
+
+/// Where a word with a fault is bad: what isn't closed could go on at the end of the text.
+fn bad_word(bytes: &[u8], fault: tcl_parse::Stop) -> Stop
+    ensures { result ≡ stopped_word bytes.now fault }
 {
     match fault {
         tcl_parse::Stop::NoMemory => Stop::NoMemory,
         tcl_parse::Stop::Fault { kind, left } => match kind {
-            Kind::Extra | Kind::Deep => Stop::Bad(left),
+            Kind::Extra | Kind::Deep => Stop::Bad(behind_backslash(bytes, left)),
             Kind::Quote | Kind::Brace | Kind::Bracket | Kind::Variable => Stop::Bad(0),
         },
     }
@@ -69,7 +81,7 @@ fn enclosed(alloc: Global, left: u32, bytes: &[u8]) -> Result<Option<(Expr, u32,
     ensures goes { IfOk result (λ found. IfSome found (λ x. length x.2.now < length bytes.now)) }
 {
     match read_enclosed(alloc, MOST_NESTED, bytes) {
-        Err(fault) => Err(bad_word(fault)),
+        Err(fault) => Err(bad_word(bytes, fault)),
         Ok(None) => Ok(None),
         Ok(Some((word, rest))) => {
             let Word { pieces } = word;
@@ -84,7 +96,7 @@ fn substituted(alloc: Global, left: u32, bytes: &[u8]) -> Result<(Expr, u32, &[u
     ensures goes { IfOk result (λ x. length x.2.now < length bytes.now) }
 {
     match read_substitution(alloc, MOST_NESTED, bytes) {
-        Err(fault) => Err(bad_word(fault)),
+        Err(fault) => Err(bad_word(bytes, fault)),
         Ok(None) => Err(Stop::Bad(bytes.len().saturating_sub(1))),
         Ok(Some((piece, rest))) => {
             let mut pieces = Vec::new(alloc);
@@ -330,9 +342,11 @@ fn settle(alloc: Global, asked: &mut Vec<Asked>, tree: Expr) -> Result<Settled, 
 ///
 /// # Errors
 ///
-/// `ExprText::Bad` exactly where the text is none, with the place of the first byte with which it
-/// can't go on, or the text's length where it could; a parenthesis inside [`MOST_PARENTHESES`]
-/// others and an operator after [`MOST_OPERATORS`] others are bad at their place.
+/// `ExprText::Bad` exactly where the text is none, with the place of the first byte with which no
+/// expression can go on, or the text's length where one could. So behind a word in braces or quotes
+/// a backslash, which a newline could follow, isn't bad, but the byte behind it. A parenthesis
+/// inside [`MOST_PARENTHESES`] others and an operator after [`MOST_OPERATORS`] others are bad at
+/// their place.
 /// `ExprText::NoMemory` where memory ran out.
 pub fn parse_expr(alloc: Global, text: &Text) -> Result<Expr, ExprText>
     ensures same { Answers text.now result }

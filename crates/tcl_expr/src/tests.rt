@@ -160,6 +160,12 @@ $a + [f => Bad 7
 {a} {b} => Bad 4
 $x($y => Bad 5
 [{a}b] => Bad 4
+[{a}\ => Bad 5
+[{a}\x] => Bad 5
+[{a}\\;] => Bad 5
+[{a}\;] eq {} => 1
+["a"\ => Bad 5
+1 \;+ 2 => Bad 2
 (1 => Bad 2
 1) => Bad 1
 () => Bad 1
@@ -226,7 +232,7 @@ fn cases(rt: HostRuntime) -> Result<(), Fail> {
         assert_eq!(rt; got.bytes(), want.as_bytes(), "{line}");
         count = count.wrapping_add(1);
     }
-    assert_eq!(rt; count, 159);
+    assert_eq!(rt; count, 165);
     Ok(())
 }
 

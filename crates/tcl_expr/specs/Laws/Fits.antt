@@ -1,11 +1,12 @@
 -- Behind a reading no more operators may come than before it, and what is left, or is left at a bad place, is no longer than the text.
-use Rattle.std.proofs.Common.{◌≡◌, ℕ, zero, suc, ◌+◌, ◌-◌, ◌<◌, ◌≤◌, List, [], ◌∷◌, length, length-drop, Bool, true, false, Option, None, Some, sym, subst, inl, inr, arith}
+use Rattle.std.proofs.Common.{◌≡◌, ℕ, zero, suc, ◌+◌, ◌-◌, ◌<◌, ◌≤◌, List, [], ◌∷◌, length, drop, length-drop, Bool, true, false, Option, None, Some, sym, subst, inl, inr, arith}
 use Rattle.std.specs.Prelude.{◌==◌, if◌then◌else◌}
 use Rattle.std.specs.Option.{option_map}
 use Rattle.std.specs.List.{prefix_len}
 use Rattle.txt_core.specs.Number.{is_space, trimmed_front}
 use Rattle.tcl_parse.specs.declared.fault.Kind.{Kind}
 use Rattle.tcl_parse.specs.declared.fault.Kind.TheVariants.{Quote, Brace, Bracket, Variable, Extra, Deep}
+use Rattle.tcl_parse.specs.Bytes.{begins_with, backslash}
 use Rattle.tcl_parse.specs.Tree.{Part, Word}
 use Rattle.tcl_parse.specs.Outcome as script_outcome
 use Rattle.tcl_parse.specs.Grammar.{InBracket, InIndex, most_nested}
@@ -15,7 +16,7 @@ use Rattle.tcl_expr.specs.Trees.{Tree, value}
 use Rattle.tcl_expr.specs.Outcome.{Outcome, done, bad, signed, chosen}
 use Rattle.tcl_expr.specs.Tokens.{single, double, sign, level, loosest, before, either, operator_at, sign_at, behind, counted, next_operator, next_sign, next_question, next_colon, is_half, stuck}
 use Rattle.tcl_expr.specs.Runs.{is_word, run_at, names_value, value_front}
-use Rattle.tcl_expr.specs.Grammar.{bad_place, word_operand, part_operand, run_operand, closed, Start, enclosed, substituted, run, parenthesis, nothing, start, Enclosed, Substituted, OperandBy, SignedAt, no_sign, one_sign, of_level, ChainAt, chain_ends, chain_bad, chain_goes, Then, LevelAt, ChoiceAt, bad_test, no_choice, bad_middle, no_last, one_choice, ExpressionBy, InParens}
+use Rattle.tcl_expr.specs.Grammar.{fault_place, behind_backslash, bad_place, word_operand, part_operand, run_operand, closed, Start, enclosed, substituted, run, parenthesis, nothing, start, Enclosed, Substituted, OperandBy, SignedAt, no_sign, one_sign, of_level, ChainAt, chain_ends, chain_bad, chain_goes, Then, LevelAt, ChoiceAt, bad_test, no_choice, bad_middle, no_last, one_choice, ExpressionBy, InParens}
 
 -- at most n operators come, and at most l bytes are left
 abbrev pub Fits : ℕ → ℕ → Outcome → Type 0
@@ -118,29 +119,40 @@ chosen_fits : (x y : Tree) (o : Outcome) (n l : ℕ) → Fits n l o → Fits n l
 chosen_fits x y (done z m t) n l h = h
 chosen_fits x y (bad b) n l h = h
 
-place_within : (k : Kind) (left l : ℕ) → left ≤ l → bad_place k left ≤ l
-place_within Quote left l h = omega arith
-place_within Brace left l h = omega arith
-place_within Bracket left l h = omega arith
-place_within Variable left l h = omega arith
-place_within Extra left l h = h
-place_within Deep left l h = h
+pub fault_within : (k : Kind) (left : ℕ) → fault_place k left ≤ left
+fault_within Quote left = omega arith
+fault_within Brace left = omega arith
+fault_within Bracket left = omega arith
+fault_within Variable left = omega arith
+fault_within Extra left = omega arith
+fault_within Deep left = omega arith
 
-word_fits : (n l : ℕ) (w : script_outcome.Outcome Word) → script_within.Within w l → Fits n l (word_operand n w)
-word_fits n l (script_outcome.done w r) h = (omega arith, omega (arith, trimmed_within r, h))
-word_fits n l (script_outcome.fault k left) h = place_within k left l h
+less_if : (s : Bool) (n : ℕ) → (if s then n - 1 else n) ≤ n
+less_if true n = omega arith
+less_if false n = omega arith
 
-part_fits : (n l : ℕ) (p : script_outcome.Outcome Part) → script_within.Within p l → Fits n l (part_operand n p)
-part_fits n l (script_outcome.done w r) h = (omega arith, omega (arith, trimmed_within r, h))
-part_fits n l (script_outcome.fault k left) h = place_within k left l h
+-- the byte behind a backslash is no earlier
+pub behind_within : (t : List ℕ) (n : ℕ) → behind_backslash t n ≤ n
+behind_within t n = less_if (begins_with backslash (drop (length t - n) t)) n
 
-enclosed_fits : (n : ℕ) (t : List ℕ) (w : script_outcome.Outcome Word) → Enclosed t w → Fits n (length t) (word_operand n w)
-enclosed_fits n t w h = word_fits n (length t) w (script_within.enclosed_within (InBracket most_nested) (InIndex most_nested) (script_within.bracket_within most_nested) (script_within.index_within most_nested) h)
+place_within : (t : List ℕ) (k : Kind) (left l : ℕ) → left ≤ l → bad_place t k left ≤ l
+place_within t k left l h = omega (arith, h, fault_within k left, behind_within t (fault_place k left))
 
-substituted_fits : (n : ℕ) (t : List ℕ) (p : script_outcome.Outcome Part) → Substituted t p → Fits n (length t) (part_operand n p)
+word_fits : (n l : ℕ) (t : List ℕ) (w : script_outcome.Outcome Word) → script_within.Within w l → Fits n l (word_operand n t w)
+word_fits n l t (script_outcome.done w r) h = (omega arith, omega (arith, trimmed_within r, h))
+word_fits n l t (script_outcome.fault k left) h = place_within t k left l h
+
+part_fits : (n l : ℕ) (t : List ℕ) (p : script_outcome.Outcome Part) → script_within.Within p l → Fits n l (part_operand n t p)
+part_fits n l t (script_outcome.done w r) h = (omega arith, omega (arith, trimmed_within r, h))
+part_fits n l t (script_outcome.fault k left) h = place_within t k left l h
+
+enclosed_fits : (n : ℕ) (t : List ℕ) (w : script_outcome.Outcome Word) → Enclosed t w → Fits n (length t) (word_operand n t w)
+enclosed_fits n t w h = word_fits n (length t) t w (script_within.enclosed_within (InBracket most_nested) (InIndex most_nested) (script_within.bracket_within most_nested) (script_within.index_within most_nested) h)
+
+substituted_fits : (n : ℕ) (t : List ℕ) (p : script_outcome.Outcome Part) → Substituted t p → Fits n (length t) (part_operand n t p)
 substituted_fits n t p h =
     let takes : script_within.TakesPart h.0 (length t) = subst (λ x. script_within.Takes x (length t)) h.1 (script_within.step_at_takes t) in
-    part_fits n (length t) p (script_within.part_within (InBracket most_nested) (InIndex most_nested) (script_within.bracket_within most_nested) (script_within.index_within most_nested) (length t) h.0 p takes h.2)
+    part_fits n (length t) t p (script_within.part_within (InBracket most_nested) (InIndex most_nested) (script_within.bracket_within most_nested) (script_within.index_within most_nested) (length t) h.0 p takes h.2)
 
 fits_if : (b : Bool) (o p : Outcome) (n l : ℕ) → Fits n l o → Fits n l p → Fits n l (if b then o else p)
 fits_if true o p n l h k = h

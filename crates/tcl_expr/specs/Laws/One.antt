@@ -14,8 +14,8 @@ IsOne R = (n : ℕ) (t : List ℕ) (o p : Outcome) → R n t o → R n t p → o
 
 module _ (P : ℕ → List ℕ → Outcome → Type 0) (one_p : IsOne P) where
   one_operand : (s : Start) (n : ℕ) (t : List ℕ) (o p : Outcome) → OperandBy P s n t o → OperandBy P s n t p → o ≡ p
-  one_operand enclosed n t o p h k = h.2 ∙ ap (word_operand n) (enclosed_is most_nested t h.0 k.0 h.1 k.1) ∙ sym k.2
-  one_operand substituted n t o p (inl h) (inl k) = h.2 ∙ ap (part_operand n) (substituted_is most_nested t h.0 k.0 h.1 k.1) ∙ sym k.2
+  one_operand enclosed n t o p h k = h.2 ∙ ap (word_operand n t) (enclosed_is most_nested t h.0 k.0 h.1 k.1) ∙ sym k.2
+  one_operand substituted n t o p (inl h) (inl k) = h.2 ∙ ap (part_operand n t) (substituted_is most_nested t h.0 k.0 h.1 k.1) ∙ sym k.2
   one_operand substituted n t o p (inl h) (inr k) = absurd (k.0 h.0 h.1)
   one_operand substituted n t o p (inr h) (inl k) = absurd (h.0 k.0 k.1)
   one_operand substituted n t o p (inr h) (inr k) = h.1 ∙ sym k.1

@@ -48,11 +48,11 @@ module _ (P : ℕ → List ℕ → Outcome → Type 0) (some_p : IsTotal P) wher
   some_word : (n : ℕ) (t : List ℕ) → (opening t ≡ bare → ⊥) → Found (OperandBy P enclosed n t)
   some_word n t ne =
       let x = enclosed_by t ne (enclosed_some most_nested t) in
-      (word_operand n x.0, (x.0, x.1, refl))
+      (word_operand n t x.0, (x.0, x.1, refl))
 
   some_part : (n : ℕ) (t : List ℕ) → ((p : script_outcome.Outcome Part) → Substituted t p → ⊥) ⊎ ((p : script_outcome.Outcome Part) × Substituted t p) → Found (OperandBy P substituted n t)
   some_part n t (inl none) = (bad (length t - 1), inr (none, refl))
-  some_part n t (inr x) = (part_operand n x.0, inl (x.0, x.1, refl))
+  some_part n t (inr x) = (part_operand n t x.0, inl (x.0, x.1, refl))
 
   some_bare : (s : Start) (n : ℕ) (t : List ℕ) → (s ≡ enclosed → opening t ≡ bare → ⊥) → Found (OperandBy P s n t)
   some_bare enclosed n t ne = some_word n t (ne refl)
