@@ -1,5 +1,5 @@
 -- What a change of one variable makes of the variables.
-use Rattle.std.proofs.Common.{◌≡◌, ℕ, true, List, refl, sym, ap, subst, ◌∙◌, ⊎_elim, is_some}
+use Rattle.std.proofs.Common.{◌≡◌, ℕ, List, refl, sym, ap, subst, ◌∙◌, ⊎_elim, is_some}
 use Rattle.std.specs.Prelude.{Option, Some, None, OnSome, Result, Ok, Err, OnOk, OnErr}
 use Rattle.std.specs.Ordering.{nat_cmp, is_eq}
 use Rattle.std.specs.Cmp.{Equal-is}
@@ -10,9 +10,9 @@ use Rattle.std.proofs.lemmas.Bool.{cases_Bool, cond-true, cond-false, true≢fal
 use Rattle.std.proofs.lemmas.Map.Lookups.{exact_bytes}
 use Rattle.tcl_frame.specs.declared.variable.Variable.{Variable}
 use Rattle.tcl_frame.specs.declared.variable.Variable.TheVariants.{Scalar, Array}
-use Rattle.tcl_frame.specs.Variables.{elements_in}
-use Rattle.tcl_frame.specs.Arrays.{with_index, without_index}
-use Rattle.tcl_frame.specs.Meaning.{element, whole, is_array_there, no_write, no_removal}
+use Rattle.tcl_frame.specs.Variables.{elements_in, with_pairs}
+use Rattle.tcl_frame.specs.Arrays.{with_index, with_indexes, without_index}
+use Rattle.tcl_frame.specs.Meaning.{element, whole, no_write, no_removal, no_array}
 
 -- one step further from what holds at `Ok`
 pub on_ok : {A E : Type 0} (r : Result A E) (X Y : Type 0) → (X → Y) → OnOk r X → OnOk r Y
@@ -46,6 +46,16 @@ pub element_written : (v : Variable) (found : Option Variable) (index value : Li
     → with_index v index value ≡ Array (map.insert (elements_in found) index value)
 element_written v found index value e =
     subst (λ f. no_write (element f index) ≡ None → with_index v index value ≡ Array (map.insert (elements_in f) index value)) e (write_in_array v index value)
+
+-- pairs that can be written to a variable that stands are written to an array
+pairs_in_array : (v : Variable) (pairs : List (List ℕ)) → no_array (whole (Some v)) ≡ None → with_indexes v pairs ≡ Array (with_pairs (elements_in (Some v)) pairs)
+pairs_in_array (Scalar text) pairs e = absurd (true≢false (ap is_some e))
+pairs_in_array (Array elements) pairs e = refl
+
+pub indexes_written : (v : Variable) (found : Option Variable) (pairs : List (List ℕ)) → Some v ≡ found → no_array (whole found) ≡ None
+    → with_indexes v pairs ≡ Array (with_pairs (elements_in found) pairs)
+indexes_written v found pairs e =
+    subst (λ f. no_array (whole f) ≡ None → with_indexes v pairs ≡ Array (with_pairs (elements_in f) pairs)) e (pairs_in_array v pairs)
 
 -- an element that can be removed is in an array
 removal_in_array : (v : Variable) (index : List ℕ) → no_removal (element (Some v) index) ≡ None → without_index v index ≡ Array (map.remove (elements_in (Some v)) index)

@@ -9,4 +9,5 @@ pub mod Refusal
 pub mod Seen
 pub mod Stack
 pub mod StackCode
+pub mod Undoing
 pub mod Variables

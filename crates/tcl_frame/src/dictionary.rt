@@ -1,10 +1,11 @@
 //! Values by text.
 
-ghost use Rattle.std.specs.Prelude.{◌≡◌, OnOk, OnErr};
+ghost use Rattle.std.specs.Prelude.{◌≡◌, length, IfOk, OnOk, OnErr};
 ghost use Rattle.std.specs.Borrow.{sem};
 ghost use Rattle.std.specs.Option.{option_copied, option_copied_mut};
 ghost use Rattle.std.specs.FinMap as map;
 ghost use Rattle.tcl_frame.specs.Lending.{lends_value};
+ghost use Rattle.tcl_frame.specs.Undoing.{given_back};
 
 use std::alloc::Global;
 use std::collections::BTreeMap;
@@ -44,6 +45,13 @@ impl<V> Dictionary<V> {
         }
     }
 
+    /// How many keys have a value.
+    pub fn len(&self) -> usize
+        ensures { result ≡ length (map.entries self.now) }
+    {
+        self.values.len()
+    }
+
     /// The value of a key; `None` exactly where it has none.
     pub fn get(&self, key: &[u8]) -> Option<&V>
         ensures { option_copied result ≡ map.get self.now key.now }
@@ -73,9 +81,39 @@ impl<V> Dictionary<V> {
         ensures ok { OnOk result (self.new ≡ map.insert self.old key.now value) }
         ensures err { OnErr result (self.new ≡ self.old) }
     {
-        let key = Vec::from_slice(self.alloc, key)?;
-        self.values.insert(key, value)?;
+        self.replace(key, value)?;
         Ok(())
+    }
+
+    /// Gives a key this value, and hands back the one that it had; `None` exactly where it had none.
+    /// Where memory wants, nothing changes.
+    pub fn replace(&mut self, key: &[u8], value: V) -> Result<Option<V>, NoMemory>
+    where
+        V: Drop,
+        ensures ok { OnOk result (self.new ≡ map.insert self.old key.now value) }
+        ensures before { IfOk result (λ before. before ≡ map.get self.old key.now) }
+        ensures err { OnErr result (self.new ≡ self.old) }
+    {
+        let key = Vec::from_slice(self.alloc, key)?;
+        let before = self.values.insert(key, value)?;
+        Ok(before)
+    }
+
+    /// Gives a key that has a value this one, or takes the key's value away where there is none to
+    /// give. It takes no memory.
+    pub fn put_back(&mut self, key: &[u8], value: Option<V>)
+    where
+        V: Drop,
+        ensures { self.new ≡ given_back self.old key.now value }
+    {
+        match value {
+            Some(value) => {
+                if let Some(place) = self.get_mut(key) {
+                    *place = value;
+                }
+            }
+            None => self.remove(key),
+        }
     }
 
     /// Takes a key's value away, where it has one.

@@ -134,6 +134,17 @@ impl Frames {
         }
     }
 
+    /// How many elements the array of this name has, 0 where the name is no array's. It takes no memory.
+    pub fn count(&self, name: &Text) -> usize
+        ensures { result ≡ length (map.entries (elements_of self.now name.now)) }
+    {
+        let name = Name::new(name.bytes());
+        match self.table(name.variable()).find(&name) {
+            Found::AnArray(elements) => elements.len(),
+            _ => 0,
+        }
+    }
+
     /// Gives a scalar or an element this value; an absent variable or array is made. `IsArray`
     /// comes exactly where the name is an array's, `NotArray` where an element's array is a
     /// scalar. A refusal changes nothing.

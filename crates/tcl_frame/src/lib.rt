@@ -6,6 +6,7 @@ mod fault;
 mod found;
 mod frame;
 mod frames;
+mod journal;
 mod law;
 mod name;
 mod table;

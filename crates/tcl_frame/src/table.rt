@@ -1,8 +1,7 @@
 //! Variables by name, without frames.
 
-ghost use Rattle.std.specs.Prelude.{◌≡◌, None, IfOk, OnOk, OnErr};
-ghost use Rattle.std.specs.FinMap as map;
-ghost use Rattle.tcl_frame.specs.Variables.{elements_in, with_value, without, with_array};
+ghost use Rattle.std.specs.Prelude.{◌≡◌, None, OnOk, OnErr};
+ghost use Rattle.tcl_frame.specs.Variables.{with_value, without, with_array};
 ghost use Rattle.tcl_frame.specs.Names as names;
 ghost use Rattle.tcl_frame.specs.Meaning.{found, no_write, no_removal, no_array};
 ghost use Rattle.tcl_frame.specs.Seen.{name_seen};
@@ -110,29 +109,33 @@ impl Table {
     }
 
     /// Gives each index of a list the value behind it, in the array of this name, which is made where
-    /// it is absent. They are written into a copy, so that the array is as it was where memory wants.
+    /// it is absent.
     pub fn write_array(&mut self, name: &[u8], pairs: &[Text]) -> Result<(), VarFault>
         ensures ok { OnOk result (self.new ≡ with_array self.old name.now pairs.now) }
         ensures refused { IsRefusedFor (no_array (found self.old (names.Whole name.now))) result }
         ensures err { OnErr result (self.new ≡ self.old) }
     {
-        let found = self.find_whole(name);
-        if let Some(fault) = found.no_array() {
+        if let Some(fault) = self.find_whole(name).no_array() {
             return Err(fault);
         }
-        let mut elements = self.copy_of(name)?;
-        elements.write_pairs(pairs)?;
-        self.insert(name, Variable::Array(elements))?;
+        self.write_pairs(name, pairs)?;
         Ok(())
     }
 
-    /// A copy of the elements of the array of this name, none where there is no array.
-    fn copy_of(&self, name: &[u8]) -> Result<Elements, NoMemory>
-        ensures { IfOk result (λ copy. copy ≡ elements_in (map.get self.now name.now)) }
+    /// The same where it isn't refused. An array that stands is written to in place; an absent one is
+    /// made apart.
+    fn write_pairs(&mut self, name: &[u8], pairs: &[Text]) -> Result<(), NoMemory>
+        requires { no_array (found self.old (names.Whole name.now)) ≡ None }
+        ensures ok { OnOk result (self.new ≡ with_array self.old name.now pairs.now) }
+        ensures err { OnErr result (self.new ≡ self.old) }
     {
-        match self.get(name) {
-            Some(Variable::Array(elements)) => elements.copy(),
-            _ => Ok(Elements::new(self.alloc)),
+        match self.get_mut(name) {
+            Some(variable) => variable.write_pairs(pairs),
+            None => {
+                let mut elements = Elements::new(self.alloc);
+                elements.write_pairs(pairs)?;
+                self.insert(name, Variable::Array(elements))
+            }
         }
     }
 }

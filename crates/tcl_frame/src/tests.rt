@@ -17,6 +17,7 @@ enum Act {
     Has,
     IsArray,
     Elements,
+    Count,
     Depth,
 }
 
@@ -37,10 +38,10 @@ fn listed(alloc: Global, frames: &Frames, name: &Text) -> Result<Text, VarFault>
     Ok(all)
 }
 
-/// A mark for each frame above the global one.
-fn marks(alloc: Global, frames: &Frames) -> Result<Text, VarFault> {
+/// A text of this many marks.
+fn marks(alloc: Global, count: usize) -> Result<Text, VarFault> {
     let mut all = Text::empty(alloc);
-    for _ in 0..frames.depth() {
+    for _ in 0..count {
         all.append(b"|")?;
     }
     Ok(all)
@@ -85,7 +86,8 @@ fn answer(
         Act::Has => return yes(alloc, frames.has(&name)),
         Act::IsArray => return yes(alloc, frames.is_array(&name)),
         Act::Elements => return listed(alloc, frames, &name),
-        Act::Depth => return marks(alloc, frames),
+        Act::Count => return marks(alloc, frames.count(&name)),
+        Act::Depth => return marks(alloc, frames.depth()),
     }
     Ok(Text::empty(alloc))
 }
@@ -132,6 +134,7 @@ fn scalars_and_arrays(rt: HostRuntime) -> Result<(), Fail> {
         (Act::Has, "x", "", Ok("yes")),
         (Act::IsArray, "x", "", Ok("no")),
         (Act::Elements, "x", "", Ok("")),
+        (Act::Count, "x", "", Ok("")),
         (Act::Read, "x(k)", "", Err(NotArray)),
         (Act::Write, "x(k)", "3", Err(NotArray)),
         (Act::Remove, "x(k)", "", Err(NotArray)),
@@ -159,6 +162,9 @@ fn scalars_and_arrays(rt: HostRuntime) -> Result<(), Fail> {
         (Act::Write, "a(k)", "4", Ok("")),
         (Act::WriteArray, "a", "", Ok("")),
         (Act::Elements, "a", "", Ok("=3;b=2;k=4;")),
+        (Act::Count, "a", "", Ok("|||")),
+        (Act::Count, "a(k)", "", Ok("")),
+        (Act::Count, "b", "", Ok("")),
         (Act::Remove, "a(b)", "", Ok("")),
         (Act::Remove, "a(k)", "", Ok("")),
         (Act::Remove, "a()", "", Ok("")),
@@ -171,6 +177,8 @@ fn scalars_and_arrays(rt: HostRuntime) -> Result<(), Fail> {
         (Act::Elements, "p(q", "", Ok("j=2;k=3;")),
         (Act::WriteArray, "p(q", "i 4 ", Ok("")),
         (Act::Elements, "p(q", "", Ok("i=4;j=2;k=3;")),
+        (Act::WriteArray, "p(q", "j 5 h 6 k 7 h 8 j 9 ", Ok("")),
+        (Act::Elements, "p(q", "", Ok("h=8;i=4;j=9;k=7;")),
         (Act::WriteArray, "a", "", Ok("")),
         (Act::Elements, "a", "", Ok("")),
         (Act::IsArray, "a", "", Ok("yes")),
