@@ -100,7 +100,7 @@ fn names(
 fn size(alloc: Global, frames: &Frames, name: &Text) -> Result<Text, NoMemory>
     ensures { IfOk result (λ text. text ≡ decimal (length (finite.entries (elements_of frames.now name.now)))) }
 {
-    digits(alloc, frames.elements(name)?.len())
+    digits(alloc, frames.count(name))
 }
 
 /// `array unset a`.
