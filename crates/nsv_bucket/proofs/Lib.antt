@@ -3,4 +3,5 @@ pub mod Maps
 pub mod Pairs
 pub mod Results
 pub mod Standing
+pub mod Undoing
 pub mod Writing

@@ -1,17 +1,14 @@
 -- The finite map that a map of the program holds.
-use Rattle.std.proofs.Common.{◌≡◌, Bool, true, false, cond, ℕ, Option, Some, None, List, [], ◌∷◌, length, refl, sym, ap, ◌∙◌, arith}
+use Rattle.std.proofs.Common.{◌≡◌, Bool, true, false, cond, ℕ, Some, None, List, [], ◌∷◌, length, refl, sym, ap, ◌∙◌, arith}
 use Rattle.std.specs.declared.cmp.Ordering.TheVariants.{Less}
 use Rattle.std.specs.Cmp.{eq_by_cmp_equiv}
 use Rattle.std.specs.Cmp.Lexicographic.{nat_list_cmp_total}
 use Rattle.std.specs.FinMap as fin
-use Rattle.std.specs.FinMap.{FinMap, find, slice_cmp-IsAntisymmetric, nat_cmp-IsAntisymmetric, len-entries, len-empty, same_map, get-insert, get-empty, get-remove, get-from_entries, entries-insert, IsAntisymmetric}
+use Rattle.std.specs.FinMap.{find, slice_cmp-IsAntisymmetric, nat_cmp-IsAntisymmetric, len-entries, len-empty, same_map, get-insert, get-remove, get-from_entries, entries-insert, IsAntisymmetric}
 use Rattle.std.specs.Map.{lookup, keys_of, set_value}
 use Rattle.std.specs.BTreeMap.{is_at}
 use Rattle.std.specs.List.Sorted.{IsStrictlySortedBy}
 use Rattle.std.proofs.lemmas.Map.Keys.{sorted_head, sorted_tail}
-use Rattle.std.proofs.lemmas.Map.Keys.{IsDistinct-from_sorted}
-use Rattle.std.proofs.lemmas.Map.{lookup-none}
-use Rattle.std.proofs.lemmas.Map.Entries.{none_past_head}
 use Rattle.std.proofs.lemmas.Option.{same_Some}
 use Rattle.nsv_bucket.specs.Arrays.{text_cmp}
 
@@ -73,35 +70,3 @@ module _ {X : Type 0} where
 
   pub written_back : (es fs : List (List ℕ × X)) (test : List ℕ → Bool) (w : X) → fs ≡ set_value test es w → lookup test es ≡ Some w → fin.from_entries {R = text_cmp} fs ≡ fin.from_entries es
   written_back es fs test w put h = ap (λ r. fin.from_entries {R = text_cmp} r) (put ∙ set_same test es w h)
-
-  -- the entries es, put one after another into a map
-  abbrev pub put_rest : FinMap text_cmp X → List (List ℕ × X) → FinMap text_cmp X
-  put_rest m [] = m
-  put_rest m (e ∷ es) = put_rest (fin.insert m e.0 e.1) es
-
-  -- one of two
-  abbrev or_else : Option X → Option X → Option X
-  or_else None o = o
-  or_else (Some v) o = Some v
-
-  no_more : (q : List ℕ) (e : List ℕ × X) (es : List (List ℕ × X)) → IsStrictlySortedBy text_cmp (keys_of (e ∷ es)) → is_at (text_cmp q) e.0 ≡ true → lookup (is_at (text_cmp q)) es ≡ None
-  no_more q e es s h = lookup-none (is_at (text_cmp q)) es (none_past_head (eq_by_cmp_equiv nat_list_cmp_total) q e es (IsDistinct-from_sorted text_cmp (keys_of (e ∷ es)) s) h)
-
-  got_rest : (m : FinMap text_cmp X) (es : List (List ℕ × X)) → IsStrictlySortedBy text_cmp (keys_of es) → (q : List ℕ) → fin.get (put_rest m es) q ≡ or_else (lookup (is_at (text_cmp q)) es) (fin.get m q)
-  got_rest m [] s q = refl
-  got_rest m (e ∷ es) s q =
-      got_rest (fin.insert m e.0 e.1) es (sorted_tail text_cmp e.0 (keys_of es) s) q
-      ∙ ap (or_else (lookup (is_at (text_cmp q)) es)) (get-insert nat_list_cmp_total m e.0 e.1 q)
-      ∙ elim (is_at (text_cmp q) e.0) as (λ b. is_at (text_cmp q) e.0 ≡ b → or_else (lookup (is_at (text_cmp q)) es) (cond b (Some e.1) (fin.get m q)) ≡ or_else (cond b (Some e.1) (lookup (is_at (text_cmp q)) es)) (fin.get m q)) [
-        | true ↦ λ h. ap (λ o. or_else o (Some e.1)) (no_more q e es s h)
-        | false ↦ λ h. refl
-      ] refl
-
-  none_else : (o : Option X) → or_else o None ≡ o
-  none_else None = refl
-  none_else (Some v) = refl
-
-  -- entries in order that are put into an empty map make the map of them
-  pub all_put : (es : List (List ℕ × X)) → IsStrictlySortedBy text_cmp (keys_of es) → put_rest fin.empty es ≡ fin.from_entries es
-  all_put es s = same_map nat_list_cmp_total exact _ _ (λ q.
-      got_rest fin.empty es s q ∙ ap (or_else (lookup (is_at (text_cmp q)) es)) (get-empty text_cmp q) ∙ none_else (lookup (is_at (text_cmp q)) es) ∙ sym (got es q))

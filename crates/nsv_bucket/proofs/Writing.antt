@@ -23,7 +23,7 @@ other_key x y n = elim (text_cmp x y) as (λ r. text_cmp x y ≡ r → is_eq r �
 ] refl
 
 module _ {X : Type 0} where
-  put_same : (m : FinMap text_cmp X) (k : List ℕ) (v : X) → map.get (map.insert m k v) k ≡ Some v
+  pub put_same : (m : FinMap text_cmp X) (k : List ℕ) (v : X) → map.get (map.insert m k v) k ≡ Some v
   put_same m k v = get-insert nat_list_cmp_total m k v k ∙ ap (λ b. cond b (Some v) (map.get m k)) (same_key k)
 
   put_other : (m : FinMap text_cmp X) (k : List ℕ) (v : X) (q : List ℕ) → q ≢ k → map.get (map.insert m k v) q ≡ map.get m q

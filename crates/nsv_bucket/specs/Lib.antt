@@ -1,9 +1,11 @@
 pub mod Arrays
+pub mod Bases
 pub mod Listings
 pub mod Replies
 pub mod Questions
 pub mod Reads
 pub mod Writes
 pub mod Lists
+pub mod Undoing
 pub mod Steps
 pub mod Laws

@@ -1,11 +1,11 @@
 //! One array: values by key.
 
-ghost use Rattle.std.specs.Prelude.{◌≡◌, ◌<◌, ◌∷◌, length, IfOk, OnOk, OnErr, IfSome, IfNone};
+ghost use Rattle.std.specs.Prelude.{◌≡◌, IfOk, OnOk, OnErr};
 ghost use Rattle.std.specs.FinMap as map;
 ghost use Rattle.std.specs.Option.{option_copied};
 ghost use Rattle.nsv_bucket.specs.Arrays.{text_cmp};
 ghost use Rattle.nsv_bucket.specs.Listings.{names_in, pairs_in};
-ghost use Rattle.nsv_bucket.specs.Lists.{with_pairs};
+ghost use Rattle.nsv_bucket.specs.Undoing.{given_back};
 
 use crate::listing::{names, pairs};
 use std::alloc::Global;
@@ -39,16 +39,6 @@ pub(crate) fn copied(alloc: Global, text: &Text) -> Result<Text, NoMemory>
     Text::new(alloc, text.bytes())
 }
 
-/// The first two texts of a list, and those behind them; `None` exactly where there are fewer.
-pub(crate) fn first_pair(list: &[Text]) -> Option<(&Text, &Text, &[Text])>
-    ensures pair { IfSome result (λ pair. list.now ≡ pair.0.now ∷ pair.1.now ∷ pair.2.now) }
-    ensures fewer { IfNone result (length list.now < 2) }
-{
-    let (key, behind) = list.split_first()?;
-    let (value, rest) = behind.split_first()?;
-    Some((key, value, rest))
-}
-
 impl NsvArray {
     /// An array that holds no key.
     pub fn new(alloc: Global) -> NsvArray
@@ -79,9 +69,39 @@ impl NsvArray {
         ensures ok { OnOk result (self.new ≡ map.insert self.old key.now value) }
         ensures err { OnErr result (self.new ≡ self.old) }
     {
-        let key = copied(alloc, key)?;
-        self.values.insert(key, value)?;
+        self.replace(alloc, key, value)?;
         Ok(())
+    }
+
+    /// The same, and hands back the value that stood there; `None` exactly where none did.
+    pub fn replace(
+        &mut self,
+        alloc: Global,
+        key: &Text,
+        value: Text,
+    ) -> Result<Option<Text>, NoMemory>
+        ensures ok { OnOk result (self.new ≡ map.insert self.old key.now value) }
+        ensures before { IfOk result (λ before. before ≡ map.get self.old key.now) }
+        ensures err { OnErr result (self.new ≡ self.old) }
+    {
+        let key = copied(alloc, key)?;
+        let before = self.values.insert(key, value)?;
+        Ok(before)
+    }
+
+    /// Gives a key that stands this value, or takes the key out where there is none to give. It takes
+    /// no memory.
+    pub fn put_back(&mut self, key: &Text, value: Option<Text>)
+        ensures { self.new ≡ given_back self.old key.now value }
+    {
+        match value {
+            Some(value) => {
+                if let Some(place) = self.values.get_mut(key) {
+                    *place = value;
+                }
+            }
+            None => self.remove(key),
+        }
     }
 
     /// Takes a key out, where it stands.
@@ -103,30 +123,5 @@ impl NsvArray {
         ensures { IfOk result (λ found. found ≡ pairs_in (option_copied pattern.entry) (map.entries self.now)) }
     {
         pairs(alloc, &self.values, pattern)
-    }
-
-    /// A copy of all keys and values.
-    pub fn copy(&self, alloc: Global) -> Result<NsvArray, NoMemory>
-        ensures { IfOk result (λ copy. copy ≡ self.now) }
-    {
-        let mut copy = NsvArray::new(alloc);
-        for (key, value) in &self.values {
-            copy.put(alloc, key, copied(alloc, value)?)?;
-        }
-        Ok(copy)
-    }
-
-    /// Writes keys and values, which take turns in `pairs`. A key without a value, at the end, is
-    /// left out. Where memory wants, some of them may be written.
-    pub fn put_all(&mut self, alloc: Global, pairs: &[Text]) -> Result<(), NoMemory>
-        ensures { OnOk result (self.new ≡ with_pairs self.old pairs.now) }
-    {
-        let mut rest = pairs;
-        'pairs: while let Some((key, value, tail)) = first_pair(rest) {
-            let value = copied(alloc, value)?;
-            self.put(alloc, key, value)?;
-            rest = tail;
-        }
-        Ok(())
     }
 }

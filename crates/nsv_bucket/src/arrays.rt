@@ -3,7 +3,8 @@
 ghost use Rattle.std.specs.Prelude.{◌≡◌, OnOk, OnErr, IsSome};
 ghost use Rattle.std.specs.FinMap as map;
 ghost use Rattle.std.specs.Option.{option_copied};
-ghost use Rattle.nsv_bucket.specs.Arrays.{seen, value_of, with_value, without_key};
+ghost use Rattle.nsv_bucket.specs.Arrays.{seen, array_of, value_of, with_value, without_key};
+ghost use Rattle.nsv_bucket.specs.Lists.{with_pairs};
 
 use crate::array::{NsvArray, copied};
 use std::alloc::Global;
@@ -60,6 +61,41 @@ pub(crate) fn put_value(
     match arrays.get_mut(name) {
         Some(array) => array.put(alloc, key, value),
         None => place_first(alloc, arrays, name, key, value),
+    }
+}
+
+/// Makes an array of this name that holds the keys and values of a list, in which they take turns, in
+/// place of the array that had the name. Its only error is want of memory, and the arrays are then as
+/// they were.
+pub(crate) fn place_pairs(
+    alloc: Global,
+    arrays: &mut Arrays,
+    name: &Text,
+    pairs: &[Text],
+) -> Result<(), NoMemory>
+    ensures ok { OnOk result (seen arrays.new ≡ map.insert (seen arrays.old) name.now (with_pairs map.empty pairs.now)) }
+    ensures err { OnErr result (seen arrays.new ≡ seen arrays.old) }
+{
+    let mut array = NsvArray::new(alloc);
+    array.put_all(alloc, pairs)?;
+    place(alloc, arrays, name, array)
+}
+
+/// Writes the keys and values of a list, in which they take turns, over those of the array of this
+/// name; an absent array is made. Its only error is want of memory, and the arrays are then as they
+/// were.
+pub(crate) fn put_pairs(
+    alloc: Global,
+    arrays: &mut Arrays,
+    name: &Text,
+    pairs: &[Text],
+) -> Result<(), NoMemory>
+    ensures ok { OnOk result (seen arrays.new ≡ map.insert (seen arrays.old) name.now (with_pairs (array_of (seen arrays.old) name.now) pairs.now)) }
+    ensures err { OnErr result (seen arrays.new ≡ seen arrays.old) }
+{
+    match arrays.get_mut(name) {
+        Some(array) => array.put_all(alloc, pairs),
+        None => place_pairs(alloc, arrays, name, pairs),
     }
 }
 

@@ -9,6 +9,7 @@
 mod array;
 mod arrays;
 mod bucket;
+mod journal;
 mod law;
 mod listing;
 mod lists;

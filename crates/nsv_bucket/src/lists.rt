@@ -1,14 +1,16 @@
 //! The questions of `nsv_array` that write a list of pairs.
 
 ghost use Rattle.std.specs.Prelude.{◌≡◌, ◌≤◌, length, IfOk, OnOk, OnErr};
+ghost use Rattle.std.specs.FinMap as map;
 ghost use Rattle.txt_core.specs.Lists.{elements};
 ghost use Rattle.txt_core.specs.Listing.{listing};
 ghost use Rattle.nsv_bucket.specs.Questions.{word_at};
-ghost use Rattle.nsv_bucket.specs.Arrays.{seen, array_of};
-ghost use Rattle.nsv_bucket.specs.Lists.{paired, array_set_step, array_reset_step, is_even, has_long_value};
+ghost use Rattle.nsv_bucket.specs.Arrays.{seen};
+ghost use Rattle.nsv_bucket.specs.Bases.{base_of};
+ghost use Rattle.nsv_bucket.specs.Lists.{with_pairs, paired, array_set_step, array_reset_step, is_even, has_long_value};
 
-use crate::array::{NsvArray, first_pair};
-use crate::arrays::{Arrays, array_named, place};
+use crate::arrays::{Arrays, place_pairs, put_pairs};
+use crate::journal::first_pair;
 use crate::message::{bad_list, bad_pairs, refuse, refuse_long};
 use crate::question::word;
 use crate::reply::{MOST_BYTES, NsvReply};
@@ -37,22 +39,43 @@ fn any_long_value(pairs: &[Text]) -> bool
     false
 }
 
-/// Writes pairs over an array, and gives it the name that the words have.
-fn pair(
+/// What the pairs of a list are written over.
+#[derive(Clone, Copy)]
+pub(crate) enum Base {
+    /// The array that has the name; an absent one is made.
+    Standing,
+    /// An array that holds no key.
+    Nothing,
+}
+
+/// Writes pairs over the keys and values of an array, which has this name then.
+fn write(
     alloc: Global,
     arrays: &mut Arrays,
-    words: &Words,
-    array: NsvArray,
-) -> Result<NsvReply, NoMemory>
+    name: &Text,
+    base: Base,
+    pairs: &[Text],
+) -> Result<(), NoMemory>
+    ensures ok { OnOk result (seen arrays.new ≡ map.insert (seen arrays.old) name.now (with_pairs (base_of (seen arrays.old) name.now base) pairs.now)) }
+    ensures err { OnErr result (seen arrays.new ≡ seen arrays.old) }
+{
+    match base {
+        Base::Standing => put_pairs(alloc, arrays, name, pairs),
+        Base::Nothing => place_pairs(alloc, arrays, name, pairs),
+    }
+}
+
+/// Writes the pairs of the list that the words have, where they can be written.
+fn pair(alloc: Global, arrays: &mut Arrays, words: &Words, base: Base) -> Result<NsvReply, NoMemory>
     requires { 4 ≤ length words.now }
-    ensures reply { IfOk result (λ reply. reply ≡ (paired (seen arrays.old) words.now array (listing (word_at words.now 3))).0) }
-    ensures ok { OnOk result (seen arrays.new ≡ (paired (seen arrays.old) words.now array (listing (word_at words.now 3))).1) }
+    ensures reply { IfOk result (λ reply. reply ≡ (paired (seen arrays.old) words.now (base_of (seen arrays.old) (word_at words.now 2) base) (listing (word_at words.now 3))).0) }
+    ensures ok { OnOk result (seen arrays.new ≡ (paired (seen arrays.old) words.now (base_of (seen arrays.old) (word_at words.now 2) base) (listing (word_at words.now 3))).1) }
     ensures err { OnErr result (seen arrays.new ≡ seen arrays.old) }
 {
     match split(alloc, word(words, 3)) {
         Err(ListFault::NoMemory) => Err(NoMemory),
         Err(ListFault::Bad { at }) => refuse(alloc, bad_list(alloc, at)?),
-        Ok(pairs) => pair_elements(alloc, arrays, words, array, &pairs),
+        Ok(pairs) => pair_elements(alloc, arrays, words, base, &pairs),
     }
 }
 
@@ -61,15 +84,14 @@ fn pair_elements(
     alloc: Global,
     arrays: &mut Arrays,
     words: &Words,
-    array: NsvArray,
+    base: Base,
     pairs: &Words,
 ) -> Result<NsvReply, NoMemory>
     requires { 4 ≤ length words.now }
-    ensures reply { IfOk result (λ reply. reply ≡ (paired (seen arrays.old) words.now array (elements pairs.now)).0) }
-    ensures ok { OnOk result (seen arrays.new ≡ (paired (seen arrays.old) words.now array (elements pairs.now)).1) }
+    ensures reply { IfOk result (λ reply. reply ≡ (paired (seen arrays.old) words.now (base_of (seen arrays.old) (word_at words.now 2) base) (elements pairs.now)).0) }
+    ensures ok { OnOk result (seen arrays.new ≡ (paired (seen arrays.old) words.now (base_of (seen arrays.old) (word_at words.now 2) base) (elements pairs.now)).1) }
     ensures err { OnErr result (seen arrays.new ≡ seen arrays.old) }
 {
-    let mut array = array;
     let pairs = pairs.as_slice();
     if !even(pairs) {
         return refuse(alloc, bad_pairs(alloc, word(words, 3))?);
@@ -77,23 +99,11 @@ fn pair_elements(
     if any_long_value(pairs) {
         return refuse_long(alloc);
     }
-    array.put_all(alloc, pairs)?;
-    place(alloc, arrays, word(words, 2), array)?;
+    write(alloc, arrays, word(words, 2), base, pairs)?;
     Ok(NsvReply::Said(Text::empty(alloc)))
 }
 
-/// A copy of the array of this name; one that holds no key where there is none.
-fn copy_of(alloc: Global, arrays: &Arrays, name: &Text) -> Result<NsvArray, NoMemory>
-    ensures { IfOk result (λ copy. copy ≡ array_of (seen arrays.now) name.now) }
-{
-    match array_named(arrays, name) {
-        Some(array) => array.copy(alloc),
-        None => Ok(NsvArray::new(alloc)),
-    }
-}
-
-/// Answers `nsv_array set`: writes the pairs over those that stand. They are written into a copy, so
-/// that the array is as it was where memory wants.
+/// Answers `nsv_array set`: writes the pairs over those that stand.
 pub(crate) fn array_set(
     alloc: Global,
     arrays: &mut Arrays,
@@ -104,8 +114,7 @@ pub(crate) fn array_set(
     ensures ok { OnOk result (seen arrays.new ≡ (array_set_step (seen arrays.old) words.now).1) }
     ensures err { OnErr result (seen arrays.new ≡ seen arrays.old) }
 {
-    let array = copy_of(alloc, arrays, word(words, 2))?;
-    pair(alloc, arrays, words, array)
+    pair(alloc, arrays, words, Base::Standing)
 }
 
 /// Answers `nsv_array reset`: makes the array anew.
@@ -119,5 +128,5 @@ pub(crate) fn array_reset(
     ensures ok { OnOk result (seen arrays.new ≡ (array_reset_step (seen arrays.old) words.now).1) }
     ensures err { OnErr result (seen arrays.new ≡ seen arrays.old) }
 {
-    pair(alloc, arrays, words, NsvArray::new(alloc))
+    pair(alloc, arrays, words, Base::Nothing)
 }

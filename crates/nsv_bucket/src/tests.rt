@@ -110,7 +110,7 @@ fn values(rt: HostRuntime) -> Result<(), Fail> {
 fn arrays(rt: HostRuntime) -> Result<(), Fail> {
     let alloc = rt.alloc();
     let mut bucket = Bucket::new(alloc);
-    let rows: [(&[u8], Want<'_>); 38] = [
+    let rows: [(&[u8], Want<'_>); 40] = [
         (b"nsv_array get z", Says(b"")),
         (b"nsv_array names z", Says(b"")),
         (b"nsv_array size z", Says(b"0")),
@@ -141,6 +141,8 @@ fn arrays(rt: HostRuntime) -> Result<(), Fail> {
             Fails(b"bad value \"x\" for \"nsv_array\""),
         ),
         (b"nsv_array get c", Says(b"{a b} {} b 2 k 3")),
+        (b"nsv_array set c {d 4 b 5 d 6 k 7 k 8}", Says(b"")),
+        (b"nsv_array get c", Says(b"{a b} {} b 5 d 6 k 8")),
         (b"nsv_array reset c {y 1}", Says(b"")),
         (b"nsv_array get c", Says(b"y 1")),
         (b"nsv_array set e {}", Says(b"")),
@@ -156,7 +158,7 @@ fn arrays(rt: HostRuntime) -> Result<(), Fail> {
         (b"nsv_array set c", Fails(b"")),
         (b"nsv_names 0", Says(b"a c e f")),
     ];
-    assert_eq!(rt; count_rows(alloc, &mut bucket, &rows)?, 38);
+    assert_eq!(rt; count_rows(alloc, &mut bucket, &rows)?, 40);
     Ok(())
 }
 

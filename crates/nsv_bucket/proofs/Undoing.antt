@@ -1,0 +1,60 @@
+-- What undoing writes brings back.
+use Rattle.std.proofs.Common.{◌≡◌, ℕ, Bool, true, false, List, [], ◌∷◌, ◌++◌, refl, sym, ap, ◌∙◌, cond, is_some}
+use Rattle.std.specs.Prelude.{Option, Some, None, if◌then◌else◌}
+use Rattle.std.specs.Ordering.{eq_by_cmp}
+use Rattle.std.specs.Cmp.{Equal-is}
+use Rattle.std.specs.Cmp.Lexicographic.{nat_list_cmp_total}
+use Rattle.std.specs.FinMap as map
+use Rattle.std.specs.FinMap.{get-insert, get-remove, get_tied, same_map}
+use Rattle.nsv_bucket.specs.declared.journal.Change.{Change}
+use Rattle.nsv_bucket.specs.Arrays.{text_cmp, Array}
+use Rattle.nsv_bucket.specs.Undoing.{given_back, undone}
+use Rattle.nsv_bucket.proofs.Maps.{exact}
+use Rattle.nsv_bucket.proofs.Writing.{put_same}
+
+-- of two changes at one place the second stands, and it stands for what was there before
+second : {A : Type 0} (b : Bool) (later first was : A) → (b ≡ true → later ≡ was) → cond b later (cond b first was) ≡ was
+second true later first was h = h refl
+second false later first was h = refl
+
+module _ (m : Array) (k v : List ℕ) where
+  same_at : (q : List ℕ) → eq_by_cmp text_cmp q k ≡ true → map.get m k ≡ map.get m q
+  same_at q y = get_tied nat_list_cmp_total m q k ((Equal-is (text_cmp q k)).0 y)
+
+  -- a key that was put and is taken away, where it had nothing before
+  put_and_taken : map.get m k ≡ None → map.remove (map.insert m k v) k ≡ m
+  put_and_taken had = same_map nat_list_cmp_total exact _ _ (λ q.
+      get-remove nat_list_cmp_total (map.insert m k v) k q
+      ∙ ap (cond (eq_by_cmp text_cmp q k) None) (get-insert nat_list_cmp_total m k v q)
+      ∙ second (eq_by_cmp text_cmp q k) None (Some v) (map.get m q) (λ y. sym had ∙ same_at q y))
+
+  -- a key that was put and then has again what it had before
+  put_and_put : (w : List ℕ) → map.get m k ≡ Some w → map.insert (map.insert m k v) k w ≡ m
+  put_and_put w had = same_map nat_list_cmp_total exact _ _ (λ q.
+      get-insert nat_list_cmp_total (map.insert m k v) k w q
+      ∙ ap (cond (eq_by_cmp text_cmp q k) (Some w)) (get-insert nat_list_cmp_total m k v q)
+      ∙ second (eq_by_cmp text_cmp q k) (Some w) (Some v) (map.get m q) (λ y. sym had ∙ same_at q y))
+
+  given_back_by : (o : Option (List ℕ)) → map.get m k ≡ o → given_back (map.insert m k v) k o ≡ m
+  given_back_by None had = put_and_taken had
+  given_back_by (Some w) had =
+      ap (λ o. if is_some o then map.insert (map.insert m k v) k w else map.insert m k v) (put_same m k v) ∙ put_and_put w had
+
+  -- a key that is given back what it had before a write
+  pub given_back_written : given_back (map.insert m k v) k (map.get m k) ≡ m
+  given_back_written = given_back_by (map.get m k) refl
+
+-- the last change is undone first
+pub undone_last : (changes : List Change) (change : Change) (array : Array)
+    → undone (changes ++ change ∷ []) array ≡ undone changes (given_back array change.key.now change.before)
+undone_last [] change array = refl
+undone_last (first ∷ changes) change array = ap (λ m. given_back m first.key.now first.before) (undone_last changes change array)
+
+-- a write that is noted is undone
+pub undone_written : (changes : List Change) (change : Change) (array : Array) (value : List ℕ)
+    → change.before ≡ map.get array change.key.now
+    → undone (changes ++ change ∷ []) (map.insert array change.key.now value) ≡ undone changes array
+undone_written changes change array value noted =
+    let key = change.key.now in
+    undone_last changes change (map.insert array key value)
+    ∙ ap (undone changes) (ap (given_back (map.insert array key value) key) noted ∙ given_back_written array key value)
