@@ -1,5 +1,6 @@
 pub mod Arrays
 pub mod Bases
+pub mod Buckets
 pub mod Listings
 pub mod Replies
 pub mod Questions

@@ -9,6 +9,7 @@
 mod array;
 mod arrays;
 mod bucket;
+mod buckets;
 mod journal;
 mod law;
 mod listing;
@@ -23,5 +24,6 @@ mod tests;
 mod writes;
 
 pub use bucket::Bucket;
+pub use buckets::bucket_of;
 pub use law::{each_key_by_itself, steps_are_determined};
 pub use reply::NsvReply;

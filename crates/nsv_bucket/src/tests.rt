@@ -224,6 +224,15 @@ fn ask_in_two<R: Threads + Wait + Sync>(
 }
 
 #[test]
+fn each_array_lies_in_the_first_bucket(rt: HostRuntime) -> Result<(), Fail> {
+    let names: [&[u8]; 4] = [b"", b"c", b"counters", b"\xff"];
+    for name in names {
+        assert_eq!(rt; bucket_of(&Text::new(rt.alloc(), name)?), 0);
+    }
+    Ok(())
+}
+
+#[test]
 fn in_a_cell(rt: HostRuntime) -> Result<(), Fail> {
     let alloc = rt.alloc();
     let one = words_of(alloc, b"nsv_incr c n")?;
