@@ -122,6 +122,16 @@ IsWritingStage Lost = ⊥
 abbrev pub IsWriting : Interp → Type 0
 IsWriting interp = IsWritingStage interp.stage
 
+-- It is over: its run has ended.
+abbrev pub IsOverStage : Stage → Type 0
+IsOverStage (New table frames) = ⊥
+IsOverStage (Serving engine) = ⊥
+IsOverStage (Defining engine) = ⊥
+IsOverStage (Publishing engine value) = ⊥
+IsOverStage (Writing engine ending) = ⊥
+IsOverStage (Over engine) = Unit {0}
+IsOverStage Lost = ⊥
+
 -- how a run ends: neither at a question nor with want of memory
 abbrev pub IsEnd : Outcome → Type 0
 IsEnd (outcomes.Done code result) = Unit {0}
@@ -130,11 +140,12 @@ IsEnd outcomes.Spent = Unit {0}
 IsEnd outcomes.TooDeep = Unit {0}
 IsEnd outcomes.NoMemory = ⊥
 
--- It stands at what it answered.
+-- It stands at what it answered. Where its run has ended it is over: it stands at no question and at no response, and is not as
+-- newly made, so nothing goes on.
 abbrev pub StageStandsAt : Next → Stage → Type 0
 StageStandsAt (Asks question) stage = IsAskingStage stage
 StageStandsAt (Write response) stage = IsWritingStage stage
-StageStandsAt (Ended outcome) stage = IsEnd outcome
+StageStandsAt (Ended outcome) stage = IsEnd outcome × IsOverStage stage
 StageStandsAt NoMemory stage = Unit {0}
 
 abbrev pub StandsAt : Next → Interp → Type 0

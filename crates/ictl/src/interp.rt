@@ -106,7 +106,11 @@ pub enum Stage {
     Lost,
 }
 
-/// What serves one request, on the blueprint that it was made from. It can stand at a question.
+/// Runs one request, or one script that makes definitions, on the blueprint that it was made from. It can
+/// stand at a question.
+///
+/// Once its run has ended nothing goes on: it stands at no question and at no response, and is not as
+/// newly made.
 #[derive(Drop)]
 pub struct Interp {
     alloc: Global,
@@ -348,7 +352,9 @@ impl Interp {
     /// newly made.
     ///
     /// What serves the request is called; where no registration serves it, the response is the plain
-    /// reply of 404. Where memory wants, the interpreter is in any state, but its blueprint stays.
+    /// reply of 404. It stands then at a question or at its response; the run ends only behind that, and
+    /// nothing goes on from there. Where memory wants, the interpreter is in any state, but its
+    /// blueprint stays.
     pub fn start_request<L: Ledger>(
         &mut self,
         natives: &Natives,
@@ -374,7 +380,8 @@ impl Interp {
     /// has the script of that as its one word. A refusal is an error with its reason; else, and where
     /// nothing was made, the run ends with code 0 and the result of the script. It ends with the
     /// script's error where that ends so; `break` and `continue` are errors. No response comes of it.
-    /// Where memory wants, the interpreter is in any state, but its blueprint stays.
+    /// Once the run has ended nothing goes on. Where memory wants, the interpreter is in any state, but
+    /// its blueprint stays.
     pub fn start_define<L: Ledger>(
         &mut self,
         natives: &Natives,
@@ -406,8 +413,9 @@ impl Interp {
         }
     }
 
-    /// Goes on with the answer to the question at which it stands. Where memory wants, the
-    /// interpreter is in any state, but its blueprint stays.
+    /// Goes on with the answer to the question at which it stands. It stands then at what it answered;
+    /// where its run has ended, it can't be gone on with: no question is left to answer, and no response
+    /// to write. Where memory wants, the interpreter is in any state, but its blueprint stays.
     pub fn resume<L: Ledger>(
         &mut self,
         natives: &Natives,
@@ -428,7 +436,8 @@ impl Interp {
     }
 
     /// Tells it that the response was written, whole or not. Nothing runs behind a response, so the
-    /// run of the request ends: as it did up to the response, and well where it was answered.
+    /// run of the request ends: as it did up to the response, and well where it was answered. Nothing
+    /// goes on from there.
     pub fn written<L: Ledger>(
         &mut self,
         natives: &Natives,
