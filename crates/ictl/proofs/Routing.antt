@@ -1,14 +1,18 @@
 -- The search for the registration that serves a request.
 use Rattle.std.proofs.Common.{◌≡◌, ℕ, ◌+◌, ◌-◌, ◌≤◌, ◌<◌, List, [], ◌∷◌, ◌++◌, drop, length, get_or, length-append, refl, sym, subst, ap, ◌∙◌, arith, Bool, true, false, Option, Some, None}
 use Rattle.std.specs.Prelude.{nat_le, if◌then◌else◌, bytes_eq, fold, filter}
-use Rattle.std.specs.Option.{option_map}
+use Rattle.std.specs.Option.{option_and_then, option_map}
 use Rattle.std.proofs.lemmas.List.{drop_more, drop_all}
 use Rattle.std.proofs.lemmas.Bool.Decides.{nat_tests}
 use Rattle.std.proofs.lemmas.Slice.Eq.{bytes_eq-Decides}
 use Rattle.cmd_table.specs.declared.definition.Def.{Def}
-use Rattle.ictl.specs.Routes.{is_filled, behind, below, Match, registration, better, best}
+use Rattle.ictl.specs.Routes.{is_filled, below, Match, registration, better, best}
 
 -- ---- the segments of a URL
+
+-- what is left of a path, if anything, behind one more segment
+abbrev pub behind : Option (List (List ℕ)) → List ℕ → Option (List (List ℕ))
+behind path segment = option_and_then (below (segment ∷ [])) path
 
 none_left : (plain : List (List ℕ)) → fold behind None plain ≡ None
 none_left [] = refl

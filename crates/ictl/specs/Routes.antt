@@ -17,12 +17,6 @@ is_filled (b ∷ text) = true
 unfoldable pub segments : List ℕ → List (List ℕ)
 segments url = filter is_filled (slice_split is_slash url)
 
--- what is left of a path behind one more segment, where it goes on with that
-abbrev pub behind : Option (List (List ℕ)) → List ℕ → Option (List (List ℕ))
-behind None segment = None
-behind (Some []) segment = None
-behind (Some (first ∷ path)) segment = if bytes_eq first segment then Some path else None
-
 -- what is left of a path behind these segments; none where the path doesn't begin with them
 abbrev pub below : List (List ℕ) → List (List ℕ) → Option (List (List ℕ))
 below [] path = Some path

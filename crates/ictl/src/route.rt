@@ -1,15 +1,15 @@
 //! Which registration serves a request.
 
-ghost use Rattle.std.specs.Prelude.{◌≡◌};
-ghost use Rattle.std.specs.Option.{option_copied, option_map};
-ghost use Rattle.ictl.specs.Routes.{segments, behind, below, plain_segments, route_method, registration, route};
+ghost use Rattle.std.specs.Prelude.{◌≡◌, ◌∷◌, []};
+ghost use Rattle.std.specs.Option.{option_and_then, option_copied, option_map};
+ghost use Rattle.ictl.specs.Routes.{segments, below, plain_segments, route_method, registration, route};
 
 use cmd_table::{Def, Defs};
 use txt_core::{Text, Words};
 
 /// What is left of a path behind one more segment, where it goes on with that.
 fn behind<'a>(path: Option<&'a [Text]>, segment: &[u8]) -> Option<&'a [Text]>
-    ensures { option_copied result ≡ behind (option_copied path.entry) segment.now }
+    ensures { option_copied result ≡ option_and_then (below (segment.now ∷ [])) (option_copied path.entry) }
 {
     match path?.split_first() {
         None => None,

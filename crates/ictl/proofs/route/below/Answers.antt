@@ -4,8 +4,8 @@ use Rattle.std.proofs.lemmas.Iterator.Splits.{YieldsList-from_slice_split}
 use Rattle.std.specs.Prelude.{filter, fold}
 use Rattle.std.specs.List.{slice_split}
 use Rattle.std.specs.Slice.Iter.{split_rest, split_done, split_callee}
-use Rattle.ictl.specs.Routes.{is_slash, is_filled, segments, behind}
-use Rattle.ictl.proofs.Routing.{below_is}
+use Rattle.ictl.specs.Routes.{is_slash, is_filled, segments}
+use Rattle.ictl.proofs.Routing.{behind, below_is}
 use Rattle.ictl.proofs.route.below.Goals as goal
 
 pub returns : goal.returns

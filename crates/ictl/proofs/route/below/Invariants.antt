@@ -1,7 +1,8 @@
 use Rattle.std.proofs.Common.{◌≡◌, map, Some}
 use Rattle.std.specs.Prelude.{filter, fold}
 use Rattle.std.specs.Option.{option_copied}
-use Rattle.ictl.specs.Routes.{is_filled, behind}
+use Rattle.ictl.specs.Routes.{is_filled}
+use Rattle.ictl.proofs.Routing.{behind}
 use Rattle.ictl.proofs.route.below.Given as goal
 
 abbrev pub invariant-loop-piece : goal.invariant-loop-piece
