@@ -103,13 +103,14 @@ fn answer<L: Ledger>(
     }
 }
 
-/// What is asked in turn, and then the status and the body of the response. The first question is
-/// answered with 1, and the second with 4.
+/// What is asked in turn, and then the status and the body of the response, which is written whole or
+/// not. The first question is answered with 1, and the second with 4.
 fn serve<L: Ledger>(
     alloc: Global,
     blank: Blank,
     segment: &[u8],
     body: &[u8],
+    whole: bool,
 ) -> Result<Text, NoMemory>
     requires name { blank.name ≡ L.name }
     requires parts { blank.parts ≡ L.parts }
@@ -135,7 +136,7 @@ fn serve<L: Ledger>(
         told.append(format!(in alloc; "{}", response.status)?.as_bytes())?;
         told.append(b" ")?;
         told.append(response.body.bytes())?;
-        if let Next::Ended(_) = interp.written(&natives, true, &mut steps) {
+        if let Next::Ended(_) = interp.written(&natives, whole, &mut steps) {
             told.append(b" ended")?;
         }
     }
@@ -252,6 +253,16 @@ fn requests(rt: HostRuntime) -> Result<(), Fail> {
         ("c", "nsv_get c", failed),
         ("c", "nothing", failed),
         ("c", "c", "500 nesting too deep\n ended"),
+        (
+            "c",
+            "catch {ns_return 200 a b}; c",
+            "500 nesting too deep\n ended",
+        ),
+        (
+            "c",
+            "ns_return 200 a b; while 1 {}",
+            "500 budget spent\n ended",
+        ),
     ];
     for (segment, body, want) in rows {
         let came = serve::<Brand>(
@@ -259,9 +270,18 @@ fn requests(rt: HostRuntime) -> Result<(), Fail> {
             Blank::new(1),
             segment.as_bytes(),
             body.as_bytes(),
+            true,
         )?;
         assert_eq!(rt; came.bytes(), want.as_bytes());
     }
+    Ok(())
+}
+
+#[test]
+fn response_that_was_cut_short(rt: HostRuntime) -> Result<(), Fail> {
+    let body = b"ns_return 200 a b";
+    let came = serve::<Brand>(rt.alloc(), Blank::new(1), b"c", body, false)?;
+    assert_eq!(rt; came.bytes(), b"200 b ended".as_slice());
     Ok(())
 }
 
