@@ -5,7 +5,7 @@ use Rattle.std.proofs.lemmas.Option.{slice_get_within, get_or_from_slice_get, sl
 use Rattle.std.proofs.lemmas.List.Sums.{fold_more, fold-append}
 use Rattle.cmd_table.specs.declared.command.Cmd.TheVariants as commands
 use Rattle.cmd_table.specs.Table.{Table, with_command}
-use Rattle.cmd_table.specs.Commands.{built, with_built}
+use Rattle.cmd_table.specs.Commands.{built_ins, built, with_built}
 
 -- the name at this place has its built-in too
 pub one_more : (table old new : Table) (names : List (List ℕ)) (i : ℕ) (name : List ℕ) → old ≡ with_built table (take i names) → Some name ≡ slice_get names i → new ≡ with_command old name (commands.Built name) → new ≡ with_built table (take (i + 1) names)
@@ -20,9 +20,9 @@ one_more table old new names i name so_far at put =
 pub is_there : (names : List (List ℕ)) (i : ℕ) → i < length names → None ≡ slice_get names i → ⊥
 is_there names i lt none = let is = slice_get-get_or names i [] lt in absurd (cc)
 
--- first these names, and then those behind them
-pub one_after_the_other : (start first last : Table) (names natives : List (List ℕ)) → start ≡ [] → first ≡ with_built start names → last ≡ with_built first natives → last ≡ built names natives
-one_after_the_other start first last names natives empty front back =
+-- first the built-ins that are no natives, and then the natives
+pub one_after_the_other : (start first last : Table) (natives : List (List ℕ)) → start ≡ [] → first ≡ with_built start built_ins → last ≡ with_built first natives → last ≡ built natives
+one_after_the_other start first last natives empty front back =
     back
-    ∙ (ap (λ (t : Table). with_built t natives) (front ∙ ap (λ (t : Table). with_built t names) empty)
-    ∙ sym (fold-append (λ (t : Table) (n : List ℕ). with_command t n (commands.Built n)) [] names natives))
+    ∙ (ap (λ (t : Table). with_built t natives) (front ∙ ap (λ (t : Table). with_built t built_ins) empty)
+    ∙ sym (fold-append (λ (t : Table) (n : List ℕ). with_command t n (commands.Built n)) [] built_ins natives))

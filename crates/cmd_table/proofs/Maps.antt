@@ -16,7 +16,7 @@ use Rattle.natives.specs.Names.{has_name}
 use Rattle.cmd_table.specs.declared.command.Cmd.{Cmd}
 use Rattle.cmd_table.specs.declared.command.Cmd.TheVariants as commands
 use Rattle.cmd_table.specs.Table.{Table, name_order, names_of, IsInOrder, command_of, with_command, without_command}
-use Rattle.cmd_table.specs.Commands.{with_built}
+use Rattle.cmd_table.specs.Commands.{built_ins, with_built}
 use Rattle.cmd_table.specs.Laws.{PuttingSetsOneName, RemovingDropsOneName, BuiltInsAreThere}
 
 -- the test of a look-up, by the order
@@ -77,6 +77,6 @@ unfolding command_of
 nothing_found name = refl
 
 pub all_built : BuiltInsAreThere
-all_built names natives name =
-    built_found [] (names ++ natives) name
-    ∙ ap (λ (r : Option Cmd). cond (has_name (names ++ natives) name) (Some (commands.Built name)) r) (nothing_found name)
+all_built natives name =
+    built_found [] (built_ins ++ natives) name
+    ∙ ap (λ (r : Option Cmd). cond (has_name (built_ins ++ natives) name) (Some (commands.Built name)) r) (nothing_found name)

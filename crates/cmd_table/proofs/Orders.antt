@@ -16,7 +16,7 @@ use Rattle.cmd_table.specs.declared.renaming.Renamed.{Renamed}
 use Rattle.cmd_table.specs.declared.renaming.Renamed.TheVariants.{Done, NoOld, NewExists}
 use Rattle.cmd_table.specs.Table.{Table, name_order, IsInOrder, command_of, with_command, without_command}
 use Rattle.cmd_table.specs.Renaming.{rename_answer, renamed, renamed_by}
-use Rattle.cmd_table.specs.Commands.{built, defined}
+use Rattle.cmd_table.specs.Commands.{built_ins, built, defined}
 use Rattle.cmd_table.specs.Laws.{CommandsAreInOrder}
 use Rattle.cmd_table.proofs.Changes.{IsBelow, below_more}
 
@@ -99,4 +99,4 @@ unfolding IsStrictlySortedBy
 nothing_in_order = tt
 
 pub in_order : CommandsAreInOrder
-in_order names natives defs = all_in_order (built names natives) defs (names_in_order [] (names ++ natives) nothing_in_order)
+in_order natives defs = all_in_order (built natives) defs (names_in_order [] (built_ins ++ natives) nothing_in_order)

@@ -1,18 +1,27 @@
 -- The commands that definitions make, from the built-in names on.
-use Rattle.std.specs.Prelude.{◌≡◌, ◌⊎◌, ◌++◌, ℕ, List, [], None, IsSome, fold, sum_by}
+use Rattle.std.specs.Prelude.{◌≡◌, ◌⊎◌, ◌++◌, ℕ, List, [], ◌∷◌, codes, None, IsSome, fold, sum_by}
 use Rattle.cmd_table.specs.declared.command.Cmd.TheVariants as commands
 use Rattle.cmd_table.specs.declared.definition.Def.{Def}
 use Rattle.cmd_table.specs.declared.definition.Def.TheVariants.{Proc, Rename, Route, Filter, Cleanup}
 use Rattle.cmd_table.specs.Table.{Table, command_of, with_command}
 use Rattle.cmd_table.specs.Renaming.{renamed, rename_writes}
 
+-- the names of the built-ins that are no natives
+unfoldable pub built_ins : List (List ℕ)
+built_ins =
+    codes "set" ∷ codes "unset" ∷ codes "incr" ∷ codes "append" ∷ codes "lappend" ∷ codes "global" ∷ codes "array" ∷ codes "info"
+    ∷ codes "proc" ∷ codes "rename" ∷ codes "if" ∷ codes "while" ∷ codes "for" ∷ codes "foreach" ∷ codes "switch" ∷ codes "catch"
+    ∷ codes "eval" ∷ codes "expr" ∷ codes "return" ∷ codes "break" ∷ codes "continue" ∷ codes "error"
+    ∷ codes "ns_return" ∷ codes "ns_register_proc" ∷ codes "nsv_set" ∷ codes "nsv_get" ∷ codes "nsv_exists" ∷ codes "nsv_incr"
+    ∷ codes "nsv_append" ∷ codes "nsv_lappend" ∷ codes "nsv_unset" ∷ codes "nsv_names" ∷ codes "nsv_array" ∷ []
+
 -- a table in which these names have their built-ins, whatever they had before; all other names have theirs
 abbrev pub with_built : Table → List (List ℕ) → Table
 with_built table names = fold (λ table name. with_command table name (commands.Built name)) table names
 
--- the table of the built-in names, those of the natives behind the others: each has its built-in, and no other name has a command
-abbrev pub built : List (List ℕ) → List (List ℕ) → Table
-built names natives = with_built [] (names ++ natives)
+-- The table of the built-in names, those of the natives behind the others: each has its built-in, and no other name has a command.
+abbrev pub built : List (List ℕ) → Table
+built natives = with_built [] (built_ins ++ natives)
 
 -- The table after a definition: `Proc` sets a name, and `Rename` moves or removes one. A rename that
 -- doesn't apply changes nothing, and no other definition changes a table.
@@ -24,8 +33,8 @@ defined table (Filter when method pattern words) = table
 defined table (Cleanup script) = table
 
 -- the commands of definitions that were made one after the other on the built-in names, those of the natives behind the others
-abbrev pub Commands : List (List ℕ) → List (List ℕ) → List Def → Table
-Commands names natives defs = fold defined (built names natives) defs
+abbrev pub Commands : List (List ℕ) → List Def → Table
+Commands natives defs = fold defined (built natives) defs
 
 -- Whether a definition applies to a table: a rename needs `old` to be a command, and `new` to be
 -- empty or no command. Any other definition always applies.

@@ -6,7 +6,7 @@ use Rattle.cmd_table.specs.declared.command.Cmd.{Cmd}
 use Rattle.cmd_table.specs.declared.definition.Def.{Def}
 use Rattle.cmd_table.specs.Table.{Table, IsInOrder, command_of, with_command, without_command}
 use Rattle.cmd_table.specs.declared.command.Cmd.TheVariants as commands
-use Rattle.cmd_table.specs.Commands.{built, Commands}
+use Rattle.cmd_table.specs.Commands.{built_ins, built, Commands}
 
 -- a command that is put is found under its name, and any other name has what it had
 abbrev pub PuttingSetsOneName : Type 0
@@ -18,8 +18,8 @@ RemovingDropsOneName = (table : Table) (name other : List ℕ) → IsInOrder tab
 
 -- whatever is defined, the names stand in their order, each once
 abbrev pub CommandsAreInOrder : Type 0
-CommandsAreInOrder = (names natives : List (List ℕ)) (defs : List Def) → IsInOrder (Commands names natives defs)
+CommandsAreInOrder = (natives : List (List ℕ)) (defs : List Def) → IsInOrder (Commands natives defs)
 
 -- each built-in name has its built-in, those of the natives too, and no other name has a command
 abbrev pub BuiltInsAreThere : Type 0
-BuiltInsAreThere = (names natives : List (List ℕ)) (name : List ℕ) → command_of (built names natives) name ≡ (if has_name (names ++ natives) name then Some (commands.Built name) else None)
+BuiltInsAreThere = (natives : List (List ℕ)) (name : List ℕ) → command_of (built natives) name ≡ (if has_name (built_ins ++ natives) name then Some (commands.Built name) else None)

@@ -1,11 +1,11 @@
 //! The command table of an interpreter.
 
-ghost use Rattle.std.specs.Prelude.{◌≡◌, ◌≤◌, ◌+◌, IfOk, OnOk, OnErr, None, length};
+ghost use Rattle.std.specs.Prelude.{◌≡◌, ◌≤◌, ◌+◌, IfOk, OnOk, OnErr, None, length, map};
 ghost use Rattle.std.specs.Option.{option_copied};
 ghost use Rattle.cmd_table.specs.Table.{command_of, with_command, without_command, names_of, IsInOrder};
 ghost use Rattle.cmd_table.specs.Renaming.{rename_answer, renamed, renaming_steps};
 ghost use Rattle.cmd_table.specs.Slots.{with_option};
-ghost use Rattle.cmd_table.specs.Commands.{built, with_built, defined, Applies, writes};
+ghost use Rattle.cmd_table.specs.Commands.{built_ins, built, with_built, defined, Applies, writes};
 ghost use Rattle.natives.specs.Names.{names_of as native_names};
 
 use crate::command::Cmd;
@@ -19,6 +19,43 @@ use std::collections::BTreeMap;
 use std::marker::Model;
 use std::sync::ledger::Ledger;
 use txt_core::{NoMemory, Text, Words};
+
+/// The names of the built-ins that are no natives.
+const BUILT_INS: [&str; 33] = [
+    "set",
+    "unset",
+    "incr",
+    "append",
+    "lappend",
+    "global",
+    "array",
+    "info",
+    "proc",
+    "rename",
+    "if",
+    "while",
+    "for",
+    "foreach",
+    "switch",
+    "catch",
+    "eval",
+    "expr",
+    "return",
+    "break",
+    "continue",
+    "error",
+    "ns_return",
+    "ns_register_proc",
+    "nsv_set",
+    "nsv_get",
+    "nsv_exists",
+    "nsv_incr",
+    "nsv_append",
+    "nsv_lappend",
+    "nsv_unset",
+    "nsv_names",
+    "nsv_array",
+];
 
 /// Commands by their names: a finite map. Contracts see it as the names with their commands, in the
 /// order of the names.
@@ -47,33 +84,44 @@ impl CmdTable {
     /// steps were then counted than there are names.
     pub fn new<L: Ledger>(
         alloc: Global,
-        names: &Words,
         natives: &Natives,
         steps: &mut Steps<L>,
     ) -> Result<CmdTable, NoMemory>
-        ensures table { IfOk result (λ made. made.table ≡ built names.now (native_names natives.now)) }
-        ensures steps { OnOk result (steps.new ≡ steps.old + (length names.now + length (native_names natives.now))) }
+        ensures table { IfOk result (λ made. made.table ≡ built (native_names natives.now)) }
+        ensures steps { OnOk result (steps.new ≡ steps.old + (length built_ins + length (native_names natives.now))) }
         ensures least { steps.old ≤ steps.new }
-        ensures most { steps.new ≤ steps.old + (length names.now + length (native_names natives.now)) }
+        ensures most { steps.new ≤ steps.old + (length built_ins + length (native_names natives.now)) }
     {
         let mut table = CmdTable {
             alloc,
             slots: BTreeMap::new(alloc),
         };
-        table.put_names(names, steps)?;
+        table.put_built_ins(steps)?;
         table.put_natives(natives, steps)?;
         Ok(table)
     }
 
+    /// Gives the name of each built-in that is no native its built-in.
+    #[tactic(auto, unfolding(crate::specs::Commands::built_ins))]
+    fn put_built_ins<L: Ledger>(&mut self, steps: &mut Steps<L>) -> Result<(), NoMemory>
+        ensures table { OnOk result (self.new.table ≡ with_built self.old.table built_ins) }
+        ensures steps { OnOk result (steps.new ≡ steps.old + length built_ins) }
+        ensures least { steps.old ≤ steps.new }
+        ensures most { steps.new ≤ steps.old + length built_ins }
+    {
+        let names: [&str; 33] = BUILT_INS;
+        self.put_names(names.as_slice(), steps)
+    }
+
     /// Gives each of these names its built-in.
-    fn put_names<L: Ledger>(&mut self, names: &Words, steps: &mut Steps<L>) -> Result<(), NoMemory>
-        ensures table { OnOk result (self.new.table ≡ with_built self.old.table names.now) }
+    fn put_names<L: Ledger>(&mut self, names: &[&str], steps: &mut Steps<L>) -> Result<(), NoMemory>
+        ensures table { OnOk result (self.new.table ≡ with_built self.old.table (map (λ name. name.now) names.now)) }
         ensures steps { OnOk result (steps.new ≡ steps.old + length names.now) }
         ensures least { steps.old ≤ steps.new }
         ensures most { steps.new ≤ steps.old + length names.now }
     {
-        for name in names.as_slice() {
-            self.put_built(name, steps)?;
+        for name in names {
+            self.put_built(name.as_bytes(), steps)?;
         }
         Ok(())
     }
@@ -91,20 +139,20 @@ impl CmdTable {
     {
         for at in 0..natives.len() {
             if let Some(native) = natives.get(at) {
-                self.put_built(native.name(), steps)?;
+                self.put_built(native.name().bytes(), steps)?;
             }
         }
         Ok(())
     }
 
     /// Gives a name its built-in.
-    fn put_built<L: Ledger>(&mut self, name: &Text, steps: &mut Steps<L>) -> Result<(), NoMemory>
+    fn put_built<L: Ledger>(&mut self, name: &[u8], steps: &mut Steps<L>) -> Result<(), NoMemory>
         ensures table { OnOk result (self.new.table ≡ with_command self.old.table name.now (Cmd.Built name.now)) }
         ensures steps { OnOk result (steps.new ≡ steps.old + 1) }
         ensures err { OnErr result ((self.new ≡ self.old) × (steps.new ≡ steps.old)) }
     {
-        let built = Cmd::Built(Text::new(self.alloc, name.bytes())?);
-        self.put(Text::new(self.alloc, name.bytes())?, built, steps)
+        let built = Cmd::Built(Text::new(self.alloc, name)?);
+        self.put(Text::new(self.alloc, name)?, built, steps)
     }
 
     /// The command of a name; `None` exactly where the table hasn't the name.

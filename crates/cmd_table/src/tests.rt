@@ -28,19 +28,18 @@ fn add(natives: &mut Natives, native: Native) -> Result<(), NoMemory>
     }
 }
 
-/// A table of the built-ins `b` and `a`, and of these natives.
+/// A table of the built-ins, of these natives, and of `b` and `a` as further built-ins.
 fn example<L: Ledger>(
     alloc: Global,
     natives: &Natives,
     steps: &mut Steps<L>,
 ) -> Result<CmdTable, NoMemory> {
-    let mut names = Words::new(alloc);
+    let mut table = CmdTable::new(alloc, natives, steps)?;
     for name in [b"b", b"a"] {
-        if names.push(Text::new(alloc, name)?).is_err() {
-            return Err(NoMemory);
-        }
+        let built = Cmd::Built(Text::new(alloc, name)?);
+        table.put(Text::new(alloc, name)?, built, steps)?;
     }
-    CmdTable::new(alloc, &names, natives, steps)
+    Ok(table)
 }
 
 /// Defines a procedure `c` of this body.
@@ -58,18 +57,40 @@ fn define<L: Ledger>(
     table.apply(&def, steps)
 }
 
-/// Puts the names at the end of a text, each with what it stands for: a built-in with its own name,
-/// a procedure with its body.
-fn show(table: &CmdTable, all: &mut Text) -> Result<(), NoMemory> {
+/// Puts a name at the end of a text with what it stands for: a built-in with its own name, a
+/// procedure with its body.
+fn show_command(table: &CmdTable, name: &Text, all: &mut Text) -> Result<(), NoMemory> {
+    all.append(name.bytes())?;
+    match table.get(name) {
+        Some(Cmd::Built(text) | Cmd::Proc { body: text, .. }) => all.append(text.bytes())?,
+        None => all.append(b"nothing")?,
+    }
+    all.append(b" ")
+}
+
+/// Puts the names of one byte and those of natives at the end of a text, with what they stand for.
+fn show(table: &CmdTable, natives: &Natives, all: &mut Text) -> Result<(), NoMemory> {
     for name in table.names()?.as_slice() {
-        all.append(name.bytes())?;
-        match table.get(name) {
-            Some(Cmd::Built(text) | Cmd::Proc { body: text, .. }) => all.append(text.bytes())?,
-            None => all.append(b"nothing")?,
+        if name.len() == 1 || natives.find(name).is_some() {
+            show_command(table, name, all)?;
         }
-        all.append(b" ")?;
     }
     Ok(())
+}
+
+/// The names of a new table without natives, with what they stand for.
+fn new_listing<L: Ledger>(alloc: Global, blank: Blank) -> Result<Text, NoMemory>
+    requires name { blank.name ≡ L.name }
+    requires parts { blank.parts ≡ L.parts }
+    requires some { 0 < blank.parts }
+{
+    let mut steps = Steps::<L>::new(blank);
+    let table = CmdTable::new(alloc, &Natives::new(alloc), &mut steps)?;
+    let mut all = Text::empty(alloc);
+    for name in table.names()?.as_slice() {
+        show_command(&table, name, &mut all)?;
+    }
+    Ok(all)
 }
 
 /// Renames a command, and puts what is answered at the end of a text.
@@ -91,7 +112,7 @@ fn rename<L: Ledger>(
 }
 
 /// Renames on the table of `example` with a procedure `c`, one after the other: what each answers,
-/// and the names after it with what they stand for.
+/// and what is shown of the table after it.
 fn listing<L: Ledger>(
     alloc: Global,
     blank: Blank,
@@ -108,12 +129,61 @@ fn listing<L: Ledger>(
     table.put(Text::new(alloc, b"c")?, first, &mut steps)?;
     define(alloc, &mut table, "2", &mut steps)?;
     let mut all = Text::empty(alloc);
-    show(&table, &mut all)?;
+    show(&table, natives, &mut all)?;
     for (old, new) in renames {
         rename(alloc, &mut table, old, new, &mut steps, &mut all)?;
-        show(&table, &mut all)?;
+        show(&table, natives, &mut all)?;
     }
     Ok(all)
+}
+
+#[test]
+fn built_ins_stand_for_themselves(rt: HostRuntime) -> Result<(), Fail> {
+    let alloc = rt.alloc();
+    let came = new_listing::<Brand>(alloc, Blank::new(1))?;
+    let want = [
+        "append",
+        "array",
+        "break",
+        "catch",
+        "continue",
+        "error",
+        "eval",
+        "expr",
+        "for",
+        "foreach",
+        "global",
+        "if",
+        "incr",
+        "info",
+        "lappend",
+        "ns_register_proc",
+        "ns_return",
+        "nsv_append",
+        "nsv_array",
+        "nsv_exists",
+        "nsv_get",
+        "nsv_incr",
+        "nsv_lappend",
+        "nsv_names",
+        "nsv_set",
+        "nsv_unset",
+        "proc",
+        "rename",
+        "return",
+        "set",
+        "switch",
+        "unset",
+        "while",
+    ];
+    let mut all = Text::empty(alloc);
+    for name in want {
+        all.append(name.as_bytes())?;
+        all.append(name.as_bytes())?;
+        all.append(b" ")?;
+    }
+    assert_eq!(rt; came.bytes(), all.bytes());
+    Ok(())
 }
 
 #[test]

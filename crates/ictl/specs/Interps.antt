@@ -13,7 +13,7 @@ use Rattle.ictl.specs.Leaf.{host_table}
 use Rattle.ictl.specs.Settle.{settle}
 use Rattle.ictl.specs.Sharing.{buckets}
 use Rattle.ictl.specs.Defines.{define_end, publishing}
-use Rattle.ictl.specs.Main.{Blueprint, built_ins, Progress, asks, writes, ends, main_end}
+use Rattle.ictl.specs.Main.{Blueprint, Progress, asks, writes, ends, main_end}
 use Rattle.ictl.specs.declared.ending.Ending.{Ending}
 use Rattle.ictl.specs.declared.ending.Ending.TheVariants.{Answered}
 use Rattle.ictl.specs.declared.interp.Interp.{Interp}
@@ -85,7 +85,7 @@ ending_of interp = stage_ending interp.stage
 
 -- It is as newly made: nothing was started, and its state is the fresh one on natives of these names and its blueprint.
 abbrev pub IsNewStage : List (List ℕ) → Stage → Blueprint → Type 0
-IsNewStage natives (New table frames) blueprint = (table.table ≡ Commands built_ins natives blueprint.definitions) × (frames ≡ fresh_frames)
+IsNewStage natives (New table frames) blueprint = (table.table ≡ Commands natives blueprint.definitions) × (frames ≡ fresh_frames)
 IsNewStage natives (Serving engine) blueprint = ⊥
 IsNewStage natives (Defining engine) blueprint = ⊥
 IsNewStage natives (Publishing engine value) blueprint = ⊥

@@ -25,20 +25,11 @@ pub record Blueprint : Type 0 where
   pub epoch : ℕ
   pub definitions : List Def
 
--- the names of the built-ins that are no natives
-abbrev pub built_ins : List (List ℕ)
-built_ins =
-    codes "set" ∷ codes "unset" ∷ codes "incr" ∷ codes "append" ∷ codes "lappend" ∷ codes "global" ∷ codes "array" ∷ codes "info"
-    ∷ codes "proc" ∷ codes "rename" ∷ codes "if" ∷ codes "while" ∷ codes "for" ∷ codes "foreach" ∷ codes "switch" ∷ codes "catch"
-    ∷ codes "eval" ∷ codes "expr" ∷ codes "return" ∷ codes "break" ∷ codes "continue" ∷ codes "error"
-    ∷ codes "ns_return" ∷ codes "ns_register_proc" ∷ codes "nsv_set" ∷ codes "nsv_get" ∷ codes "nsv_exists" ∷ codes "nsv_incr"
-    ∷ codes "nsv_append" ∷ codes "nsv_lappend" ∷ codes "nsv_unset" ∷ codes "nsv_names" ∷ codes "nsv_array" ∷ []
-
 -- The state on natives of these names and a blueprint, with such a host: its commands, an empty global frame, and nothing that
 -- was made.
 abbrev pub fresh : List (List ℕ) → Blueprint → HostState → State HostState
 fresh natives blueprint host = record {
-  commands = Commands built_ins natives blueprint.definitions;
+  commands = Commands natives blueprint.definitions;
   frames = fresh_frames;
   host = host;
   made = [];

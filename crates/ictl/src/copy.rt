@@ -1,6 +1,6 @@
 //! Copies of words and of definitions.
 
-ghost use Rattle.std.specs.Prelude.{◌≡◌, ◌++◌, ◌∷◌, [], IfOk, OnOk, map};
+ghost use Rattle.std.specs.Prelude.{◌≡◌, ◌++◌, ◌∷◌, [], IfOk, OnOk};
 
 use cmd_table::{Def, Defs};
 use std::alloc::Global;
@@ -21,17 +21,6 @@ pub fn push<T: Drop>(list: &mut Sequence<T>, item: T) -> Result<(), NoMemory>
         Ok(()) => Ok(()),
         Err(_item) => Err(NoMemory),
     }
-}
-
-/// The list of these words.
-pub fn words_of(alloc: Global, texts: &[&str]) -> Result<Words, NoMemory>
-    ensures { IfOk result (λ words. words ≡ map (λ text. text.now) texts.now) }
-{
-    let mut words = Sequence::new(alloc);
-    'texts: for text in texts {
-        push(&mut words, Text::new(alloc, text.as_bytes())?)?;
-    }
-    Ok(words)
 }
 
 /// Puts copies of texts at the end of a list.

@@ -10,11 +10,11 @@ ghost use Rattle.natives.specs.Names.{names_of};
 ghost use Rattle.ictl.specs.Leaf.{host_table};
 ghost use Rattle.ictl.specs.Routes.{route};
 ghost use Rattle.ictl.specs.Settle.{settle};
-ghost use Rattle.ictl.specs.Main.{Blueprint, built_ins, run_budget, first_depth, Main, main_by, main_end, behind, both, answered};
+ghost use Rattle.ictl.specs.Main.{Blueprint, run_budget, first_depth, Main, main_by, main_end, behind, both, answered};
 ghost use Rattle.ictl.specs.Defines.{Define};
 ghost use Rattle.ictl.specs.Interps.{blueprint_of, state_of, stage_questions, engine_questions, stage_state, stage_ending, ending_of, IsNewStage, IsWritingStage, stage_gives, run_gives, gives, IsNew, IsAskingStage, IsAsking, IsWriting, StandsAt, StageStandsAt, Stands, GoesOn, StandsOn, UnlessNoMemory, Falls, questions_left, AsksWhere};
 
-use crate::copy::{copy_defs, copy_text, copy_words, words_of};
+use crate::copy::{copy_defs, copy_text, copy_words};
 use crate::defining;
 use crate::ending::Ending;
 use crate::host::RunHost;
@@ -32,43 +32,6 @@ use std::sync::ledger::Ledger;
 use tcl_eval::{Engine, Outcome, Work};
 use tcl_frame::Frames;
 use txt_core::{NoMemory, Text, Words};
-
-/// The names of the built-ins that are no natives.
-const BUILT_INS: [&str; 33] = [
-    "set",
-    "unset",
-    "incr",
-    "append",
-    "lappend",
-    "global",
-    "array",
-    "info",
-    "proc",
-    "rename",
-    "if",
-    "while",
-    "for",
-    "foreach",
-    "switch",
-    "catch",
-    "eval",
-    "expr",
-    "return",
-    "break",
-    "continue",
-    "error",
-    "ns_return",
-    "ns_register_proc",
-    "nsv_set",
-    "nsv_get",
-    "nsv_exists",
-    "nsv_incr",
-    "nsv_append",
-    "nsv_lappend",
-    "nsv_unset",
-    "nsv_names",
-    "nsv_array",
-];
 
 /// What a request may spend up to its response, and a definition run in all.
 pub const RUN_BUDGET: u64 = 200_000;
@@ -119,14 +82,6 @@ pub struct Interp {
     stage: Stage,
 }
 
-/// The built-in names.
-fn built_ins(alloc: Global) -> Result<Words, NoMemory>
-    ensures { IfOk result (λ names. names ≡ built_ins) }
-{
-    let names: [&str; 33] = BUILT_INS;
-    words_of(alloc, names.as_slice())
-}
-
 /// The commands that definitions make of the built-in names. A definition that doesn't apply changes
 /// nothing. Its only error is want of memory.
 pub fn commands<L: Ledger>(
@@ -135,9 +90,9 @@ pub fn commands<L: Ledger>(
     defs: &Defs,
     steps: &mut Steps<L>,
 ) -> Result<CmdTable, NoMemory>
-    ensures { IfOk result (λ table. table.table ≡ Commands built_ins (names_of natives.now) defs.now) }
+    ensures { IfOk result (λ table. table.table ≡ Commands (names_of natives.now) defs.now) }
 {
-    let mut table = CmdTable::new(alloc, &built_ins(alloc)?, natives, steps)?;
+    let mut table = CmdTable::new(alloc, natives, steps)?;
     for def in defs.as_slice() {
         make(&mut table, alloc, def, steps)?;
     }
@@ -295,7 +250,7 @@ fn outcome_of(alloc: Global, ending: Ending) -> Outcome
 /// The commands and the variables with which a run begins.
 fn opened(stage: Stage) -> (CmdTable, Frames)
     requires { (natives : List (List ℕ)) × (blueprint : Blueprint) × IsNewStage natives stage blueprint }
-    ensures { (natives : List (List ℕ)) (blueprint : Blueprint) → IsNewStage natives stage blueprint → (result.0.table ≡ Commands built_ins natives blueprint.definitions) × (result.1 ≡ fresh_frames) }
+    ensures { (natives : List (List ℕ)) (blueprint : Blueprint) → IsNewStage natives stage blueprint → (result.0.table ≡ Commands natives blueprint.definitions) × (result.1 ≡ fresh_frames) }
 {
     match stage {
         Stage::New { table, frames } => (table, frames),

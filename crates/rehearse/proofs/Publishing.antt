@@ -8,7 +8,7 @@ use Rattle.outside.specs.declared.question.Answer.{Answer}
 use Rattle.cmd_table.specs.Commands.{defined, Commands}
 use Rattle.cmd_table.specs.Table.{Table}
 use Rattle.txt_core.specs.Quoting.{quoting}
-use Rattle.ictl.specs.Main.{Blueprint, built_ins}
+use Rattle.ictl.specs.Main.{Blueprint}
 use Rattle.ictl.specs.Scripts.{command_words, script_of}
 use Rattle.rehearse.specs.Publishing.{Publication, fits, misfit, misfit_from, first_misfit, is_full, by_misfit, publication, publication_answer}
 
@@ -109,10 +109,10 @@ has_room blueprint epoch definitions made size extra script test seen is room si
 
 -- a definition doesn't apply
 pub refused : {E : Type 0} (natives : List (List ℕ)) (blueprint : Blueprint) (epoch : ℕ) (definitions made : List Def) (found : Option ℕ) (place : ℕ) (result : Result Answer E) → record { epoch = epoch; definitions = definitions } ≡ blueprint
-    → found ≡ first_misfit (Commands built_ins natives definitions) made → found ≡ Some place
+    → found ≡ first_misfit (Commands natives definitions) made → found ≡ Some place
     → ((epoch : ℕ) → IfOk result (λ answer. answer ≡ publication_answer (misfit place) epoch))
     → IfOk result (λ answer. answer ≡ publication_answer (publication natives blueprint made) blueprint.epoch)
 refused natives blueprint epoch definitions made found place result seen is at_place told =
-    let first : Some place ≡ first_misfit (Commands built_ins natives blueprint.definitions) made = sym at_place ∙ is ∙ ap (λ (b : Blueprint). first_misfit (Commands built_ins natives b.definitions) made) seen in
+    let first : Some place ≡ first_misfit (Commands natives blueprint.definitions) made = sym at_place ∙ is ∙ ap (λ (b : Blueprint). first_misfit (Commands natives b.definitions) made) seen in
     let e : misfit place ≡ publication natives blueprint made = ap (λ (o : Option ℕ). by_misfit o (is_full blueprint.epoch (blueprint.definitions ++ made))) first in
     subst (λ (p : Publication). IfOk result (λ answer. answer ≡ publication_answer p blueprint.epoch)) e (told blueprint.epoch)

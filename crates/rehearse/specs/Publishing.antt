@@ -9,7 +9,7 @@ use Rattle.cmd_table.specs.declared.renaming.Renamed.TheVariants.{Done, NoOld, N
 use Rattle.cmd_table.specs.Table.{Table}
 use Rattle.cmd_table.specs.Renaming.{rename_answer}
 use Rattle.cmd_table.specs.Commands.{defined, Commands}
-use Rattle.ictl.specs.Main.{Blueprint, built_ins}
+use Rattle.ictl.specs.Main.{Blueprint}
 use Rattle.ictl.specs.Scripts.{script_of}
 
 -- ---- whether a definition applies
@@ -79,7 +79,7 @@ by_misfit None too_much = by_room too_much
 -- those before it goes before all limits.
 abbrev pub publication : List (List ℕ) → Blueprint → List Def → Publication
 publication natives blueprint made =
-    by_misfit (first_misfit (Commands built_ins natives blueprint.definitions) made) (is_full blueprint.epoch (blueprint.definitions ++ made))
+    by_misfit (first_misfit (Commands natives blueprint.definitions) made) (is_full blueprint.epoch (blueprint.definitions ++ made))
 
 -- what is answered: the new epoch, or the reason of the refusal
 abbrev pub publication_answer : Publication → ℕ → Answer

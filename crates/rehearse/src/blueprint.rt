@@ -2,7 +2,6 @@
 
 ghost use Rattle.std.specs.Prelude.{◌≡◌, ◌++◌, [], ℕ, length, IfOk, IsTrue};
 ghost use Rattle.cmd_table.specs.Commands.{defined, Commands};
-ghost use Rattle.ictl.specs.Main.{built_ins};
 ghost use Rattle.ictl.specs.Scripts.{script_of};
 ghost use Rattle.natives.specs.Names.{names_of};
 ghost use Rattle.rehearse.specs.Publishing.{fits, first_misfit, is_full, publish, publication_answer, misfit};
@@ -79,7 +78,7 @@ fn find_misfit<L: Ledger>(
     made: &Defs,
     steps: &mut Steps<L>,
 ) -> Result<Option<usize>, NoMemory>
-    ensures { IfOk result (λ place. place ≡ first_misfit (Commands built_ins (names_of natives.now) published.now) made.now) }
+    ensures { IfOk result (λ place. place ≡ first_misfit (Commands (names_of natives.now) published.now) made.now) }
 {
     let mut table = commands(alloc, natives, published, steps)?;
     for (place, definition) in made.as_slice().iter().enumerate() {

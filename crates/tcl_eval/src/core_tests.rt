@@ -3,12 +3,12 @@ ghost use Rattle.natives.specs.Answers.{Answers};
 ghost use Rattle.natives.specs.Names.{name_of, names_of, has_name};
 ghost use Rattle.natives.specs.Pure.{pure_of};
 ghost use Rattle.natives.specs.Ranges.{InRange};
-ghost use Rattle.tcl_eval.specs.Engine.{IsIdle, Leaves};
+ghost use Rattle.tcl_eval.specs.Engine.{Leaves};
 
 use super::*;
-use crate::tests::{Echo, show};
-use crate::words::{push_word, word_at};
-use cmd_table::{CmdTable, Steps};
+use crate::tests::{Echo, engine, show};
+use crate::words::word_at;
+use cmd_table::Steps;
 use natives::{Fault, Native, Natives};
 use outside::Answer;
 use std::alloc::Global;
@@ -16,7 +16,6 @@ use std::marker::Brand;
 use std::process::Abort;
 use std::sync::ledger::{Blank, Ledger};
 use std::test::Fail;
-use tcl_frame::Frames;
 use txt_core::{NoMemory, Text, Words};
 
 /// `list` of no word; it gives up on others.
@@ -53,32 +52,6 @@ fn add(natives: &mut Natives, native: Native) -> Result<(), NoMemory>
         Ok(()) => Ok(()),
         Err(_) => Err(NoMemory),
     }
-}
-
-const NAMES: [&str; 25] = [
-    "proc", "return", "error", "break", "continue", "ask", "keep", "note", "rename", "eval",
-    "catch", "set", "unset", "incr", "append", "lappend", "global", "array", "expr", "if", "while",
-    "for", "foreach", "switch", "info",
-];
-
-/// An engine with all built-ins and these natives, where `wrong` is what `error` was.
-fn engine<L: Ledger>(
-    alloc: Global,
-    natives: &Natives,
-    steps: &mut Steps<L>,
-) -> Result<Engine<Echo>, NoMemory>
-    ensures { IfOk result (λ made. IsIdle made) }
-{
-    let mut names = Words::new(alloc);
-    for name in NAMES {
-        push_word(&mut names, Text::new(alloc, name.as_bytes())?)?;
-    }
-    let mut table = CmdTable::new(alloc, &names, natives, steps)?;
-    let old = Text::new(alloc, b"error")?;
-    let new = Text::new(alloc, b"wrong")?;
-    table.rename(&old, &new, steps)?;
-    let frames = Frames::new(alloc)?;
-    Ok(Engine::new(alloc, table, frames, Echo { alloc }))
 }
 
 /// Answers the question at which a run stands, if it does.

@@ -9,7 +9,7 @@ ghost use Rattle.outside.specs.declared.question.Service.{Service};
 
 use super::*;
 use crate::words::{copy_word, push_all, push_word, word_at};
-use cmd_table::{CmdTable, Def, Steps};
+use cmd_table::{Cmd, CmdTable, Def, Steps};
 use natives::Natives;
 use outside::{Answer, Question, Service};
 use std::alloc::Global;
@@ -114,21 +114,23 @@ impl Host for Echo {
     }
 }
 
-const NAMES: [&str; 18] = [
-    "proc", "return", "error", "break", "continue", "ask", "keep", "note", "rename", "eval",
-    "catch", "set", "unset", "incr", "append", "lappend", "global", "array",
-];
+/// The commands of the host.
+const ECHOES: [&str; 3] = ["ask", "keep", "note"];
 
-/// An engine with the built-ins and the host's commands, where `error` has the name `wrong`.
-fn engine<L: Ledger>(alloc: Global, steps: &mut Steps<L>) -> Result<Engine<Echo>, NoMemory>
+/// An engine with the built-ins, these natives and the host's commands, where `error` has the name
+/// `wrong`.
+pub(crate) fn engine<L: Ledger>(
+    alloc: Global,
+    natives: &Natives,
+    steps: &mut Steps<L>,
+) -> Result<Engine<Echo>, NoMemory>
     ensures { IfOk result (λ made. IsIdle made) }
 {
-    let mut names = Words::new(alloc);
-    for name in NAMES {
-        push_word(&mut names, Text::new(alloc, name.as_bytes())?)?;
+    let mut table = CmdTable::new(alloc, natives, steps)?;
+    for name in ECHOES {
+        let built = Cmd::Built(Text::new(alloc, name.as_bytes())?);
+        table.put(Text::new(alloc, name.as_bytes())?, built, steps)?;
     }
-    let natives = Natives::new(alloc);
-    let mut table = CmdTable::new(alloc, &names, &natives, steps)?;
     let old = Text::new(alloc, b"error")?;
     let new = Text::new(alloc, b"wrong")?;
     table.rename(&old, &new, steps)?;
@@ -229,9 +231,9 @@ fn played<L: Ledger>(
     steps: &mut Steps<L>,
 ) -> Result<Text, NoMemory> {
     let mut all = Text::empty(alloc);
-    let mut engine = engine(alloc, steps)?;
-    let work = Work::Script(Text::new(alloc, script)?);
     let natives = Natives::new(alloc);
+    let mut engine = engine(alloc, &natives, steps)?;
+    let work = Work::Script(Text::new(alloc, script)?);
     let outcome = engine.start(&natives, work, budget, depth.clamp(1, 200), steps);
     answer_all(&mut engine, outcome, answers, steps, &mut all)?;
     Ok(all)
@@ -497,7 +499,7 @@ fn engine_with_procedure<L: Ledger>(
 ) -> Result<Engine<Echo>, NoMemory>
     ensures { IfOk result (λ made. IsIdle made) }
 {
-    let mut engine = engine(alloc, steps)?;
+    let mut engine = engine(alloc, &Natives::new(alloc), steps)?;
     let def = procedure(alloc, "f", "v", "note $v; proc g {} {}; ask")?;
     engine.define(&def, steps)?;
     Ok(engine)

@@ -13,8 +13,8 @@ loop-at-preserved g c =
     let within : i < length names = subst (λ (n : ℕ). i < n) before.0 c.loop-at-test.true in
     elim c.match-get.branch [
       | in-Some+in_ok-put_built w ↦
-          let named : Some w.name.result.now ≡ slice_get names i = ap (λ (n : List ℕ). Some n) w.name.ensures ∙ w.in-Some.ensures in
-          let more = one_more c.args.self.now.table c.loop-at.self.table w.put_built.new.self.table names i w.name.result.now before.2 named w.in_ok-put_built.ensures.table in
+          let named : Some w.bytes.result.now ≡ slice_get names i = ap (λ (n : List ℕ). Some n) (w.bytes.ensures ∙ w.name.ensures) ∙ w.in-Some.ensures in
+          let more = one_more c.args.self.now.table c.loop-at.self.table w.put_built.new.self.table names i w.bytes.result.now before.2 named w.in_ok-put_built.ensures.table in
           (before.0, omega arith, rw (w.self-is) more, rw (w.steps-is, w.in_ok-put_built.ensures.steps) (omega arith))
       | in_default w ↦ absurd (is_there names i within w.in_default.ensures)
     ]
