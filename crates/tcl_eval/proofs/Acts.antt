@@ -111,12 +111,12 @@ module _ {H : Type 0} (ns : Names) (t : LeafTable H) where
       ∙ sym (ap (λ (c : Bool). cond c (spent (state_of old)) (act ns t inner words (command_end (stack_next ns t old.stack.items)) (state_of old) (old.budget - command_cost words) g)) (le-ltb old.budget (command_cost words) less))
 
   -- an answer is paid for, and then the host goes on
-  pub answered_step : (old paid : Engine H) (now : OpenQuestion) (cost : ℕ) (answer : Answer) (h : H) (question : Question) (g : Given) (x : Out H) → cost ≡ answer_cost answer → cost ≤ old.budget → paid ≡ record old { budget = old.budget - cost } → paid.question ≡ Some now → x ≡ leaf t now.levels now.words (t.answers now.words answer paid.host) (stack_next ns t paid.stack.items) (with_host (state_of paid) h) paid.budget g → x ≡ comes_to ns t (Asks question) old ((answer, 0) ∷ g)
-  answered_step old paid now cost answer h question g x costs enough is opened e =
+  pub answered_step : (old paid : Engine H) (left : Option OpenQuestion) (now : OpenQuestion) (cost : ℕ) (answer : Answer) (h : H) (question : Question) (g : Given) (x : Out H) → cost ≡ answer_cost answer → cost ≤ old.budget → paid ≡ record old { question = left; budget = old.budget - cost } → old.question ≡ Some now → x ≡ leaf t now.levels now.words (t.answers now.words answer paid.host) (stack_next ns t paid.stack.items) (with_host (state_of paid) h) paid.budget g → x ≡ comes_to ns t (Asks question) old ((answer, 0) ∷ g)
+  answered_step old paid left now cost answer h question g x costs enough is opened e =
       let k = stack_next ns t old.stack.items in
       let all : cost ≡ 0 + answer_cost answer = omega (arith, costs) in
       let less : 0 + answer_cost answer ≤ old.budget = omega (arith, costs, enough) in
-      let same : Some now ≡ old.question = sym opened ∙ ap (λ (p : Engine H). p.question) is in
+      let same : Some now ≡ old.question = sym opened in
       e ∙ leaf_host now.levels now.words (t.answers now.words answer paid.host) (stack_next ns t paid.stack.items) (state_of paid) h paid.budget g
       ∙ ap (λ (p : Engine H). leaf t now.levels now.words (t.answers now.words answer p.host) (stack_next ns t p.stack.items) (state_of p) p.budget g) is
       ∙ ap (λ (o : Option OpenQuestion). leaf t (levels_of o) (words_of o) (t.answers (words_of o) answer old.host) k (state_of old) (old.budget - cost) g) same

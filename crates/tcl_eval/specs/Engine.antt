@@ -121,12 +121,13 @@ module _ {H : Type 0} where
   abbrev pub with_more : Engine H → ℕ → Engine H
   with_more engine more = record engine { budget = engine.budget + more }
 
-  -- What an outcome leaves: after an end nothing is suspended, and at a question this question is open.
+  -- What an outcome leaves: after a good end nothing is suspended, at a question this question is open, and where the run was cut
+  -- off no question is open.
   abbrev pub Leaves : Outcome → Engine H → Type 0
   Leaves (Done code result) engine = IsIdle engine
   Leaves (Asks question) engine = IsOpenTo question.service engine.question
-  Leaves Spent engine = Unit {0}
-  Leaves TooDeep engine = Unit {0}
+  Leaves Spent engine = engine.question ≡ None
+  Leaves TooDeep engine = engine.question ≡ None
   Leaves NoMemory engine = Unit {0}
 
   -- the budget didn't rise, nor did the number of texts that may be run for nothing, and the same question is open, or none
@@ -183,8 +184,8 @@ module _ {H : Type 0} where
   abbrev pub Begins : Acted → Engine H → Type 0
   Begins (acted.Gives value) engine = engine.question ≡ None
   Begins (acted.Asks question) engine = IsOpenTo question.service engine.question
-  Begins acted.TooDeep engine = Unit {0}
-  Begins acted.Spent engine = Unit {0}
+  Begins acted.TooDeep engine = engine.question ≡ None
+  Begins acted.Spent engine = engine.question ≡ None
 
   -- the budget fell, where a question is asked
   abbrev pub FellTo : Outcome → Engine H → Engine H → Type 0

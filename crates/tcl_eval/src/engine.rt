@@ -66,8 +66,8 @@ impl<H: Host> Engine<H> {
     /// to 200, and what it runs stands deeper. Nothing may be suspended.
     ///
     /// The run ends, or it stands at a question, or memory wanted; then the engine is in any state,
-    /// and `abandon` is allowed. After `Spent` and `TooDeep` too, `abandon` comes before the next
-    /// start.
+    /// and `abandon` is allowed. After `Spent` and `TooDeep` no question is open, and `abandon` comes
+    /// before the next start.
     pub fn start<L: Ledger>(
         &mut self,
         natives: &Natives,
@@ -91,7 +91,10 @@ impl<H: Host> Engine<H> {
         }
     }
 
-    /// Goes on with the answer to the question that is open. A run that has ended isn't gone on with.
+    /// Goes on with the answer to the question that is open, which is answered once, whatever comes
+    /// of it. After `Spent`, as where the answer costs more than is left, and after `TooDeep` no
+    /// question is open, and `abandon` comes before the next start. A run that has ended may not be
+    /// resumed.
     pub fn resume<L: Ledger>(
         &mut self,
         natives: &Natives,

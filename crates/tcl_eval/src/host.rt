@@ -11,7 +11,8 @@ use txt_core::{Text, Words};
 /// What a host says of a command.
 #[derive(Debug, Drop)]
 pub enum HostReply {
-    /// It is done, with this code and result.
+    /// It is done, with this code and result: 0 is a good end, 1 an error, 2 a return, 3 a break, 4 a
+    /// continue.
     Done {
         code: u8,
         result: Text,

@@ -96,7 +96,7 @@ impl<H: Host> Engine<H> {
         }
     }
 
-    /// A subcommand of `info` but `exists`.
+    /// A subcommand of `info`; `info exists` is done by `var_command`.
     fn info_part(&self, words: &Words) -> Result<Ended, NoMemory>
         ensures { IfOk result (λ value. value ≡ part_said self.now.table.table words.now) }
     {

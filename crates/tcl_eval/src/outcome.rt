@@ -15,7 +15,8 @@ pub enum Work {
 /// What a run comes to.
 #[derive(Debug, Drop)]
 pub enum Outcome {
-    /// It ended with this code and result.
+    /// It ended with this code and result: 0 is a good end, 1 an error, 2 a return, 3 a break, 4 a
+    /// continue.
     Done { code: u8, result: Text },
     /// It stands at this question.
     Asks(Question),

@@ -161,12 +161,12 @@ impl<H: Host> Engine<H> {
         ensures falls { IfOk result (λ outcome. Falls H.table outcome self.new self.old answer) }
         ensures steps { steps.old ≤ steps.new }
     {
+        let Some(open) = self.question.take() else {
+            unreachable!()
+        };
         if !self.pay(answer_cost(&answer)) {
             return Ok(Outcome::Spent);
         }
-        let Some(open) = self.question.take() else {
-            return Ok(Outcome::Spent);
-        };
         let reply = self.host.answered(&open.words, &answer);
         let acted = self.replied(reply, open.words, open.levels)?;
         let outcome = self.run_on(natives, acted, steps)?;

@@ -313,6 +313,8 @@ impl<H: Host> Engine<H> {
         ensures falls { IfOk result (λ step. stack_weight self.new.stack.items + step_weight step ≤ stack_weight self.old.stack.items) }
         ensures keeps { IfOk result (λ step. Stays step self.new self.old) }
     {
+        // The call put a frame there, which nothing else takes away. No fact says so here, and `pop`
+        // wants a frame above the global one.
         if self.frames.depth() > 0 {
             self.frames.pop();
         }

@@ -556,3 +556,36 @@ fn an_engine_is_left_alone(rt: HostRuntime) -> Result<(), Fail> {
     assert_eq!(rt; came.bytes(), want.as_bytes());
     Ok(())
 }
+
+/// Stands at a question whose answer costs more than is left, which ends the run, and runs on after
+/// that.
+fn unpaid<L: Ledger>(alloc: Global, blank: Blank) -> Result<Text, NoMemory>
+    requires name { blank.name ≡ L.name }
+    requires parts { blank.parts ≡ L.parts }
+    requires some { 0 < blank.parts }
+{
+    let mut steps = Steps::<L>::new(blank);
+    let mut all = Text::empty(alloc);
+    let natives = Natives::new(alloc);
+    let mut engine = engine(alloc, &natives, &mut steps)?;
+    let asking = Work::Script(Text::new(alloc, b"keep a 1; ask")?);
+    let outcome = engine.start(&natives, asking, 3, 1, &mut steps);
+    show(&outcome, engine.left(), alloc, &mut all)?;
+    if let Outcome::Asks(_) = outcome {
+        let long = repeated(alloc, "", "sixteen.bytes.xx", "", 128)?;
+        let ended = engine.resume(&natives, Answer::Said(long), &mut steps);
+        show(&ended, engine.left(), alloc, &mut all)?;
+    }
+    engine.abandon();
+    let script = Work::Script(Text::new(alloc, b"return $a")?);
+    run_and_abandon(&mut engine, script, &mut steps, &mut all)?;
+    Ok(all)
+}
+
+#[test]
+fn an_answer_is_not_paid(rt: HostRuntime) -> Result<(), Fail> {
+    let came = unpaid::<Brand>(rt.alloc(), Blank::new(1))?;
+    let want = "asks ask 2 1|spent 1|2 1 99|0|";
+    assert_eq!(rt; came.bytes(), want.as_bytes());
+    Ok(())
+}
