@@ -10,7 +10,7 @@ use Rattle.http_req.specs.declared.request.Request.{Request}
 use Rattle.nsv_bucket.specs.Arrays.{Arrays}
 use Rattle.rehearse.specs.Publishing.{misfit_from, is_full, misfit, full, done, publication_answer}
 use Rattle.rehearse.specs.Defining.{told}
-use Rattle.rehearse.specs.Serving.{is_first_bucket}
+use Rattle.rehearse.specs.Serving.{bucket_asked, is_first}
 use Rattle.cmd_table.specs.Table.{with_command, without_command, command_of}
 use Rattle.cmd_table.specs.Renaming.{rename_answer, renamed}
 use Rattle.rehearse.specs.Events.{Event, workers, clock, define, connect, step, run, file_of, spelled}
@@ -175,11 +175,11 @@ row_done = refl
 
 -- ---- buckets
 
-row_first : is_first_bucket (codes "nsv_names" ∷ codes "0" ∷ []) ≡ true
+row_first : is_first (bucket_asked (codes "nsv_names" ∷ codes "0" ∷ [])) ≡ true
 row_first = refl
 
-row_second : is_first_bucket (codes "nsv_names" ∷ codes "1" ∷ codes "a*" ∷ []) ≡ false
+row_second : is_first (bucket_asked (codes "nsv_names" ∷ codes "1" ∷ codes "a*" ∷ [])) ≡ false
 row_second = refl
 
-row_array : is_first_bucket (codes "nsv_get" ∷ codes "a" ∷ codes "k" ∷ []) ≡ true
+row_array : is_first (bucket_asked (codes "nsv_get" ∷ codes "a" ∷ codes "k" ∷ [])) ≡ true
 row_array = refl

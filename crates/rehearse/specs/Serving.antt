@@ -1,5 +1,5 @@
 -- Where a request under way stands, and who answers its questions.
-use Rattle.std.specs.Prelude.{ℕ, List, [], ◌∷◌, length, Bool, true, false, not, ◌||◌, if◌then◌else◌, nat_lt, bytes_eq, codes}
+use Rattle.std.specs.Prelude.{ℕ, ◌-◌, ◌==◌, List, [], ◌∷◌, length, slice_index, Bool, true, false, if◌then◌else◌, nat_lt, bytes_eq, codes, Option, None, Some}
 use Rattle.std.specs.List.{sum_by}
 use Rattle.std.specs.FinMap as map
 use Rattle.outside.specs.declared.question.Answer.{Answer}
@@ -11,6 +11,8 @@ use Rattle.http_resp.specs.declared.response.Response.{Response}
 use Rattle.nsv_bucket.specs.declared.reply.NsvReply.{NsvReply}
 use Rattle.nsv_bucket.specs.declared.reply.NsvReply.TheVariants.{Said, Failed, NoMemory}
 use Rattle.nsv_bucket.specs.Arrays.{Arrays}
+use Rattle.nsv_bucket.specs.Buckets.{bucket_of}
+use Rattle.nsv_bucket.specs.Questions.{is_bucket_number}
 use Rattle.nsv_bucket.specs.Steps.{array_step}
 use Rattle.ictl.specs.Main.{Blueprint, Progress, asks, writes, ends, Main, behind}
 use Rattle.rehearse.specs.World.{Open}
@@ -70,17 +72,36 @@ answer_of (Said text) = answers.Said text
 answer_of (Failed text) = answers.Failed text
 answer_of NoMemory = answers.Failed []
 
--- Shared arrays lie in eight buckets. So far each of them lies in bucket 0, and the others stay empty.
---
--- Whether words are put to bucket 0: those of `nsv_names` name their bucket, and all others are about an array.
-abbrev pub is_first_bucket : List (List ℕ) → Bool
-is_first_bucket (name ∷ bucket ∷ more) = not (bytes_eq name (codes "nsv_names")) || bytes_eq bucket (codes "0")
-is_first_bucket words = true
+-- Shared arrays lie in eight buckets, each in that of its name. So far all lie in bucket 0, and the others stay empty.
 
--- the reply of the bucket to which the words are put, and the arrays after it
+-- the bucket that a word names: the number that it is, where it is the number of a bucket
+abbrev pub bucket_named : List ℕ → Option ℕ
+bucket_named word = if is_bucket_number word then Some (slice_index word 0 - 48) else None
+
+-- the bucket of the array that these words begin with; bucket 0 where there is no word
+abbrev pub bucket_of_first : List (List ℕ) → ℕ
+bucket_of_first (array ∷ more) = bucket_of array
+bucket_of_first [] = 0
+
+-- The bucket to which words are put. Those of `nsv_names` name it by their second word. Those of `nsv_array` are about the
+-- array that is their third word, and all others about the array that is their second. Where that word is absent it is bucket 0.
+abbrev pub bucket_asked : List (List ℕ) → Option ℕ
+bucket_asked (name ∷ second ∷ more) =
+    if bytes_eq name (codes "nsv_names") then bucket_named second
+    else if bytes_eq name (codes "nsv_array") then Some (bucket_of_first more)
+    else Some (bucket_of second)
+bucket_asked words = Some 0
+
+-- whether it is bucket 0
+abbrev pub is_first : Option ℕ → Bool
+is_first (Some bucket) = bucket == 0
+is_first None = false
+
+-- The reply of the bucket to which the words are put, and the arrays after it. Only bucket 0 holds arrays: any other, and
+-- one that there isn't, replies as one that holds none, and changes nothing.
 abbrev pub bucket_step : Arrays → List (List ℕ) → NsvReply × Arrays
 bucket_step arrays words =
-    if is_first_bucket words then array_step arrays words else ((array_step map.empty words).0, arrays)
+    if is_first (bucket_asked words) then array_step arrays words else ((array_step map.empty words).0, arrays)
 
 -- What a service answers, and the arrays after it: the shared arrays by their step. No other service
 -- is there yet: a question of one is refused, with an empty text.
