@@ -1,5 +1,5 @@
 -- Texts put behind one another.
-use Rattle.std.proofs.Common.{◌≡◌, ℕ, List, ◌++◌, append_assoc, sym, ap, ◌∙◌}
+use Rattle.std.proofs.Common.{◌≡◌, ℕ, List, ◌++◌, append_assoc, ap, ◌∙◌}
 
 -- one text more behind what was put behind the first
 pub put_more : (first so_far now put more : List ℕ) → so_far ≡ first ++ put → now ≡ so_far ++ more → now ≡ first ++ (put ++ more)

@@ -1,12 +1,12 @@
 -- The event at the front of a file, by its first word.
 use Rattle.std.proofs.Common.{◌≡◌, ℕ, List, ◌∷◌, ◌++◌, slice_index_or, true, Option, None, Some, refl, sym, subst, ap, ◌∙◌}
-use Rattle.std.specs.Prelude.{Bool, ◌==◌, if◌then◌else◌}
+use Rattle.std.specs.Prelude.{◌==◌, if◌then◌else◌}
 use Rattle.std.specs.List.{list_all}
 use Rattle.rehearse.specs.declared.keyword.Keyword.{Keyword}
 use Rattle.rehearse.specs.declared.keyword.Keyword.TheVariants.{Workers, Clock, Define, Connect, Step, Run}
 use Rattle.rehearse.specs.Letters.{is_other}
-use Rattle.rehearse.specs.Events.{Event, workers, clock, define, connect, step, run, spelled, with_block}
-use Rattle.rehearse.specs.Reading.{Finds, CutAt, NumberAt, BlockAt, InputAt, name_of, IsShort, EventAt, tail_of, keyword_of, NumberEventAt, TailAt}
+use Rattle.rehearse.specs.Events.{Event, workers, clock, define, connect, step, run, spelled}
+use Rattle.rehearse.specs.Reading.{Finds, CutAt, name_of, IsShort, EventAt, tail_of, keyword_of, NumberEventAt, TailAt}
 use Rattle.rehearse.proofs.Cutting.{cuts_same}
 use Rattle.rehearse.proofs.Spelling.{number_unique, block_unique, input_unique}
 

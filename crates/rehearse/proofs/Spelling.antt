@@ -1,12 +1,12 @@
 -- What stands at the front of a file: a number, a length, a block, a worker's input.
-use Rattle.std.proofs.Common.{◌≡◌, ℕ, ◌+◌, ◌^◌, ◌<◌, ◌≤◌, List, ◌∷◌, ◌++◌, append_assoc, length, length-append, take, drop, true, refl, sym, subst, ap, ◌∙◌, arith}
+use Rattle.std.proofs.Common.{◌≡◌, ℕ, ◌+◌, ◌^◌, ◌<◌, List, ◌∷◌, ◌++◌, append_assoc, length, length-append, take, drop, true, refl, sym, subst, ap, ◌∙◌, arith}
 use Rattle.std.specs.Prelude.{decimal, codes}
 use Rattle.std.specs.List.{list_all}
 use Rattle.std.proofs.lemmas.Fmt.{digits_decimal, decimal_injective}
 use Rattle.std.proofs.lemmas.List.{take-append-drop}
 use Rattle.std.proofs.Math.Seq.{take-append_seam, drop-append_seam}
 use Rattle.rehearse.specs.Letters.{is_digit, is_other}
-use Rattle.rehearse.specs.Events.{newline, with_number, with_block}
+use Rattle.rehearse.specs.Events.{newline, with_block}
 use Rattle.rehearse.specs.Reading.{CutAt, NumberAt, LengthAt, BlockAt, InputAt}
 use Rattle.rehearse.proofs.Cutting.{cuts_same, all_other}
 use Rattle.rehearse.proofs.Numbers.{own, decimal_other}

@@ -1,12 +1,7 @@
 -- Kinds of bytes, and texts that are made of one kind.
-use Rattle.std.specs.Prelude.{ℕ, List, length, Bool, not, ◌==◌, ◌&&◌, ◌||◌, nat_le, nat_lt}
+use Rattle.std.specs.Prelude.{ℕ, List, length, Bool, not, ◌==◌, ◌&&◌, nat_le, nat_lt}
+use Rattle.std.specs.Char.{is_ascii_alphanumeric}
 use Rattle.std.specs.List.{list_all}
-
-abbrev pub is_lower : ℕ → Bool
-is_lower b = nat_le 97 b && nat_le b 122
-
-abbrev pub is_upper : ℕ → Bool
-is_upper b = nat_le 65 b && nat_le b 90
 
 -- a decimal digit
 abbrev pub is_digit : ℕ → Bool
@@ -14,7 +9,7 @@ is_digit b = nat_le 48 b && nat_le b 57
 
 -- an ASCII letter in either case, or a digit
 abbrev pub is_alphanumeric : ℕ → Bool
-is_alphanumeric b = is_lower b || is_upper b || is_digit b
+is_alphanumeric b = is_ascii_alphanumeric b
 
 -- another byte than this one
 abbrev pub is_other : ℕ → ℕ → Bool

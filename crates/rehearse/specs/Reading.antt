@@ -1,14 +1,13 @@
 -- What the readers of the program find: a value that is as a rule says, or none exactly where no value is.
-use Rattle.std.specs.Prelude.{◌≡◌, ℕ, ◌<◌, ◌≤◌, List, [], ◌∷◌, ◌++◌, length, IsTrue, Option, MatchOption, decimal, codes}
+use Rattle.std.specs.Prelude.{◌≡◌, ℕ, ◌<◌, ◌≤◌, List, ◌∷◌, ◌++◌, length, IsTrue, Option, MatchOption, decimal, codes}
 use Rattle.std.specs.List.{list_all}
-use Rattle.http_req.specs.declared.request.Request.{Request}
 use Rattle.rehearse.specs.declared.event.Event as code_event
 use Rattle.rehearse.specs.declared.event.Event.TheVariants as code_events
 use Rattle.rehearse.specs.declared.keyword.Keyword.{Keyword}
 use Rattle.rehearse.specs.declared.keyword.Keyword.TheVariants as keywords
 use Rattle.rehearse.specs.Letters.{is_other}
-use Rattle.rehearse.specs.Events.{Event, workers, clock, define, connect, step, run, newline, most_block, spelled, with_number, with_block}
-use Rattle.rehearse.specs.Requests.{IsEarlyRequest, get_of}
+use Rattle.rehearse.specs.Events.{Event, workers, clock, define, connect, step, run, most_block, spelled, with_number, with_block}
+use Rattle.rehearse.specs.Requests.{get_of}
 
 -- What was found is right, and nothing was found exactly where nothing is right.
 abbrev pub Finds : {A : Type 0} → (A → Type 0) → Option A → Type 0

@@ -1,18 +1,13 @@
 //! Kinds of bytes, and texts that are made of one kind.
 
 ghost use Rattle.std.specs.Prelude.{◌≡◌};
-ghost use Rattle.rehearse.specs.Letters.{is_lower, is_alphanumeric, one_or_more};
+ghost use Rattle.rehearse.specs.Letters.{is_alphanumeric, one_or_more};
 
-fn lower(byte: u8) -> bool
-    ensures { result ≡ is_lower byte }
-{
-    byte >= b'a' && byte <= b'z'
-}
-
+/// Whether a byte is an ASCII letter in either case, or a digit.
 pub fn alphanumeric(byte: u8) -> bool
     ensures { result ≡ is_alphanumeric byte }
 {
-    lower(byte) || (byte >= b'A' && byte <= b'Z') || (byte >= b'0' && byte <= b'9')
+    byte.is_ascii_alphanumeric()
 }
 
 /// Whether a text is one or more letters and digits.

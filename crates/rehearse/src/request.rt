@@ -63,19 +63,15 @@ pub fn read_request(alloc: Global, bytes: &[u8]) -> Result<Option<Request>, NoMe
     if bytes.len() > MOST_HEAD {
         return Ok(None);
     }
-    match cut_request(bytes) {
-        None => Ok(None),
-        Some((url, host)) => {
-            if !is_alphanumeric_text(host) {
-                return Ok(None);
-            }
-            match read_url(alloc, url)? {
-                None => Ok(None),
-                Some(segments) => {
-                    let request = get(alloc, url, segments, host)?;
-                    Ok(Some(request))
-                }
-            }
-        }
+    let Some((url, host)) = cut_request(bytes) else {
+        return Ok(None);
+    };
+    if !is_alphanumeric_text(host) {
+        return Ok(None);
     }
+    let Some(segments) = read_url(alloc, url)? else {
+        return Ok(None);
+    };
+    let request = get(alloc, url, segments, host)?;
+    Ok(Some(request))
 }
