@@ -5,6 +5,7 @@ pub mod Fronts
 pub mod Gets
 pub mod UrlParts
 pub mod EarlyRequests
+pub mod EarlyReadings
 pub mod Appending
 pub mod Giving
 pub mod Working

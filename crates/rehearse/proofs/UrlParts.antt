@@ -58,7 +58,7 @@ some_leading xs size e some =
     rw (lt-ltb 0 (length (take size xs)) l, a) refl
 
 -- what a good segment is
-segment_good : (s : List ℕ) → one_or_more is_alphanumeric s ≡ true → (0 < length s) × (list_all is_alphanumeric s ≡ true)
+pub segment_good : (s : List ℕ) → one_or_more is_alphanumeric s ≡ true → (0 < length s) × (list_all is_alphanumeric s ≡ true)
 segment_good s h =
     let p : (nat_lt 0 (length s) ≡ true) × (list_all is_alphanumeric s ≡ true) = both _ _ h in
     (ltb-true 0 (length s) p.0, p.1)

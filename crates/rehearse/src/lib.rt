@@ -28,5 +28,7 @@ mod waiting;
 mod worker;
 
 pub use answer::Rehearsal;
-pub use law::{definitions_fit_where_they_apply, one_file, one_listing};
+pub use law::{
+    definitions_fit_where_they_apply, early_requests_are_requests, one_file, one_listing,
+};
 pub use playback::rehearse;
