@@ -6,7 +6,7 @@ pub data Event : Type 0 where
   workers : (count : ℕ) → Event
   -- sets the moment that the clock shows, in seconds since 1970
   clock : (moment : ℕ) → Event
-  -- runs a block of definitions as a start script
+  -- runs a block as a script that may define
   define : (block : List ℕ) → Event
   -- gives a worker a connection with this input
   connect : (worker : ℕ) (input : List ℕ) → Event

@@ -16,7 +16,7 @@ abbrev pub last_moment : ℕ
 last_moment = 253402300799
 
 -- The first event alone may say how many workers there are: from 1 to 16.
-pub record Opens (before : World) (count : ℕ) (output : List ℕ) (after : World) : Type 0 where
+pub record SetsWorkers (before : World) (count : ℕ) (output : List ℕ) (after : World) : Type 0 where
   pub first : before.started ≡ false
   pub some : 1 ≤ count
   pub few : count ≤ most_workers
@@ -62,7 +62,7 @@ pub record Moves (Goes : ℕ → Now → Place → List ℕ → Place → Type 0
 
 -- What an event does.
 abbrev pub Does : World → Event → List ℕ → World → Type 0
-Does before (workers count) output after = Opens before count output after
+Does before (workers count) output after = SetsWorkers before count output after
 Does before (clock moment) output after = Sets before moment output after
 Does before (define block) output after = Defines before block output after
 Does before (connect number input) output after = Connects before number input output after

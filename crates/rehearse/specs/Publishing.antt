@@ -67,10 +67,12 @@ pub data Publication : Type 0 where
   -- published
   done : Publication
 
+-- by whether the blueprint would hold too much
 abbrev pub by_room : Bool → Publication
 by_room true = full
 by_room false = done
 
+-- by the place of the first one that doesn't apply, if any: that is refused before too much is
 abbrev pub by_misfit : Option ℕ → Bool → Publication
 by_misfit (Some place) too_much = misfit place
 by_misfit None too_much = by_room too_much

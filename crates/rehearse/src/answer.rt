@@ -9,6 +9,6 @@ pub enum Rehearsal {
     ReadFault,
     /// The sink failed when it had taken so many bytes of the listing, and fewer than all.
     WriteFault { sent: u64 },
-    /// Memory ran out before anything was written.
+    /// Memory ran out. The listing of some first events was written.
     NoMemory,
 }

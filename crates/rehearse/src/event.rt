@@ -29,7 +29,7 @@ pub const MOST_BYTES: usize = 67_108_864;
 /// The most bytes that a block has.
 const MOST_BLOCK: u64 = 8_388_608;
 
-/// The most digits of a number.
+/// The most digits of a number: as many as the last moment of the clock has.
 const MOST_DIGITS: usize = 12;
 
 /// The number of these digits, which have no extra zero in front; `None` where they are no number, or

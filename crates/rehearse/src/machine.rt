@@ -33,7 +33,9 @@ const LAST_MOMENT: u64 = 253_402_300_799;
 pub struct Machine {
     /// Whether an event came.
     pub started: bool,
+    /// What the clock shows, and what was published.
     pub now: Now,
+    /// The shared arrays.
     pub arrays: Bucket,
     /// By their numbers, from 0.
     pub workers: Vec<Worker>,
