@@ -2,17 +2,24 @@
 //! listing of what came of them to standard output.
 #![tactic(auto)]
 
-ghost use Rattle.std.specs.Prelude.{◌≡◌, ◌<◌};
+ghost use Rattle.std.specs.Prelude.{◌≡◌, ◌<◌, ◌+◌, ◌∷◌, ◌++◌, [], false, take, OnOk};
+ghost use Rattle.natives.specs.Names.{name_of, names_of, has_name};
+ghost use Rattle.ns_server.specs.Natives.{native_names};
 
-/// Makes the command of a name and adds it to natives.
+// Both macros stand above the modules, so that the tests see them.
+
+/// Makes the command of a name and adds it to natives, which have those of the places before.
 macro_rules! add_native {
-    ($alloc:expr, $natives:ident, $failed:expr, $name:literal, $least:literal, $most:literal, $call:path) => {
+    ($alloc:expr, $natives:ident, $failed:expr, $place:literal, $name:literal, $least:literal, $most:literal, $call:path) => {
         let Ok(name) = Text::new($alloc, $name) else {
             $failed
         };
-        if $natives
-            .add(Native::new(name, $least, $most, $call))
-            .is_err()
+        if crate::add_next(
+            &mut $natives,
+            $place,
+            Native::new(name, $least, $most, $call),
+        )
+        .is_err()
         {
             $failed
         }
@@ -23,24 +30,26 @@ macro_rules! add_native {
 /// function is left by what stands last.
 macro_rules! add_natives {
     ($alloc:expr, $natives:ident, $failed:expr) => {
-        add_native!($alloc, $natives, $failed, b"concat", 1, 200_001, tcl_listcmd::concat_command);
-        add_native!($alloc, $natives, $failed, b"format", 2, 200_001, tcl_string::format_command);
-        add_native!($alloc, $natives, $failed, b"join", 2, 3, tcl_string::join_command);
-        add_native!($alloc, $natives, $failed, b"lindex", 3, 3, tcl_listcmd::lindex_command);
-        add_native!($alloc, $natives, $failed, b"linsert", 4, 200_001, tcl_listcmd::linsert_command);
-        add_native!($alloc, $natives, $failed, b"list", 1, 200_001, tcl_listcmd::list_command);
-        add_native!($alloc, $natives, $failed, b"llength", 2, 2, tcl_listcmd::llength_command);
-        add_native!($alloc, $natives, $failed, b"lrange", 4, 4, tcl_listcmd::lrange_command);
-        add_native!($alloc, $natives, $failed, b"lreplace", 4, 200_001, tcl_listcmd::lreplace_command);
-        add_native!($alloc, $natives, $failed, b"lsearch", 3, 4, tcl_listcmd::lsearch_command);
-        add_native!($alloc, $natives, $failed, b"lsort", 2, 6, tcl_listcmd::lsort_command);
-        add_native!($alloc, $natives, $failed, b"split", 2, 3, tcl_string::split_command);
-        add_native!($alloc, $natives, $failed, b"string", 3, 5, tcl_string::string_command);
+        add_native!($alloc, $natives, $failed, 0, b"concat", 1, 200_001, tcl_listcmd::concat_command);
+        add_native!($alloc, $natives, $failed, 1, b"format", 2, 200_001, tcl_string::format_command);
+        add_native!($alloc, $natives, $failed, 2, b"join", 2, 3, tcl_string::join_command);
+        add_native!($alloc, $natives, $failed, 3, b"lindex", 3, 3, tcl_listcmd::lindex_command);
+        add_native!($alloc, $natives, $failed, 4, b"linsert", 4, 200_001, tcl_listcmd::linsert_command);
+        add_native!($alloc, $natives, $failed, 5, b"list", 1, 200_001, tcl_listcmd::list_command);
+        add_native!($alloc, $natives, $failed, 6, b"llength", 2, 2, tcl_listcmd::llength_command);
+        add_native!($alloc, $natives, $failed, 7, b"lrange", 4, 4, tcl_listcmd::lrange_command);
+        add_native!($alloc, $natives, $failed, 8, b"lreplace", 4, 200_001, tcl_listcmd::lreplace_command);
+        add_native!($alloc, $natives, $failed, 9, b"lsearch", 3, 4, tcl_listcmd::lsearch_command);
+        add_native!($alloc, $natives, $failed, 10, b"lsort", 2, 6, tcl_listcmd::lsort_command);
+        add_native!($alloc, $natives, $failed, 11, b"split", 2, 3, tcl_string::split_command);
+        add_native!($alloc, $natives, $failed, 12, b"string", 3, 5, tcl_string::string_command);
     };
 }
 
 mod command_line;
 mod program;
+#[cfg(test)]
+mod rows;
 mod status;
 mod streams;
 #[cfg(test)]
@@ -59,7 +68,17 @@ use std::process::ExitCode;
 use std::sync::ledger::{Blank, Ledger};
 use txt_core::{Text, Words};
 
-/// Runs the program with new counters.
+/// Adds the native whose name stands at this place to those before it.
+fn add_next(natives: &mut Natives, place: usize, native: Native) -> Result<(), Native>
+    requires front { names_of natives.old ≡ take place native_names }
+    requires is_new { has_name (take place native_names) (name_of native) ≡ false }
+    requires next { take place native_names ++ name_of native ∷ [] ≡ take (place + 1) native_names }
+    ensures { OnOk result (names_of natives.new ≡ take (place + 1) native_names) }
+{
+    natives.add(native)
+}
+
+/// Runs the program with new counters, and with every command that looks at its words alone as a native.
 fn run_counted<S: Source, K: Sink, E: Sink, L: Ledger>(
     alloc: Global,
     natives: &Natives,
@@ -72,6 +91,7 @@ fn run_counted<S: Source, K: Sink, E: Sink, L: Ledger>(
     requires name { blank.name ≡ L.name }
     requires parts { blank.parts ≡ L.parts }
     requires some { 0 < blank.parts }
+    requires natives { names_of natives.now ≡ native_names }
 {
     let mut steps = [Steps::<L>::new(blank)];
     run(alloc, natives, words, input, output, errors, &mut steps)

@@ -199,7 +199,7 @@ fn each_status_has_its_cause_and_its_line(rt: HostRuntime) -> Result<(), Fail> {
 }
 
 /// Appends the event that runs this block.
-fn push_define(alloc: Global, file: &mut Text, block: &[u8]) -> Result<(), NoMemory> {
+pub fn push_define(alloc: Global, file: &mut Text, block: &[u8]) -> Result<(), NoMemory> {
     let size = block.len();
     file.append(format!(in alloc; "define {size}\n")?.as_bytes())?;
     file.append(block)?;
@@ -207,7 +207,7 @@ fn push_define(alloc: Global, file: &mut Text, block: &[u8]) -> Result<(), NoMem
 }
 
 /// Appends what is listed of a block that ended with this error.
-fn push_error(alloc: Global, listing: &mut Text, text: &[u8]) -> Result<(), NoMemory> {
+pub fn push_error(alloc: Global, listing: &mut Text, text: &[u8]) -> Result<(), NoMemory> {
     let size = text.len();
     listing.append(format!(in alloc; "define error {size}\n")?.as_bytes())?;
     listing.append(text)?;
@@ -215,7 +215,7 @@ fn push_error(alloc: Global, listing: &mut Text, text: &[u8]) -> Result<(), NoMe
 }
 
 /// Rehearses a file, and gives the status and what was written.
-fn rehearsed<L: Ledger>(
+pub fn rehearsed<L: Ledger>(
     alloc: Global,
     natives: &Natives,
     blank: Blank,
