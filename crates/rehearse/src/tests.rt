@@ -213,15 +213,48 @@ fn files_give_their_listings(rt: HostRuntime) -> Result<(), Fail> {
 }
 
 #[test]
+fn numbers_have_no_extra_zeros(rt: HostRuntime) -> Result<(), Fail> {
+    let cases: [&[u8]; 7] = [
+        b"workers 02\n",
+        b"clock 00\n",
+        b"define 02\nab\n",
+        b"connect 00 29\nGET /hi HTTP/1.1\r\nHost: l\r\n\r\n\n",
+        b"connect 0 029\nGET /hi HTTP/1.1\r\nHost: l\r\n\r\n\n",
+        b"step 00\n",
+        b"run +0\n",
+    ];
+    for input in cases {
+        let (answer, written) = rehearsed::<Brand>(rt.alloc(), Blank::new(1), input, &AT_ONCE)?;
+        assert_eq!(rt; answer, Rehearsal::BadEvent { event: 1 });
+        assert_eq!(rt; written.bytes(), b"".as_slice());
+    }
+    Ok(())
+}
+
+#[test]
+fn a_fault_goes_before_a_bad_event(rt: HostRuntime) -> Result<(), Fail> {
+    // The first read gives an event that is none, and the second fails.
+    let outside = Outside {
+        gives: 2,
+        bad_reads: &[1],
+        takes: 1000,
+        bad_writes: &[],
+    };
+    let (answer, written) = rehearsed::<Brand>(rt.alloc(), Blank::new(1), b"x\nrun 0\n", &outside)?;
+    assert_eq!(rt; answer, Rehearsal::ReadFault);
+    assert_eq!(rt; written.bytes(), b"".as_slice());
+    Ok(())
+}
+
+#[test]
 fn the_plain_machine_agrees(rt: HostRuntime) -> Result<(), Fail> {
     let mut files = Vec::new(rt.alloc());
     for cut in 0..HI.len() + 1 {
         files.push(&HI[..cut])?;
     }
-    files.push(TURNS)?;
-    files.push(RUNS)?;
-    files.push(LATE)?;
-    files.push(MAKES)?;
+    for file in [TWO, TURNS, RUNS, ABSENT, KEPT, LATE, MAKES] {
+        files.push(file)?;
+    }
     for file in files {
         let (answer, written) = rehearsed::<Brand>(rt.alloc(), Blank::new(1), file, &AT_ONCE)?;
         let (want, listing) = played::<Brand>(rt.alloc(), Blank::new(1), file)?;
