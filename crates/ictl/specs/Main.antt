@@ -1,5 +1,5 @@
 -- The run of a request: up to its response, and behind it.
-use Rattle.std.specs.Prelude.{ℕ, zero, suc, List, [], ◌∷◌, codes, Bool, true, false, Option, Some, None}
+use Rattle.std.specs.Prelude.{ℕ, zero, suc, List, [], codes, Bool, true, false, Option, Some, None}
 use Rattle.outside.specs.declared.question.Answer.{Answer}
 use Rattle.outside.specs.declared.question.Question.{Question}
 use Rattle.http_req.specs.declared.request.Request.{Request}

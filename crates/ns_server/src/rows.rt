@@ -1,9 +1,7 @@
 //! Worked rehearsals of scripts: their responses to the byte, with the length of each written out.
 
-ghost use Rattle.std.specs.Prelude.{◌≡◌};
-
 use crate::tests::{push_define, push_error, rehearsed};
-use natives::{Native, Natives};
+use natives::Natives;
 use std::alloc::Global;
 use std::marker::Brand;
 use std::sync::ledger::Blank;

@@ -3,7 +3,6 @@
 ghost use Rattle.std.specs.Prelude.{◌≡◌, IfOk, OnOk, OnErr};
 ghost use Rattle.std.specs.FinMap as map;
 ghost use Rattle.std.specs.Option.{option_copied};
-ghost use Rattle.nsv_bucket.specs.Arrays.{text_cmp};
 ghost use Rattle.nsv_bucket.specs.Listings.{names_in, pairs_in};
 ghost use Rattle.nsv_bucket.specs.Undoing.{given_back};
 
@@ -21,7 +20,6 @@ pub struct NsvArray {
 
 impl Model for NsvArray {
     ghost use Rattle.std.specs.FinMap as map;
-    ghost use Rattle.std.specs.Prelude.{ℕ};
     ghost use Rattle.std.specs.Coded.{coded_list, coded_ℕ};
     ghost use Rattle.nsv_bucket.specs.Arrays.{Array};
 

@@ -1,6 +1,6 @@
 //! The texts of errors, and the replies that hold them.
 
-ghost use Rattle.std.specs.Prelude.{◌≡◌, ◌++◌, IfOk, OnOk, codes};
+ghost use Rattle.std.specs.Prelude.{◌≡◌, ◌++◌, IfOk, codes};
 ghost use Rattle.nsv_bucket.specs.declared.reply.NsvReply.TheVariants.{Failed};
 ghost use Rattle.nsv_bucket.specs.Replies.{refusal, result_of, no_array, no_key, no_integer, bad_list, bad_pairs};
 

@@ -1,11 +1,11 @@
 //! The questions that write or remove keys.
 
-ghost use Rattle.std.specs.Prelude.{◌≡◌, ◌≤◌, ◌++◌, length, drop, slice_get, IfOk, OnOk, OnErr, codes};
+ghost use Rattle.std.specs.Prelude.{◌≡◌, ◌≤◌, ◌++◌, length, slice_get, IfOk, OnOk, OnErr, codes};
 ghost use Rattle.std.specs.List.{concat};
 ghost use Rattle.std.specs.Option.{unwrap_or};
 ghost use Rattle.nsv_bucket.specs.Questions.{word_at};
 ghost use Rattle.nsv_bucket.specs.Arrays.{seen, value_of};
-ghost use Rattle.nsv_bucket.specs.Writes.{stored, set_step, sum_of, incr_step, append_step, unset_key, unset_array, unset_step};
+ghost use Rattle.nsv_bucket.specs.Writes.{stored, set_step, incr_step, append_step, unset_key, unset_array, unset_step};
 ghost use Rattle.nsv_bucket.specs.Lists.{lappend_step};
 
 use crate::array::copied;

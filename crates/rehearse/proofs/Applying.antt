@@ -5,7 +5,7 @@ use Rattle.cmd_table.specs.declared.command.Cmd.{Cmd}
 use Rattle.cmd_table.specs.declared.definition.Def.{Def}
 use Rattle.cmd_table.specs.declared.definition.Def.TheVariants.{Proc, Rename, Route, Filter, Cleanup}
 use Rattle.cmd_table.specs.Table.{Table, command_of}
-use Rattle.cmd_table.specs.Renaming.{answer_at_new, answer_to, answer_from, rename_answer}
+use Rattle.cmd_table.specs.Renaming.{answer_at_new, answer_from, rename_answer}
 use Rattle.cmd_table.specs.Commands.{Applies}
 use Rattle.rehearse.specs.Publishing.{is_done, fits}
 

@@ -1,7 +1,6 @@
 -- What the program's machine does with the events.
-use Rattle.std.proofs.Common.{◌≡◌, ℕ, zero, suc, ◌+◌, ◌<◌, ◌≤◌, List, [], ◌∷◌, ◌++◌, append-nil, append_assoc, length, get_or, set, replicate, true, false, Bool, Option, Some, None, refl, sym, subst, ap, ◌∙◌, arith, slice_get}
+use Rattle.std.proofs.Common.{◌≡◌, ℕ, zero, suc, ◌+◌, ◌<◌, ◌≤◌, List, [], ◌∷◌, ◌++◌, append-nil, length, get_or, set, replicate, true, false, Bool, Some, None, refl, sym, subst, ap, ◌∙◌, arith, slice_get}
 use Rattle.std.proofs.lemmas.Option.{slice_get_within, slice_get-get_or, get_or_from_slice_get}
-use Rattle.std.proofs.lemmas.List.{length-set}
 use Rattle.nsv_bucket.specs.Arrays.{Arrays}
 use Rattle.http_req.specs.declared.request.Request.{Request}
 use Rattle.rehearse.specs.declared.machine.Machine.{Machine}
@@ -12,8 +11,8 @@ use Rattle.rehearse.specs.Events.{Event, workers, clock, define, connect, step, 
 use Rattle.rehearse.specs.Requests.{IsEarlyRequest}
 use Rattle.rehearse.specs.Steps.{Place, Step, Runs}
 use Rattle.rehearse.specs.World.{World, Worker, Now, idle, connected, opening, all_idle, with_moment, with_workers, as_started}
-use Rattle.rehearse.specs.Plays.{Moves, Does, objects_of, with_objects}
-use Rattle.rehearse.specs.Playing.{now_of, ShowsWorker, ShowsWorkers, Shows, Went, IsReady, AreReady, Settled, objects_at, Did, Came, Played}
+use Rattle.rehearse.specs.Plays.{Moves, objects_of, with_objects}
+use Rattle.rehearse.specs.Playing.{now_of, ShowsWorker, ShowsWorkers, Shows, Went, IsReady, AreReady, Settled, objects_at, Did, Played}
 
 -- ---- workers, one by one
 

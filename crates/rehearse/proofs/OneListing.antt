@@ -1,15 +1,14 @@
 -- Events have one listing.
-use Rattle.std.proofs.Common.{◌≡◌, ℕ, ◌<◌, ◌≤◌, ◌⊎◌, inl, inr, List, [], ◌∷◌, ◌++◌, length, slice_get, slice_set, slice_index_or, true, false, Bool, Option, Some, None, refl, sym, subst, ap, ◌∙◌, lit<, arith}
+use Rattle.std.proofs.Common.{◌≡◌, ℕ, ◌⊎◌, inl, inr, List, [], ◌++◌, slice_set, true, false, Bool, Some, None, refl, sym, subst, ap, ◌∙◌}
 use Rattle.http_req.specs.declared.request.Request.{Request}
 use Rattle.http_resp.specs.ResponseBytes.{response_bytes}
-use Rattle.nsv_bucket.specs.Arrays.{Arrays}
 use Rattle.ictl.specs.Main.{Progress, asks, writes as at_response, ends as at_end}
 use Rattle.rehearse.specs.Defining.{Defining, Objects, Settles, answered, ended, answer_to, with_reply, told, define_progress}
 use Rattle.rehearse.specs.Events.{Event, workers, clock, define, connect, step, run}
 use Rattle.rehearse.specs.Requests.{IsEarlyRequest, get_of}
 use Rattle.rehearse.specs.Serving.{Stand, asking, ready, over, stands_at, has_spent}
 use Rattle.rehearse.specs.Steps.{Place, with_worker, with_answer, Step, rests, answers, writes, ends, spends, begins, closes, Runs, last, more}
-use Rattle.rehearse.specs.World.{World, Worker, Now, Open, idle, connected, begun, as_written, with_moment, with_workers, all_idle, as_started, response_output, closed_output, closed_spent_output}
+use Rattle.rehearse.specs.World.{World, Worker, Now, Open, idle, connected, begun, as_written, as_started, response_output, closed_output, closed_spent_output}
 use Rattle.rehearse.specs.Plays.{Moves, with_objects, Does, Plays, Listing, no_event, one_event}
 use Rattle.rehearse.proofs.EarlyRequests.{request_unique}
 

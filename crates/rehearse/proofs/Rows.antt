@@ -1,12 +1,11 @@
 -- The definitions at worked rows.
-use Rattle.std.proofs.Common.{◌≡◌, ◌<◌, ℕ, slice_get, slice_index_or, ◌+◌, ◌≤◌, ◌⊎◌, List, [], ◌∷◌, ◌++◌, length, refl, subst, ap, arith, lit≤, lit<, Option, Some, None, inl, inr, true, false, codes, decimal}
+use Rattle.std.proofs.Common.{◌≡◌, ◌<◌, ℕ, slice_index_or, ◌+◌, ◌≤◌, ◌⊎◌, List, [], ◌∷◌, ◌++◌, refl, subst, ap, arith, lit≤, lit<, Some, None, inl, inr, true, false, codes}
 use Rattle.std.specs.Fmt.{digits}
 use Rattle.std.proofs.lemmas.Option.{slice_get_within}
 use Rattle.cmd_table.specs.declared.definition.Def.{Def}
 use Rattle.cmd_table.specs.declared.definition.Def.TheVariants.{Proc, Rename}
 use Rattle.outside.specs.declared.question.Answer.TheVariants.{Said, Failed}
 use Rattle.tcl_eval.specs.declared.outcome.Outcome.TheVariants as outcomes
-use Rattle.http_req.specs.declared.request.Request.{Request}
 use Rattle.nsv_bucket.specs.Arrays.{Arrays}
 use Rattle.rehearse.specs.Publishing.{misfit_from, is_full, misfit, full, done, publication_answer}
 use Rattle.rehearse.specs.Defining.{told}
@@ -17,8 +16,8 @@ use Rattle.rehearse.specs.Events.{Event, workers, clock, define, connect, step, 
 use Rattle.rehearse.specs.Files.{Holds, whole, bad, ComesNext}
 use Rattle.rehearse.specs.Plays.{no_event, Does}
 use Rattle.rehearse.specs.Requests.{IsEarlyRequest, get_request}
-use Rattle.rehearse.specs.Steps.{Place, Step, rests, begins, closes, with_worker}
-use Rattle.rehearse.specs.World.{World, Now, idle, connected, begun, opening, all_idle, closed_output}
+use Rattle.rehearse.specs.Steps.{Step, begins, closes}
+use Rattle.rehearse.specs.World.{World, Now, idle, connected, begun, opening, all_idle}
 
 -- ---- a file without a byte
 

@@ -1,5 +1,5 @@
 -- Definition runs of the program.
-use Rattle.std.proofs.Common.{◌≡◌, ℕ, zero, suc, ◌+◌, ◌<◌, List, [], ◌∷◌, ◌++◌, append-nil, Result, Ok, Err, IfOk, refl, sym, subst, ap, ◌∙◌, arith}
+use Rattle.std.proofs.Common.{◌≡◌, ℕ, zero, suc, ◌+◌, ◌<◌, List, [], ◌∷◌, ◌++◌, append-nil, Result, Ok, Err, IfOk, sym, subst, ap, ◌∙◌, arith}
 use Rattle.outside.specs.declared.question.Answer.{Answer}
 use Rattle.outside.specs.declared.question.Question.{Question}
 use Rattle.http_resp.specs.declared.response.Response.{Response}
@@ -9,9 +9,9 @@ use Rattle.tcl_eval.specs.declared.outcome.Outcome.{Outcome}
 use Rattle.nsv_bucket.specs.Arrays.{Arrays}
 use Rattle.ictl.specs.Hosts.{HostState}
 use Rattle.ictl.specs.Settle.{Settled as SettledRun, ended as run_ended, asking, exhausted, nested}
-use Rattle.ictl.specs.Main.{Blueprint, Progress, asks as at_question, writes as at_response, ends as at_end}
+use Rattle.ictl.specs.Main.{Blueprint, asks as at_question, writes as at_response, ends as at_end}
 use Rattle.ictl.specs.Defines.{publishing, good_end, by_code, define_end, script_run, Define}
-use Rattle.ictl.specs.Interps.{blueprint_of, state_of, gives, questions_left, UnlessNoMemory, Stands, StandsAt, StandsOn, Falls}
+use Rattle.ictl.specs.Interps.{blueprint_of, state_of, UnlessNoMemory, Stands, StandsOn, Falls}
 use Rattle.ictl.specs.declared.ending.Ending.{Ending}
 use Rattle.ictl.specs.declared.interp.Interp.{Interp}
 use Rattle.ictl.specs.declared.next.Next.{Next}

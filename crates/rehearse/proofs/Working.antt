@@ -1,5 +1,5 @@
 -- What workers of the program do.
-use Rattle.std.proofs.Common.{◌≡◌, ℕ, ◌+◌, ◌<◌, List, [], ◌∷◌, ◌++◌, append_assoc, append-nil, inl, inr, true, false, Bool, Option, Some, None, Result, Ok, Err, IfOk, refl, sym, subst, ap, ◌∙◌, arith}
+use Rattle.std.proofs.Common.{◌≡◌, ℕ, ◌+◌, ◌<◌, List, [], ◌∷◌, ◌++◌, append_assoc, append-nil, inl, inr, true, false, Bool, Some, None, refl, sym, subst, ap, ◌∙◌, arith}
 use Rattle.std.specs.Prelude.{nat_lt}
 use Rattle.std.specs.List.{sum_by}
 use Rattle.std.proofs.lemmas.Bool.{lt-ltb}
@@ -13,21 +13,19 @@ use Rattle.nsv_bucket.specs.Arrays.{Arrays}
 use Rattle.ictl.specs.Main.{Blueprint, Progress, asks as at_question, writes as at_response, ends as at_end, Main, behind}
 use Rattle.ictl.specs.Interps.{blueprint_of, stage_state, state_of, questions_left, ending_of, stage_gives, gives, UnlessNoMemory, Stands, StandsAt, StandsOn, Falls}
 use Rattle.ictl.specs.declared.ending.Ending.{Ending}
-use Rattle.ictl.specs.declared.ending.Ending.TheVariants as endings
 use Rattle.ictl.specs.declared.interp.Interp.{Interp}
 use Rattle.ictl.specs.declared.interp.Stage.{Stage}
 use Rattle.ictl.specs.declared.interp.Stage.TheVariants as stages
 use Rattle.ictl.specs.declared.next.Next.{Next}
 use Rattle.ictl.specs.declared.next.Next.TheVariants.{Asks, Write, Ended, NoMemory}
-use Rattle.rehearse.specs.declared.now.Now as code_now
 use Rattle.rehearse.specs.declared.worker.Serving.{Serving}
 use Rattle.rehearse.specs.declared.worker.Worker as code_worker
 use Rattle.rehearse.specs.declared.worker.Worker.TheVariants as code_workers
 use Rattle.rehearse.specs.Requests.{IsEarlyRequest}
-use Rattle.rehearse.specs.Serving.{progress, progress_by, Stand, asking, ready, over, stand_of, stands_at, answer_bytes, most_answered, has_spent, reply_to}
+use Rattle.rehearse.specs.Serving.{progress, progress_by, asking, ready, over, stand_of, stands_at, answer_bytes, most_answered, has_spent, reply_to}
 use Rattle.rehearse.specs.Steps.{Place, Step, rests, answers, writes, ends, spends, begins, closes, Runs, last, more}
 use Rattle.rehearse.specs.World.{Open, Worker, idle, connected, Now, begun, as_answered, as_written, response_output, closed_output, closed_spent_output}
-use Rattle.rehearse.specs.Playing.{Counts, Serves, ShowsWorker, Went, IsReady, IsBusy, HasBegun, next_steps, steps_left}
+use Rattle.rehearse.specs.Playing.{Counts, Serves, ShowsWorker, Went, IsBusy, HasBegun, next_steps}
 
 -- ---- where an interpreter stands
 

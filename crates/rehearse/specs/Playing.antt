@@ -24,7 +24,7 @@ use Rattle.rehearse.specs.Events.{Event, most_bytes, spelled}
 use Rattle.rehearse.specs.Files.{End, whole, bad, ComesNext}
 use Rattle.rehearse.specs.Plays.{Does, Plays}
 use Rattle.rehearse.specs.Serving.{progress, answer_bytes, most_answered}
-use Rattle.rehearse.specs.Steps.{Place, Step}
+use Rattle.rehearse.specs.Steps.{Place}
 use Rattle.rehearse.specs.World.{Open, Worker, idle, connected, Now, World}
 
 -- ---- the program's machine, and the world that it shows

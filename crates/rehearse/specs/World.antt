@@ -1,5 +1,5 @@
 -- The machine of one thread: its workers, and what they share.
-use Rattle.std.specs.Prelude.{ℕ, List, [], ◌∷◌, ◌++◌, length, replicate, Bool, true, false, decimal, codes, Option, Some, None}
+use Rattle.std.specs.Prelude.{ℕ, List, [], ◌∷◌, ◌++◌, length, replicate, Bool, true, false, decimal, codes, Option}
 use Rattle.std.specs.FinMap as map
 use Rattle.outside.specs.declared.question.Answer.{Answer}
 use Rattle.http_req.specs.declared.request.Request.{Request}

@@ -1,11 +1,10 @@
 //! Definition runs.
 
-ghost use Rattle.std.specs.Prelude.{◌≡◌, ◌++◌, List, ℕ, IfOk};
-ghost use Rattle.outside.specs.declared.question.Question.{Question as AskedQuestion};
+ghost use Rattle.std.specs.Prelude.{◌≡◌, IfOk};
 ghost use Rattle.ictl.specs.Interps.{IsAsking, StandsAt, Falls, questions_left};
 ghost use Rattle.ictl.specs.declared.next.Next.TheVariants.{Asks as at_question};
 ghost use Rattle.natives.specs.Names.{names_of};
-ghost use Rattle.rehearse.specs.Defining.{Defining, answer_to, begun_block, epoch_behind, told};
+ghost use Rattle.rehearse.specs.Defining.{Defining, answer_to, begun_block, epoch_behind};
 ghost use Rattle.rehearse.specs.Playing.{Settled, RunsAs, Continues, objects_at};
 
 use crate::blueprint::Blueprint;

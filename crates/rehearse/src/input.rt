@@ -1,6 +1,6 @@
 //! Reading the input of a rehearsal.
 
-ghost use Rattle.std.specs.Prelude.{◌≡◌, ◌≤◌, ℕ, List, IfOk};
+ghost use Rattle.std.specs.Prelude.{◌≤◌, ℕ, List, IfOk};
 ghost use Rattle.outside.specs.Reading.{Gives};
 ghost use Rattle.rehearse.specs.Playing.{StopsAt};
 

@@ -1,7 +1,7 @@
 //! The rehearsal of a file.
 
 ghost use Rattle.std.specs.Prelude.{◌≡◌, ◌+◌, ◌≤◌, List, IfOk, length};
-ghost use Rattle.std.specs.Option.{option_copied, option_map};
+ghost use Rattle.std.specs.Option.{option_copied};
 ghost use Rattle.natives.specs.Names.{names_of};
 ghost use Rattle.rehearse.specs.Events.{Event as SpelledEvent, most_bytes};
 ghost use Rattle.rehearse.specs.Files.{Holds};

@@ -3,7 +3,7 @@
 ghost use Rattle.std.specs.Prelude.{◌≡◌, ◌<◌, ◌↔◌, ◌++◌, ℕ, false, IfOk, IsTrue};
 ghost use Rattle.http_req.specs.declared.request.Request.{Request as ReadRequest};
 ghost use Rattle.http_resp.specs.ResponseBytes.{response_bytes};
-ghost use Rattle.ictl.specs.Interps.{blueprint_of, StandsAt};
+ghost use Rattle.ictl.specs.Interps.{StandsAt};
 ghost use Rattle.ictl.specs.Main.{Blueprint as SeenBlueprint};
 ghost use Rattle.natives.specs.Names.{names_of};
 ghost use Rattle.rehearse.specs.Requests.{IsEarlyRequest};

@@ -1,9 +1,9 @@
 //! What is due at a moment, and the entries afterwards.
-ghost use Rattle.std.specs.Prelude.{◌≡◌, ◌↔◌, ◌⊎◌, ◌≢◌, ℕ, ◌≤◌, ◌<◌, ◌+◌, ◌∷◌, List, [], cond, None, IfOk, OnOk, OnErr, MatchBool, Contains, filter, map};
+ghost use Rattle.std.specs.Prelude.{◌≡◌, ◌↔◌, ◌⊎◌, ◌≢◌, ℕ, ◌≤◌, ◌<◌, ◌+◌, ◌∷◌, List, cond, None, IfOk, OnOk, OnErr, MatchBool, Contains, filter, map};
 ghost use Rattle.std.specs.List.{list_any};
 ghost use Rattle.std.specs.Ordering.{eq_by_cmp};
 ghost use Rattle.std.specs.BTreeMap.{get, keys};
-ghost use Rattle.sched_core.specs.Entries.{Entry, due_of, id_of, key_cmp, AreInOrder};
+ghost use Rattle.sched_core.specs.Entries.{Entry, due_of, key_cmp, AreInOrder};
 ghost use Rattle.sched_core.specs.Due.{is_due, is_later, listed, IsNext, IsMoved, IsAfterDue};
 ghost use Rattle.sched_core.specs.Allowed.{AreSound, HaveOwnIds};
 

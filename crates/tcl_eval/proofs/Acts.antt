@@ -1,5 +1,5 @@
 -- What commands come to.
-use Rattle.std.proofs.Common.{◌≡◌, ◌≢◌, ◌≤◌, ℕ, suc, ◌+◌, ◌-◌, List, [], ◌∷◌, ◌++◌, length, drop, Option, Some, None, Result, Ok, Err, IsSome, ◌<◌, Bool, true, false, cond, nat_lt, refl, sym, ap, subst, ◌∙◌, arith}
+use Rattle.std.proofs.Common.{◌≡◌, ◌≢◌, ◌≤◌, ℕ, suc, ◌+◌, ◌-◌, List, [], ◌∷◌, ◌++◌, length, drop, Option, Some, None, Result, Ok, Err, ◌<◌, Bool, true, false, cond, nat_lt, refl, sym, ap, ◌∙◌, arith}
 use Rattle.std.specs.Prelude.{◌==◌, if◌then◌else◌}
 use Rattle.std.proofs.lemmas.Bool.{lt-ltb, le-ltb, ltb-true, ltb-false}
 use Rattle.outside.specs.declared.question.Answer.{Answer}
@@ -21,10 +21,10 @@ use Rattle.tcl_frame.specs.Frames.{pushed as pushed_frame}
 use Rattle.tcl_varcmd.specs.Answers.{Came, gives as gives_text, fails as fails_with, IsAnswer}
 use Rattle.tcl_varcmd.specs.declared.fault.Fault.TheVariants as faults
 use Rattle.tcl_eval.specs.Natives.{Names}
-use Rattle.tcl_eval.specs.State.{State, LeafTable, Leaf, says, wants, defines, stores, not_mine, Given, Out, asks, spent, Rest, Next}
+use Rattle.tcl_eval.specs.State.{State, LeafTable, Leaf, says, wants, defines, stores, not_mine, Given, Out, spent, Next}
 use Rattle.tcl_eval.specs.Messages.{unknown_command, no_command, command_exists}
 use Rattle.tcl_eval.specs.Parameters.{Values, bound}
-use Rattle.tcl_eval.specs.Eval.{Inner, unread, ended, error_of, give, command_cost, answer_cost, word_at, built, with_host, with_frames, proc_end, command_end, write_all, call_bound, call_proc, leaf, run_command, act, command, run_commands, run_reading, run_script, nested, standing, addressed, came_next, wrong_words, renamed_as, do_rename, catch_end, do_catch}
+use Rattle.tcl_eval.specs.Eval.{Inner, unread, ended, error_of, give, command_cost, answer_cost, word_at, built, with_host, with_frames, proc_end, command_end, write_all, call_bound, call_proc, leaf, run_command, act, command, run_commands, run_reading, run_script, nested, came_next, wrong_words, renamed_as, do_rename, catch_end, do_catch}
 use Rattle.tcl_eval.specs.Places.{tree_of}
 use Rattle.tcl_eval.specs.Stack.{stack_next}
 use Rattle.tcl_eval.specs.Engine.{Enters, PaidFor, Moves, credit, IfRan, state_of, words_of, levels_of, open_words, comes_to, with_more}

@@ -4,7 +4,7 @@ use Rattle.std.specs.Prelude.{slice_get, unwrap_or}
 use Rattle.std.proofs.lemmas.Option.{unwrap_or-slice_get}
 use Rattle.tcl_eval.specs.Eval.{word_at}
 use Rattle.std.proofs.lemmas.Bool.{ltb-true, ltb-false}
-use Rattle.tcl_parse.specs.Tree.{Part, element, Parts, no_parts, part, Words, no_words, word, Commands, no_commands, command, parts, words, commands}
+use Rattle.tcl_parse.specs.Tree.{Part, element, Parts, no_parts, part, Words, no_words, word, no_commands, command, parts, words, commands}
 use Rattle.tcl_parse.specs.View.{part_step, command_step, script_step, word_step, part_of, word_of, command_of, script_of}
 use Rattle.tcl_parse.specs.Tree as tree
 use Rattle.tcl_parse.specs.declared.tree.Script as code_script

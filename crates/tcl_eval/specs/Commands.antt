@@ -1,5 +1,5 @@
 -- The built-ins that make, name and call procedures, and those that run one script.
-use Rattle.std.specs.Prelude.{ℕ, List, [], ◌∷◌, length, drop, ◌==◌, nat_lt, if◌then◌else◌, decimal, Option, Some, None, Result, Ok, Err}
+use Rattle.std.specs.Prelude.{ℕ, List, [], length, drop, ◌==◌, nat_lt, if◌then◌else◌, decimal, Option, Some, None, Result, Ok, Err}
 use Rattle.cmd_table.specs.declared.definition.Def.{Def}
 use Rattle.cmd_table.specs.declared.definition.Def.TheVariants as definitions
 use Rattle.cmd_table.specs.Renaming.{rename_answer}
@@ -13,7 +13,7 @@ use Rattle.tcl_eval.specs.Words.{word_at, joined}
 use Rattle.tcl_eval.specs.Messages.{command_exists, no_command}
 use Rattle.tcl_eval.specs.Results.{wrong_words}
 use Rattle.tcl_eval.specs.Going.{Inner, unread, give, fails, with_frames, with_def, write_variable, write_all, proc_end}
-use Rattle.tcl_eval.specs.State.{State, Rest, Next}
+use Rattle.tcl_eval.specs.State.{Rest, Next}
 
 -- the definition that `rename` makes, and what it answers: first that the old name is no command, then that the new one is
 abbrev pub rename_of : List (List ℕ) → Def

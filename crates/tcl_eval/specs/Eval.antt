@@ -30,7 +30,7 @@ pub use Rattle.tcl_eval.specs.Loops.{do_while, do_for, do_foreach}
 pub use Rattle.tcl_eval.specs.Switch.{do_switch}
 pub use Rattle.tcl_eval.specs.Info.{do_info}
 pub use Rattle.tcl_eval.specs.Natives.{call_native}
-use Rattle.tcl_eval.specs.State.{State, Leaf, says, wants, defines, stores, not_mine, LeafTable, Given, Out, done, asks, spent, too_deep, Rest, Next}
+use Rattle.tcl_eval.specs.State.{Leaf, says, wants, defines, stores, not_mine, LeafTable, done, asks, spent, too_deep, Rest, Next}
 
 -- the built-ins that are done here; any other name is the host's
 abbrev pub verb_of : List ℕ → Verb

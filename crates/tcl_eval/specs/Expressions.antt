@@ -1,5 +1,5 @@
 -- What an expression comes to: its parts from left to right, and of `&&`, `||` and `?:` only what is needed.
-use Rattle.std.specs.Prelude.{ℕ, ◌-◌, List, [], length, drop, nat_lt, if◌then◌else◌, codes, Result, Ok, Err}
+use Rattle.std.specs.Prelude.{ℕ, ◌-◌, List, [], length, drop, nat_lt, if◌then◌else◌, codes, Ok, Err}
 use Rattle.tcl_parse.specs.Tree.{parts}
 use Rattle.tcl_expr.specs.Trees as trees
 use Rattle.tcl_expr.specs.Trees.{Tree}

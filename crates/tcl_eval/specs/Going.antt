@@ -1,5 +1,5 @@
 -- What comes next: a run is written by what comes after each part of it.
-use Rattle.std.specs.Prelude.{Bool, true, false, ℕ, zero, suc, ◌+◌, ◌-◌, ◌/◌, List, [], ◌∷◌, ◌++◌, length, nat_lt, if◌then◌else◌, decimal, Option, Some, None}
+use Rattle.std.specs.Prelude.{Bool, true, false, ℕ, zero, suc, ◌+◌, ◌-◌, ◌/◌, List, [], ◌∷◌, ◌++◌, length, nat_lt, if◌then◌else◌, Option, Some, None}
 use Rattle.tcl_parse.specs.Tree.{Commands}
 use Rattle.cmd_table.specs.Commands.{defined}
 use Rattle.cmd_table.specs.declared.definition.Def.{Def}
@@ -9,7 +9,7 @@ use Rattle.tcl_frame.specs.Frames.{popped}
 use Rattle.tcl_eval.specs.declared.stack.Ended.{Ended}
 use Rattle.tcl_eval.specs.Parameters.{Values}
 use Rattle.tcl_eval.specs.Messages.{too_long, no_boolean}
-use Rattle.tcl_eval.specs.Results.{most_bytes, bytes_for_one, ended, error_of, returned, read_as, stored_of, stored}
+use Rattle.tcl_eval.specs.Results.{most_bytes, bytes_for_one, error_of, returned, read_as, stored_of, stored}
 use Rattle.tcl_eval.specs.State.{State, spent, Rest, Next}
 
 -- What is run as a script: a text, or a script that was read within another one.

@@ -12,7 +12,7 @@ use Rattle.tcl_eval.specs.Words.{word_at}
 use Rattle.tcl_eval.specs.Messages.{no_procedure, unknown_subcommand}
 use Rattle.tcl_eval.specs.Results.{ended, error_of, wrong_words}
 use Rattle.tcl_eval.specs.Going.{give}
-use Rattle.tcl_eval.specs.State.{State, Rest, Next}
+use Rattle.tcl_eval.specs.State.{Rest, Next}
 
 -- whether a name is listed: any, or only one that matches a pattern
 abbrev pub is_picked : Option (List ℕ) → List ℕ → Bool

@@ -1,11 +1,10 @@
 -- Loops. Each turn costs 1, before its body. A loop has as many turns as the budget that is left when it begins, and so is never
 -- ended by their number: where no turn is left, no budget is.
-use Rattle.std.specs.Prelude.{ℕ, zero, suc, ◌+◌, List, [], ◌∷◌, length, drop, ◌==◌, if◌then◌else◌, codes, Option, Some, None}
+use Rattle.std.specs.Prelude.{ℕ, zero, suc, List, [], ◌∷◌, length, drop, ◌==◌, if◌then◌else◌, codes, Option, Some, None}
 use Rattle.std.specs.Int.{div_ceil}
 use Rattle.txt_core.specs.Lists.{Listing, elements, bad_at}
 use Rattle.txt_core.specs.Listing.{listing}
 use Rattle.tcl_eval.specs.declared.branch.Turning.{Turning}
-use Rattle.tcl_eval.specs.declared.branch.Walk.{Walk}
 use Rattle.tcl_eval.specs.Parameters.{Values}
 use Rattle.tcl_eval.specs.Words.{word_at}
 use Rattle.tcl_eval.specs.Messages.{bad_list, bad_value}

@@ -1,6 +1,6 @@
 //! What a command does.
 
-ghost use Rattle.std.specs.Prelude.{◌≡◌, ◌<◌, ◌≤◌, ◌++◌, ◌∷◌, [], Option, IfOk, OnOk, IsSome, None, true};
+ghost use Rattle.std.specs.Prelude.{◌≡◌, ◌<◌, ◌≤◌, ◌++◌, ◌∷◌, [], Option, IfOk, OnOk, None, true};
 ghost use Rattle.cmd_table.specs.Commands.{defined};
 ghost use Rattle.natives.specs.Names.{name_of, names_of};
 ghost use Rattle.tcl_varcmd.specs.Commands.{begins_var_command, var_came};

@@ -1,6 +1,6 @@
 //! `if` under way.
 
-ghost use Rattle.std.specs.Prelude.{◌≡◌, ◌<◌, ◌≤◌, ◌+◌, IfOk, OnOk, Option, drop};
+ghost use Rattle.std.specs.Prelude.{◌<◌, ◌≤◌, ◌+◌, IfOk, OnOk, Option, drop};
 ghost use Rattle.tcl_eval.specs.Natives.{Names};
 ghost use Rattle.tcl_eval.specs.Eval.{nested, do_if};
 ghost use Rattle.tcl_eval.specs.Branches.{choose};

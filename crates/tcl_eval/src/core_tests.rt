@@ -1,4 +1,4 @@
-ghost use Rattle.std.specs.Prelude.{◌≡◌, ◌<◌, ◌≤◌, ◌∷◌, ◌++◌, [], false, codes, IfOk, OnOk, length};
+ghost use Rattle.std.specs.Prelude.{◌≡◌, ◌<◌, ◌∷◌, ◌++◌, [], false, codes, IfOk, OnOk};
 ghost use Rattle.natives.specs.Answers.{Answers};
 ghost use Rattle.natives.specs.Names.{name_of, names_of, has_name};
 ghost use Rattle.natives.specs.Pure.{pure_of};

@@ -18,7 +18,7 @@ use crate::host::Host;
 use crate::message::{bad_expression, no_boolean};
 use crate::operation::{Way, way_of, with_one, with_two};
 use crate::place::alone;
-use crate::stack::{Acted, Ended, Frame, Ready, Step};
+use crate::stack::{Acted, Ended, Frame, Step};
 use crate::value::{MOST_BYTES, OK, done, error, too_long, wrong_words};
 use crate::words::{behind_name, joined};
 use std::boxed::Box;

@@ -1,6 +1,5 @@
 //! The commands that the engine does not know.
 
-ghost use Rattle.std.specs.Prelude.{◌≡◌};
 ghost use Rattle.tcl_eval.specs.Answers.{Replies};
 ghost use Rattle.tcl_eval.specs.State.{LeafTable};
 

@@ -1,9 +1,8 @@
 //! Loops under way.
 
-ghost use Rattle.std.specs.Prelude.{◌≡◌, ◌<◌, ◌≤◌, ◌+◌, IfOk, OnOk, List, ℕ, Option, drop, length};
-ghost use Rattle.tcl_eval.specs.State.{Next, Rest};
+ghost use Rattle.std.specs.Prelude.{◌≡◌, ◌<◌, ◌≤◌, ◌+◌, IfOk, OnOk, Option, drop, length};
+ghost use Rattle.tcl_eval.specs.State.{Next};
 ghost use Rattle.tcl_eval.specs.Natives.{Names};
-ghost use Rattle.tcl_eval.specs.Parameters.{Values};
 ghost use Rattle.tcl_eval.specs.Eval.{nested, unread, do_while, do_for, do_foreach};
 ghost use Rattle.tcl_eval.specs.Loops.{assigned, in_loop, turns, turn_on, turn_body, walk_on, walk_all};
 ghost use Rattle.tcl_eval.specs.LoopsSeen.{flow_of};

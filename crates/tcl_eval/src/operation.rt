@@ -1,6 +1,6 @@
 //! What operators of expressions give.
 
-ghost use Rattle.std.specs.Prelude.{◌≡◌, [], IfOk};
+ghost use Rattle.std.specs.Prelude.{◌≡◌, IfOk};
 ghost use Rattle.tcl_eval.specs.Expressions.{way_of, with_one, with_two};
 
 use crate::message::operator_fault;

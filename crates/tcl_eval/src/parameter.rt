@@ -3,7 +3,7 @@
 ghost use Rattle.std.specs.Prelude.{◌≡◌, ◌++◌, ◌∷◌, [], IfOk, OnOk, drop};
 ghost use Rattle.tcl_eval.specs.Words.{word_at};
 ghost use Rattle.txt_core.specs.Quoting.{quoting};
-ghost use Rattle.tcl_eval.specs.Parameters.{Values, parameter, read_all, parameters, bind, bound};
+ghost use Rattle.tcl_eval.specs.Parameters.{parameter, read_all, parameters, bind, bound};
 ghost use Rattle.tcl_eval.specs.ParametersSeen.{ParametersAre, ValuesAre};
 
 use crate::message::{bad_list, bad_value, wrong_count};

@@ -1,7 +1,7 @@
 //! Places in scripts.
 
 ghost use Rattle.std.specs.Prelude.{◌≡◌, ◌<◌, ◌+◌, ◌^◌, MatchOption, IfOk, IsSome, IsTrue, map, slice_get};
-ghost use Rattle.tcl_parse.specs.Tree.{parts, part, no_parts, words};
+ghost use Rattle.tcl_parse.specs.Tree.{parts, no_parts, words};
 ghost use Rattle.tcl_parse.specs.View.{part_of, word_of};
 ghost use Rattle.std.specs.Option.{option_copied};
 ghost use Rattle.tcl_eval.specs.Places.{tree_of, word_parts, inside, parts_from, walk, place_parts, command_at, behind, index_of, HasCommand, HasWord};

@@ -1,8 +1,8 @@
 //! What goes on before the next text is run.
 
-ghost use Rattle.std.specs.Prelude.{◌≡◌, ◌<◌, ◌≤◌, ◌+◌, ◌++◌, ◌^◌, [], ◌∷◌, length, IfOk, OnOk};
-ghost use Rattle.tcl_eval.specs.Eval.{give, read_as, read_variable, element_name, on_ok, word_end, command_end, proc_end, catch_end, run_parts, run_words, run_commands, run_script, nested, read};
-ghost use Rattle.tcl_eval.specs.Places.{tree_of, command_at, commands_from, words_from, place_parts, inside, behind, parts_size, words_size, commands_size};
+ghost use Rattle.std.specs.Prelude.{◌≡◌, ◌<◌, ◌≤◌, ◌+◌, ◌^◌, [], length, IfOk, OnOk};
+ghost use Rattle.tcl_eval.specs.Eval.{give, read_as, read_variable, command_end, proc_end, catch_end, run_parts, run_words, run_script, nested, read};
+ghost use Rattle.tcl_eval.specs.Places.{tree_of, command_at, words_from, place_parts, inside, behind, parts_size, words_size, commands_size};
 ghost use Rattle.tcl_eval.specs.Stack.{frame_next, step_next, settled_next, frame_weight, stack_weight, step_weight, frame_free, stack_free, step_free, settled_free};
 ghost use Rattle.tcl_eval.specs.Engine.{Same, Pays, Stays, Remains, Emptied};
 ghost use Rattle.tcl_eval.specs.Natives.{Names};

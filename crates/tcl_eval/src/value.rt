@@ -2,7 +2,7 @@
 
 ghost use Rattle.std.specs.Prelude.{◌≡◌, [], IfOk};
 ghost use Rattle.tcl_eval.specs.Messages.{too_long};
-ghost use Rattle.tcl_eval.specs.Eval.{ended, error_of, shortened, wrong_words, return_of, raised_of, break_of, continue_of, returned};
+ghost use Rattle.tcl_eval.specs.Eval.{ended, error_of, wrong_words, return_of, raised_of, break_of, continue_of, returned};
 
 use crate::message::{outside_loop, wrong_count};
 use crate::stack::Ended;

@@ -1,6 +1,6 @@
 //! The words of commands.
 
-ghost use Rattle.std.specs.Prelude.{◌≡◌, ◌∷◌, ◌<◌, ◌^◌, ◌*◌, ◌++◌, IfOk, OnOk, drop, length, sum_by, slice_index_or, []};
+ghost use Rattle.std.specs.Prelude.{◌≡◌, ◌∷◌, ◌<◌, ◌++◌, IfOk, OnOk, drop, []};
 ghost use Rattle.tcl_eval.specs.Eval.{command_cost, word_at, joined};
 
 use std::alloc::Global;

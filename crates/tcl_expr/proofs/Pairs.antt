@@ -25,7 +25,7 @@ use Rattle.tcl_expr.proofs.Behind.{Clean, Leaves, trim_clean, trim_suffix, trim_
 use Rattle.tcl_expr.proofs.OpenOperands.{front_le}
 use Rattle.tcl_expr.proofs.OpenLevels.{End, stops, breaks, end_of, Row, row_bad, row_ends, row_goes, row_level, level_row}
 use Rattle.tcl_expr.proofs.Suffixes as suffixes
-use Rattle.tcl_expr.proofs.Suffixes.{Suffix, suffix_all, suffix_trans, suffix_cons, suffix_drop, suffix_if, overlap, NotLine, Good}
+use Rattle.tcl_expr.proofs.Suffixes.{Suffix, suffix_all, suffix_trans, suffix_cons, suffix_drop, overlap, NotLine, Good}
 
 -- where so much is left, no newline stands behind a backslash
 abbrev pub NotPair : List ℕ → ℕ → Type 0

@@ -3,7 +3,7 @@
 ghost use Rattle.std.specs.Prelude.{◌≡◌, ◌<◌, ◌≤◌, length, IfSome};
 ghost use Rattle.std.specs.Option.{option_map};
 ghost use Rattle.txt_core.specs.Number.{is_space, trimmed_front};
-ghost use Rattle.tcl_expr.specs.Tokens.{double, single, sign, level, Binds, operator_at, next_operator, next_sign, next_question, next_colon, is_half, stuck};
+ghost use Rattle.tcl_expr.specs.Tokens.{double, single, sign, level, Binds, operator_at, next_operator, next_sign, next_question, next_colon, stuck};
 
 use crate::operator::Op;
 

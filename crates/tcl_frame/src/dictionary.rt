@@ -20,7 +20,6 @@ pub struct Dictionary<V> {
 }
 
 impl<V> Model for Dictionary<V> {
-    ghost use Rattle.std.specs.Prelude.{ℕ, List};
     ghost use Rattle.std.specs.Ordering.{nat_cmp};
     ghost use Rattle.std.specs.Cmp.Lexicographic.{slice_cmp};
     ghost use Rattle.std.specs.Coded.{coded_list, coded_ℕ};

@@ -2,7 +2,7 @@
 
 ghost use Rattle.std.specs.Prelude.{◌≡◌};
 ghost use Rattle.tcl_frame.specs.Findings.{found_seen};
-ghost use Rattle.tcl_frame.specs.Meaning.{is_there, is_array_there, no_read, no_write, no_removal, no_array};
+ghost use Rattle.tcl_frame.specs.Meaning.{is_there, is_array_there, no_write, no_removal, no_array};
 
 use crate::fault::VarFault;
 use crate::variable::Elements;

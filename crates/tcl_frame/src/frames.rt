@@ -1,9 +1,9 @@
 //! The variables of an interpreter.
 
-ghost use Rattle.std.specs.Prelude.{◌≡◌, ◌<◌, ◌↔◌, IfOk, OnOk, OnErr, length, false};
+ghost use Rattle.std.specs.Prelude.{◌≡◌, ◌<◌, IfOk, OnOk, OnErr, length, false};
 ghost use Rattle.std.specs.FinMap as map;
 ghost use Rattle.tcl_frame.specs.Names.{named, is_element};
-ghost use Rattle.tcl_frame.specs.Frames.{fresh, pushed, popped, links_name, table_of, has, is_array, elements_of, read_of, read_fault, write_fault, remove_fault, array_fault, link_fault, written, removed, pairs_written, linked};
+ghost use Rattle.tcl_frame.specs.Frames.{fresh, pushed, popped, table_of, has, is_array, elements_of, read_of, read_fault, write_fault, remove_fault, array_fault, link_fault, written, removed, pairs_written, linked};
 ghost use Rattle.tcl_frame.specs.Refusal.{IsRefusedFor};
 
 use crate::fault::VarFault;

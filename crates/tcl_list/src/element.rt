@@ -1,6 +1,6 @@
 //! The bytes of elements.
 
-ghost use Rattle.std.specs.Prelude.{◌≡◌, ◌<◌, ◌≤◌, Bool, true, false, length, IfOk, IfSome};
+ghost use Rattle.std.specs.Prelude.{◌≡◌, ◌<◌, ◌≤◌, true, false, length, IfOk, IfSome};
 ghost use Rattle.std.specs.Option.{option_map};
 ghost use Rattle.txt_core.specs.Counting.{braced};
 ghost use Rattle.txt_core.specs.Lists.{ends_element, next, BytesAt};

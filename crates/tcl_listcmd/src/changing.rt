@@ -1,6 +1,6 @@
 //! `linsert` and `lreplace`.
 
-ghost use Rattle.std.specs.Prelude.{◌≡◌, ◌<◌, length, codes, Ok, pos};
+ghost use Rattle.std.specs.Prelude.{◌<◌, length, codes, Ok};
 ghost use Rattle.txt_core.specs.Quoting.{quoting};
 ghost use Rattle.natives.specs.Answers.{Answers};
 ghost use Rattle.natives.specs.Lists.{put_before, replaced, linsert_in, linsert_reply, lreplace_in, lreplace_reply};

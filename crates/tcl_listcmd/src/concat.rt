@@ -1,6 +1,6 @@
 //! `concat`.
 
-ghost use Rattle.std.specs.Prelude.{◌≡◌, ◌<◌, ◌++◌, length, map, OnOk, codes};
+ghost use Rattle.std.specs.Prelude.{◌≡◌, ◌<◌, length, map, OnOk, codes};
 ghost use Rattle.txt_core.specs.Number.{trimmed};
 ghost use Rattle.natives.specs.Answers.{Answers};
 ghost use Rattle.natives.specs.Lists.{concat_reply};

@@ -1,6 +1,6 @@
 //! `list`, `llength`, `lindex` and `lrange`.
 
-ghost use Rattle.std.specs.Prelude.{◌≡◌, ◌<◌, ℕ, length, codes, decimal, Ok, [], unwrap_or};
+ghost use Rattle.std.specs.Prelude.{◌≡◌, ◌<◌, length, codes, decimal, Ok, [], unwrap_or};
 ghost use Rattle.std.specs.Option.{option_copied};
 ghost use Rattle.txt_core.specs.Quoting.{quoting};
 ghost use Rattle.natives.specs.Answers.{Answers};

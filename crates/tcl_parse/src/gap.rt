@@ -1,6 +1,6 @@
 //! What stands between words and between commands.
 
-ghost use Rattle.std.specs.Prelude.{[], Bool, ◌≡◌, ◌≤◌, true, false, IsTrue, ◌↔◌, length};
+ghost use Rattle.std.specs.Prelude.{[], Bool, ◌≡◌, ◌≤◌, true, false, length};
 ghost use Rattle.tcl_parse.specs.Bytes.{is_blank};
 ghost use Rattle.tcl_parse.specs.Gaps.{skip, skip_blanks, between, comment, at_end, ends_word};
 

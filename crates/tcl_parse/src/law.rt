@@ -1,9 +1,9 @@
 //! What holds of the rules themselves.
 
-ghost use Rattle.std.specs.Prelude.{◌≡◌, ℕ, ◌+◌, List, [], length, ◌⊎◌};
+ghost use Rattle.std.specs.Prelude.{◌≡◌, ℕ, List, ◌⊎◌};
 ghost use Rattle.tcl_parse.specs.declared.fault.Kind.{Kind};
 ghost use Rattle.tcl_parse.specs.Tree.{Script};
-ghost use Rattle.tcl_parse.specs.Outcome.{Outcome, done, fault};
+ghost use Rattle.tcl_parse.specs.Outcome.{Outcome};
 ghost use Rattle.tcl_parse.specs.Grammar.{Reads};
 ghost use Rattle.tcl_parse.specs.Reading.{reading, Spells, HasFault};
 ghost use Rattle.tcl_parse.specs.Canonical.{IsCanonical};

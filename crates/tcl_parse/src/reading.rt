@@ -1,9 +1,8 @@
 //! Reading from left to right.
 
-ghost use Rattle.std.specs.Prelude.{◌≡◌, ◌+◌, ◌<◌, ◌≤◌, Bool, ℕ, true, false, map, length, drop, [], IfOk, IfSome};
+ghost use Rattle.std.specs.Prelude.{◌≡◌, ◌+◌, ◌<◌, ◌≤◌, ℕ, true, false, map, length, [], IfOk, IfSome};
 ghost use Rattle.tcl_parse.specs.Gaps.{skip, between, at_end, ends_word};
-ghost use Rattle.tcl_parse.specs.Braces.{BracedAt};
-ghost use Rattle.tcl_parse.specs.Outcome.{Outcome, Gives, GivesAny};
+ghost use Rattle.tcl_parse.specs.Outcome.{Gives, GivesAny};
 ghost use Rattle.tcl_parse.specs.View.{part_of, word_of, command_of, script_of};
 ghost use Rattle.tcl_parse.specs.Steps.{stops};
 ghost use Rattle.tcl_parse.specs.Grammar.{InBracket, InIndex, PartIs, PartsAt, SubstitutedAt, EnclosedAt, WordAt, WordsAt, ScriptAt};

@@ -1,6 +1,6 @@
 //! What comes next in a word.
 
-ghost use Rattle.std.specs.Prelude.{◌≡◌, ◌<◌, ◌≤◌, ◌+◌, length};
+ghost use Rattle.std.specs.Prelude.{◌≡◌, ◌<◌, ◌+◌, length};
 ghost use Rattle.txt_core.specs.Escape.{escape_of};
 ghost use Rattle.tcl_parse.specs.Steps.{bytes, stops, behind_dollar, step_at, next};
 ghost use Rattle.tcl_parse.specs.Answers.{mode_of, step_of, IsShorter};

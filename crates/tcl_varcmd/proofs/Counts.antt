@@ -1,5 +1,5 @@
 -- Numbers of words, lengths and names.
-use Rattle.std.proofs.Common.{◌≡◌, ◌<◌, ◌≤◌, ℕ, List, length, true, false, Option, Some, None, refl, arith}
+use Rattle.std.proofs.Common.{◌≡◌, ◌≤◌, ℕ, List, length, true, false, Some, None, refl, arith}
 use Rattle.std.specs.Bool.{nat_lt}
 use Rattle.std.specs.Prelude.{codes}
 use Rattle.tcl_frame.specs.Stack.{Stack}

@@ -1,9 +1,9 @@
 -- How an answer follows from the answers of the checks before it.
-use Rattle.std.proofs.Common.{◌≡◌, ℕ, List, Option, Some, None, Result, Ok, Err, refl, sym, ◌∙◌, ap}
+use Rattle.std.proofs.Common.{◌≡◌, ℕ, List, Option, None, Result, Err, refl, ◌∙◌}
 use Rattle.tcl_frame.specs.Stack.{Stack}
 use Rattle.tcl_varcmd.specs.declared.fault.Fault.{Fault}
 use Rattle.tcl_varcmd.specs.declared.fault.Fault.TheVariants.{Error, NoMemory}
-use Rattle.tcl_varcmd.specs.Answers.{Came, gives, fails, unless, IsAnswer, Answers, Tried, Changes, Says}
+use Rattle.tcl_varcmd.specs.Answers.{Came, unless, Answers, Tried, Changes, Says}
 
 -- a check that says its error
 pub tried_said : {A : Type 0} (P : A → Type 0) (error message : Option (List ℕ)) (x : Fault) → error ≡ message → Says message x → Tried error P (Err x)

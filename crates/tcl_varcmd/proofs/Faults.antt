@@ -1,5 +1,5 @@
 -- Faults of variables as errors with their texts.
-use Rattle.std.proofs.Common.{◌≡◌, ℕ, List, [], Option, Some, None, Result, Ok, Err, refl, sym, ◌∙◌, ap}
+use Rattle.std.proofs.Common.{◌≡◌, ℕ, List, Option, Some, None, Result, Ok, Err, refl, ◌∙◌, ap}
 use Rattle.tcl_frame.specs.declared.fault.VarFault.{VarFault}
 use Rattle.tcl_frame.specs.declared.fault.VarFault.TheVariants as faults
 use Rattle.tcl_frame.specs.Stack.{Stack}

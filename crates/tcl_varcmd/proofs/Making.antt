@@ -1,5 +1,5 @@
 -- Arrays that are made, removed and written.
-use Rattle.std.proofs.Common.{◌≡◌, ◌%◌, ℕ, Bool, true, false, List, [], ◌∷◌, length, Option, Some, None, Result, Ok, Err, refl, sym, ◌∙◌, ap}
+use Rattle.std.proofs.Common.{◌≡◌, ◌%◌, ℕ, true, false, List, length, Option, Some, None, Err, refl, ap}
 use Rattle.std.specs.Prelude.{codes, ◌==◌}
 use Rattle.std.specs.FinMap as map
 use Rattle.txt_core.specs.Lists.{Listing, elements, bad_at}
@@ -11,7 +11,7 @@ use Rattle.tcl_frame.specs.Names.{Named, Whole, Element, named, is_element}
 use Rattle.tcl_frame.specs.Variables.{Table}
 use Rattle.tcl_frame.specs.Meaning.{Found, Nothing, Value, AnArray, InScalar, found, whole, is_there, is_array_there, no_array, no_removal}
 use Rattle.tcl_frame.specs.Stack.{Stack}
-use Rattle.tcl_frame.specs.Frames.{table_of, found_in, has, is_array, array_fault}
+use Rattle.tcl_frame.specs.Frames.{table_of, found_in, has, is_array}
 use Rattle.tcl_frame.specs.Names.{variable_name}
 use Rattle.tcl_varcmd.specs.declared.fault.Fault.{Fault}
 use Rattle.tcl_varcmd.specs.declared.fault.Fault.TheVariants.{Error, NoMemory}

@@ -1,5 +1,5 @@
 -- Numbers and lists.
-use Rattle.std.proofs.Common.{◌≡◌, ◌^◌, ◌<◌, ℕ, ℤ, pos, negsuc, Bool, true, false, List, Option, Some, None, Err, arith, refl, sym, ◌∙◌, ap}
+use Rattle.std.proofs.Common.{◌≡◌, ◌^◌, ◌<◌, ℕ, ℤ, pos, negsuc, true, false, List, Option, Some, None, Err, arith, refl, sym, ◌∙◌, ap}
 use Rattle.std.specs.Bool.{nat_lt}
 use Rattle.std.specs.Option.{unwrap_or}
 use Rattle.std.specs.Int.{w64}
@@ -13,9 +13,9 @@ use Rattle.tcl_varcmd.specs.declared.fault.Fault.TheVariants.{Error, NoMemory}
 use Rattle.tcl_varcmd.specs.Answers.{Tried}
 use Rattle.tcl_varcmd.specs.Reading.{SaysOfList}
 use Rattle.txt_core.specs.Number.{number}
-use Rattle.txt_core.specs.Lists.{elements, bad_at}
+use Rattle.txt_core.specs.Lists.{elements}
 use Rattle.txt_core.specs.Listing.{listing}
-use Rattle.tcl_varcmd.specs.Texts.{no_integer, no_list, overflow}
+use Rattle.tcl_varcmd.specs.Texts.{no_integer, overflow}
 use Rattle.tcl_varcmd.specs.Errors.{no_number, integer_error, integer, bad_list, list_error, listed, items, fits, sum_error}
 
 pub some_number : (t : List ℕ) (n : ℤ) → Some n ≡ number t → (integer_error t ≡ None) × (n ≡ integer t)

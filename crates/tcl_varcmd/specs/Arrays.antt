@@ -1,5 +1,5 @@
 -- The commands on arrays, and `info exists`.
-use Rattle.std.specs.Prelude.{ℕ, ◌%◌, ◌==◌, Bool, true, false, List, [], ◌∷◌, ◌++◌, length, map, filter, slice_get, Option, Some, None, if◌then◌else◌, codes, decimal, bytes_eq}
+use Rattle.std.specs.Prelude.{ℕ, ◌%◌, ◌==◌, Bool, true, false, List, [], ◌∷◌, length, map, filter, slice_get, Option, Some, None, if◌then◌else◌, codes, decimal, bytes_eq}
 use Rattle.std.specs.FinMap as finite
 use Rattle.txt_core.specs.Lists.{Listing, elements, bad_at}
 use Rattle.txt_core.specs.Listing.{listing}

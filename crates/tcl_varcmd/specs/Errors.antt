@@ -1,5 +1,5 @@
 -- The checks of commands: each gives the text of its error, where it finds one.
-use Rattle.std.specs.Prelude.{ℕ, nat_lt, Bool, List, [], ◌++◌, length, ℤ, pos, negsuc, ◌+ℤ◌, Option, Some, None, if◌then◌else◌, codes, option_and_then, unwrap_or, ◌^◌}
+use Rattle.std.specs.Prelude.{ℕ, nat_lt, Bool, List, [], length, ℤ, pos, negsuc, Option, Some, None, if◌then◌else◌, codes, unwrap_or, ◌^◌}
 use Rattle.txt_core.specs.Number.{number}
 use Rattle.txt_core.specs.Lists.{Listing, elements, bad_at}
 use Rattle.txt_core.specs.Listing.{listing}

@@ -4,7 +4,7 @@ use Rattle.std.specs.Fmt.{signed_decimal}
 use Rattle.txt_core.specs.Quoting.{quoting}
 use Rattle.tcl_frame.specs.Stack.{Stack}
 use Rattle.tcl_frame.specs.Frames.{read_of, written, removed, linked}
-use Rattle.tcl_varcmd.specs.Answers.{Came, gives, fails, unless}
+use Rattle.tcl_varcmd.specs.Answers.{Came, gives, unless}
 use Rattle.tcl_varcmd.specs.Errors.{read_error, write_error, remove_error, global_error, count_error, least_error, integer_error, integer, sum_error, list_error, items, long_error}
 
 -- the word at a place, counted from the command's name at 0

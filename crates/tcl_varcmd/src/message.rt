@@ -2,7 +2,7 @@
 
 ghost use Rattle.std.specs.Prelude.{◌≡◌, ◌↔◌, ◌<◌, ◌≤◌, ◌++◌, nat_lt, length, IfOk, IsTrue, Some, codes};
 ghost use Rattle.tcl_varcmd.specs.Answers.{Says, Tried};
-ghost use Rattle.tcl_varcmd.specs.Texts.{naming, wrong_words, fault_text, bad_value, unknown_subcommand, overflow, too_long};
+ghost use Rattle.tcl_varcmd.specs.Texts.{naming, wrong_words, fault_text, bad_value, unknown_subcommand, too_long};
 ghost use Rattle.tcl_varcmd.specs.Errors.{count_error, least_error, is_long};
 
 use crate::fault::Fault;

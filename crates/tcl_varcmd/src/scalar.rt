@@ -1,6 +1,6 @@
 //! The commands that read or write one variable.
 
-ghost use Rattle.std.specs.Prelude.{◌≡◌, ◌<◌, ◌++◌, length, IfOk, OnOk};
+ghost use Rattle.std.specs.Prelude.{◌≡◌, ◌<◌, ◌++◌, length, OnOk};
 ghost use Rattle.std.specs.Option.{option_copied};
 ghost use Rattle.tcl_varcmd.specs.Answers.{Answers, IfNoMemory, Tried};
 ghost use Rattle.tcl_varcmd.specs.Scalars.{word, stored, set_to, set_came, step_error, step_of, incr_by, incr_came, joined, append_to, append_came, lappend_to, lappend_came};

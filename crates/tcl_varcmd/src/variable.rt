@@ -1,6 +1,6 @@
 //! Calls on variables, whose refusals are errors with their texts.
 
-ghost use Rattle.std.specs.Prelude.{◌≡◌, [], length, false};
+ghost use Rattle.std.specs.Prelude.{◌≡◌, length, false};
 ghost use Rattle.tcl_frame.specs.Names.{named, is_element};
 ghost use Rattle.tcl_frame.specs.Frames.{read_of, link_fault, written, removed, pairs_written, linked};
 ghost use Rattle.tcl_varcmd.specs.Answers.{Tried, Changes};

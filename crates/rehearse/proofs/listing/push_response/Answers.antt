@@ -1,4 +1,4 @@
-use Rattle.std.proofs.Common.{◌≡◌, ◌++◌, List, ℕ, codes, decimal, length}
+use Rattle.std.proofs.Common.{◌++◌, List, ℕ, codes, decimal, length}
 use Rattle.rehearse.specs.Events.{newline}
 use Rattle.rehearse.proofs.Appending.{put_more}
 use Rattle.rehearse.proofs.listing.push_response.Goals as goal

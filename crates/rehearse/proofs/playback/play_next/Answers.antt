@@ -1,4 +1,4 @@
-use Rattle.std.proofs.Common.{refl, ap}
+use Rattle.std.proofs.Common.{ap}
 use Rattle.natives.specs.Names.{names_of}
 use Rattle.std.specs.Option.{option_copied}
 use Rattle.rehearse.specs.Reading.{event_of}

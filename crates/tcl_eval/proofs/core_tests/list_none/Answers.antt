@@ -1,10 +1,9 @@
-use Rattle.std.proofs.Common.{◌≡◌, ◌∙◌, ap, sym, refl, arith, rules, ℕ, List, [], ◌∷◌, length, drop, Ok, subst}
-use Rattle.std.specs.Prelude.{codes, Result}
+use Rattle.std.proofs.Common.{◌≡◌, ◌∙◌, refl, arith, rules, ℕ, List, [], ◌∷◌, length, Ok}
+use Rattle.std.specs.Prelude.{codes}
 use Rattle.txt_core.specs.Quoting.{quoting}
-use Rattle.natives.specs.Answers.{Answers, limited}
+use Rattle.natives.specs.Answers.{limited}
 use Rattle.natives.specs.Lists.{list_reply}
 use Rattle.natives.specs.Pure.{pure_of, pure_list}
-use Rattle.natives.specs.declared.fault.Fault.{Fault}
 use Rattle.tcl_eval.proofs.core_tests.list_none.Goals as goal
 
 -- one word is the name alone

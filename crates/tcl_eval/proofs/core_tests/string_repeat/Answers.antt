@@ -1,10 +1,10 @@
-use Rattle.std.proofs.Common.{◌≡◌, ◌∙◌, ap, sym, refl, arith, rules, ℕ, List, [], ◌∷◌, length, Err, Bool, true, false}
+use Rattle.std.proofs.Common.{◌≡◌, ◌∙◌, ap, sym, refl, rules, ℕ, List, length, Err, Bool, true, false}
 use Rattle.std.specs.Prelude.{codes, bytes_eq, not}
 use Rattle.std.proofs.lemmas.Slice.Eq.{bytes_eq-Decides}
-use Rattle.natives.specs.Answers.{Reply, Answers, Says, limited}
+use Rattle.natives.specs.Answers.{Answers, Says, limited}
 use Rattle.natives.specs.Texts.{wrong_words}
 use Rattle.natives.specs.Words.{arg}
-use Rattle.natives.specs.Strings.{subcommand_reply, string_reply}
+use Rattle.natives.specs.Strings.{subcommand_reply}
 use Rattle.natives.specs.Pure.{pure_of, pure_string}
 use Rattle.natives.specs.declared.fault.Fault.{Fault}
 use Rattle.natives.specs.declared.fault.Fault.TheVariants.{Error, NoMemory}

@@ -1,6 +1,5 @@
-use Rattle.std.proofs.Common.{◌≡◌, ◌∙◌, ◌%◌, sym, refl, ap, subst, None, Some, Err, Option, List, ℕ, ◌∷◌, length, true, false}
+use Rattle.std.proofs.Common.{◌∙◌, sym, Some, true, false}
 use Rattle.std.specs.Prelude.{codes}
-use Rattle.tcl_frame.specs.Names.{named, is_element}
 use Rattle.tcl_varcmd.specs.Texts.{naming}
 use Rattle.tcl_varcmd.specs.Errors.{array_error}
 use Rattle.tcl_varcmd.proofs.Exits.{tried_said}

@@ -1,4 +1,4 @@
-use Rattle.std.proofs.Common.{◌≡◌, ◌∙◌, ◌%◌, sym, refl, ap, subst, None, Some, Err, Option, List, ℕ, ◌∷◌, length, true, false}
+use Rattle.std.proofs.Common.{◌≡◌, ◌∙◌, ◌%◌, sym, ap, subst, Some, List, ℕ, length, true, false}
 use Rattle.std.specs.Prelude.{codes, ◌==◌}
 use Rattle.std.proofs.lemmas.Result.{err_from_is_err_and}
 use Rattle.tcl_varcmd.specs.Answers.{Says}

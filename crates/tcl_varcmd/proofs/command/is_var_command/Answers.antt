@@ -1,4 +1,4 @@
-use Rattle.std.proofs.Common.{◌≡◌, ◌∙◌, ap, Option}
+use Rattle.std.proofs.Common.{◌∙◌, ap, Option}
 use Rattle.tcl_varcmd.specs.declared.command.Command.{Command}
 use Rattle.tcl_varcmd.specs.Commands.{goes_on, begins_var_command}
 use Rattle.tcl_varcmd.proofs.command.is_var_command.Goals as goal

@@ -1,5 +1,4 @@
-use Rattle.std.proofs.Common.{◌≡◌, ◌≤◌, ◌∙◌, sym, refl, ap, subst, None, Some, List, ℕ, length, arith, rules, true, false}
-use Rattle.std.specs.Bool.{nat_lt}
+use Rattle.std.proofs.Common.{◌≤◌, ◌∙◌, sym, Some, length, true, false}
 use Rattle.tcl_varcmd.specs.Texts.{wrong_words}
 use Rattle.tcl_varcmd.specs.Errors.{least_error}
 use Rattle.tcl_varcmd.proofs.Exits.{tried_said}

@@ -1,4 +1,4 @@
-use Rattle.std.proofs.Common.{◌≡◌, ◌∙◌, sym, refl, ap, subst, Some, Option, List, ℕ}
+use Rattle.std.proofs.Common.{◌∙◌, sym, refl, subst, Some, Option, List, ℕ}
 use Rattle.std.specs.Prelude.{codes}
 use Rattle.tcl_frame.specs.Frames.{linked}
 use Rattle.tcl_varcmd.specs.Answers.{Says, Changes}

@@ -1,6 +1,5 @@
-use Rattle.std.proofs.Common.{◌≡◌, ◌∙◌, sym, refl, ap, None, Some, Ok, Err, List, ℕ}
+use Rattle.std.proofs.Common.{◌≡◌, ◌∙◌, sym, refl, ap, Some, Ok, Err}
 use Rattle.std.proofs.lemmas.Result.{err_from_is_err_and}
-use Rattle.tcl_frame.specs.Stack.{Stack}
 use Rattle.tcl_frame.specs.Frames.{written}
 use Rattle.tcl_varcmd.specs.Texts.{too_long}
 use Rattle.tcl_varcmd.specs.Errors.{long_error, write_error}

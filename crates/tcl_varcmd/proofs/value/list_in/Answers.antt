@@ -1,4 +1,4 @@
-use Rattle.std.proofs.Common.{◌≡◌, ◌∙◌, sym, refl, ap, subst, None, Some, List, ℕ, ℤ, arith, rules, true, false}
+use Rattle.std.proofs.Common.{◌≡◌, List, ℕ}
 use Rattle.tcl_varcmd.specs.Errors.{items}
 use Rattle.tcl_varcmd.proofs.Values.{is_list, bad_list_said}
 use Rattle.tcl_varcmd.proofs.value.list_in.Goals as goal

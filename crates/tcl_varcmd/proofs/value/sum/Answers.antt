@@ -1,4 +1,4 @@
-use Rattle.std.proofs.Common.{◌≡◌, ◌∙◌, sym, refl, ap, subst, None, Some, List, ℕ, ℤ, ◌+ℤ◌, arith, rules, true, false}
+use Rattle.std.proofs.Common.{◌≡◌, ◌∙◌, sym, subst, Some, ℤ, ◌+ℤ◌}
 use Rattle.std.specs.Int.{w64}
 use Rattle.std.specs.Int.RustNames.{FitsSigned}
 use Rattle.std.proofs.lemmas.Int.{to_z-of_z}

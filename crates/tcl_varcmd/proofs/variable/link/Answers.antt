@@ -1,4 +1,4 @@
-use Rattle.std.proofs.Common.{◌≡◌, ◌∙◌, sym, refl, ap, None, Some, List, ℕ, arith, true, false}
+use Rattle.std.proofs.Common.{ap}
 use Rattle.tcl_frame.specs.Frames.{linked, link_fault}
 use Rattle.tcl_varcmd.specs.Errors.{refused}
 use Rattle.tcl_varcmd.proofs.Faults.{changes_refused}

@@ -1,4 +1,4 @@
-use Rattle.std.proofs.Common.{◌≡◌, ◌∙◌, sym, refl, ap, None, Some, List, ℕ, arith, true, false}
+use Rattle.std.proofs.Common.{◌≡◌, ap, List, ℕ}
 use Rattle.tcl_frame.specs.Frames.{read_of, read_fault}
 use Rattle.tcl_varcmd.specs.Errors.{refused, read_error}
 use Rattle.tcl_varcmd.proofs.Faults.{tried_refused}

@@ -1,4 +1,4 @@
-use Rattle.std.proofs.Common.{◌≡◌, ◌∙◌, sym, refl, ap, None, Some, List, ℕ, arith, true, false}
+use Rattle.std.proofs.Common.{ap, List, ℕ}
 use Rattle.tcl_frame.specs.Names.{named}
 use Rattle.tcl_frame.specs.Frames.{found_in}
 use Rattle.tcl_varcmd.specs.Errors.{refused, write_error}

@@ -1,4 +1,4 @@
-use Rattle.std.proofs.Common.{◌≤◌, ◌+◌, refl, arith}
+use Rattle.std.proofs.Common.{◌≤◌, ◌+◌, arith}
 use Rattle.natives.specs.Names.{names_of}
 use Rattle.rehearse.proofs.Publishing.{refused, has_room, sizes}
 use Rattle.rehearse.proofs.blueprint.Blueprint.publish.Goals as goal

@@ -1,4 +1,3 @@
-use Rattle.std.proofs.Common.{refl}
 use Rattle.natives.specs.Names.{names_of}
 use Rattle.rehearse.proofs.Running.{went_on}
 use Rattle.rehearse.proofs.defining.Run.go_on.Goals as goal
