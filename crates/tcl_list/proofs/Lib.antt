@@ -1,4 +1,5 @@
 pub mod Answering
+pub mod Behind
 pub mod Braces
 pub mod Escapes
 pub mod Laws

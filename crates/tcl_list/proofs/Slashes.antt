@@ -26,7 +26,7 @@ one_more out b t = append_assoc out (b ∷ []) t
 pub two_more : (out : List ℕ) (a b : ℕ) (t : List ℕ) → ((out ++ (a ∷ [])) ++ (b ∷ [])) ++ t ≡ out ++ (a ∷ b ∷ t)
 two_more out a b t = append_assoc (out ++ (a ∷ [])) (b ∷ []) t ∙ append_assoc out (a ∷ []) (b ∷ t)
 
-quote_push : (v : List (List ℕ)) (x y : List ℕ) → quoting ((y ∷ v) ++ (x ∷ [])) ≡ quoting (y ∷ v) ++ (32 ∷ written x)
+pub quote_push : (v : List (List ℕ)) (x y : List ℕ) → quoting ((y ∷ v) ++ (x ∷ [])) ≡ quoting (y ∷ v) ++ (32 ∷ written x)
 unfolding quoting
 quote_push [] x y = refl
 quote_push (z ∷ v) x y = ap (λ (w : List ℕ). written y ++ (32 ∷ w)) (quote_push v x z) ∙ sym (append_assoc (written y) (32 ∷ quoting (z ∷ v)) (32 ∷ written x))

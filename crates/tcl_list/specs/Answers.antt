@@ -1,8 +1,9 @@
 -- What the program answers, in the words of the rules.
-use Rattle.std.specs.Prelude.{◌≡◌, ℕ, ◌+◌, ◌<◌, List, [], ◌∷◌, true, length, Result, Ok, Err}
+use Rattle.std.specs.Prelude.{◌≡◌, ℕ, ◌+◌, ◌<◌, List, [], ◌∷◌, ◌++◌, true, length, Result, Ok, Err}
 use Rattle.txt_core.specs.Forms.{form_of}
 use Rattle.txt_core.specs.Lists.{Outcome, done, bad, Step, ends, bytes, BytesAt, elements, bad_at}
 use Rattle.txt_core.specs.Listing.{close_quote, listing}
+use Rattle.txt_core.specs.Quoting.{quoting}
 use Rattle.tcl_list.specs.declared.fault.Stop.{Stop}
 use Rattle.tcl_list.specs.declared.fault.Stop.TheVariants as stop
 use Rattle.tcl_list.specs.declared.element.Step as code_step
@@ -15,6 +16,13 @@ abbrev pub SplitsAs : List ℕ → Result (List (List ℕ)) ListFault → Type 0
 SplitsAs t (Ok v) = listing t ≡ elements v
 SplitsAs t (Err (list_fault.Bad at)) = listing t ≡ bad_at at
 SplitsAs t (Err list_fault.NoMemory) = Unit {0}
+
+-- What append_elements answers: the text of the list's elements and, behind them, of these, or the place where the list
+-- is bad. Want of memory is free.
+abbrev pub AppendsTo : List ℕ → List (List ℕ) → Result (List ℕ) ListFault → Type 0
+AppendsTo t v (Ok out) = (w : List (List ℕ)) × (listing t ≡ elements w) × (out ≡ quoting (w ++ v))
+AppendsTo t v (Err (list_fault.Bad at)) = listing t ≡ bad_at at
+AppendsTo t v (Err list_fault.NoMemory) = Unit {0}
 
 -- a step of the program, as one of the rules
 abbrev pub step_of : code_step.Step → Step

@@ -1,6 +1,7 @@
 //! Why a text is no list.
 
 ghost use Rattle.std.specs.Prelude.{◌≡◌};
+ghost use Rattle.tcl_list.specs.declared.fault.ListFault.TheVariants as list_fault;
 ghost use Rattle.tcl_list.specs.declared.fault.Stop.TheVariants.{Memory};
 
 use std::alloc::{AllocError, AllocFailed};
@@ -14,6 +15,14 @@ pub enum ListFault {
     Bad { at: u64 },
     /// Memory ran out.
     NoMemory,
+}
+
+impl From<NoMemory> for ListFault {
+    ghost from_gives = { λ _ e. e ≡ list_fault.NoMemory };
+
+    fn from(_e: NoMemory) -> ListFault {
+        ListFault::NoMemory
+    }
 }
 
 /// Why reading stops early.

@@ -1,6 +1,7 @@
 //! Lists as texts: a text is split into its elements, and elements are quoted into a text.
 #![tactic(auto)]
 
+mod appending;
 mod element;
 mod fault;
 mod gap;
@@ -10,6 +11,7 @@ mod splitting;
 mod tests;
 mod writing;
 
+pub use appending::append_elements;
 pub use fault::ListFault;
 pub use law::{one_answer, one_listing, one_writing, quote_splits};
 pub use splitting::split;

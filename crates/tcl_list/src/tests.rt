@@ -1,4 +1,4 @@
-use super::{ListFault, quote, split};
+use super::{ListFault, append_elements, quote, split};
 use std::alloc::Global;
 use std::process::Abort;
 use std::test::Fail;
@@ -157,5 +157,84 @@ fn ten_thousand(rt: HostRuntime) -> Result<(), Fail> {
     let text = quote(alloc, &words)?;
     assert_eq!(rt; text.len(), 2000 * 22 - 1);
     assert_eq!(rt; ended(alloc, text.bytes())? == all, true);
+    Ok(())
+}
+
+/// The list with the elements that each end at a bar behind its own.
+fn appended(alloc: Global, list: &[u8], ended: &[u8]) -> Result<Vec<u8>, Fail> {
+    let words = words_of(alloc, ended)?;
+    let text = append_elements(alloc, Text::new(alloc, list)?, words.as_slice())?;
+    Ok(Vec::from_slice(alloc, text.bytes())?)
+}
+
+#[test]
+fn elements_behind_a_list(rt: HostRuntime) -> Result<(), Fail> {
+    let alloc = rt.alloc();
+    let rows: [(&[u8], &[u8], &[u8]); 26] = [
+        (b"", b"", b""),
+        (b"", b"a|b c|", b"a {b c}"),
+        (b"", b"|", b"{}"),
+        (b"{}", b"|", b"{} {}"),
+        (b" \t\n", b"a|", b"a"),
+        (b"a", b"", b"a"),
+        (b"a", b"b|", b"a b"),
+        (b"a b", b"#|{|c$d|", b"a b {#} \\{ {c$d}"),
+        (b"{a b} c", b"d e|", b"{a b} c {d e}"),
+        (b"{a {b c} d} {\\}}", b"e|", b"{a {b c} d} {\\}} e"),
+        (b"a b  c", b"", b"a b c"),
+        (b"a  b", b"c|", b"a b c"),
+        (b" a", b"b|", b"a b"),
+        (b"a ", b"b|", b"a b"),
+        (b"a\tb", b"c|", b"a b c"),
+        (b"{a b}\n{c d}", b"e|", b"{a b} {c d} e"),
+        (b"{a}", b"b|", b"a b"),
+        (b"{a b} {c}", b"d|", b"{a b} c d"),
+        (b"a\\ b", b"c|", b"{a b} c"),
+        (b"\\{ a", b"b|", b"\\{ a b"),
+        (b"{a\\\nb}", b"c|", b"a\\\\\\nb c"),
+        (b"#", b"a|", b"{#} a"),
+        (b"{#} a", b"b|", b"{#} a b"),
+        (b"a #b", b"c|", b"a {#b} c"),
+        (b"a \"b c\"", b"d|", b"a {b c} d"),
+        (b"a$b", b"c|", b"{a$b} c"),
+    ];
+    for (list, words, want) in rows {
+        assert_eq!(rt; appended(alloc, list, words)?.as_slice(), want);
+    }
+    Ok(())
+}
+
+#[test]
+fn nothing_behind_a_bad_list(rt: HostRuntime) -> Result<(), Fail> {
+    let alloc = rt.alloc();
+    let rows: [(&[u8], u64); 6] = [
+        (b"{a", 0),
+        (b"{a}b", 3),
+        (b"{a b}{c d}", 5),
+        (b"a {b c}d", 7),
+        (b"a b {c", 4),
+        (b"a \"b", 2),
+    ];
+    for (list, at) in rows {
+        let place = match append_elements(alloc, Text::new(alloc, list)?, &[]) {
+            Ok(_text) => None,
+            Err(ListFault::Bad { at }) => Some(at),
+            Err(ListFault::NoMemory) => Some(u64::MAX),
+        };
+        assert_eq!(rt; place, Some(at));
+    }
+    Ok(())
+}
+
+#[test]
+fn ten_thousand_one_by_one(rt: HostRuntime) -> Result<(), Fail> {
+    let alloc = rt.alloc();
+    let words = words_of(alloc, b"a b|")?;
+    let mut list = Text::new(alloc, b"c")?;
+    for _ in 0..10000 {
+        list = append_elements(alloc, list, words.as_slice())?;
+    }
+    assert_eq!(rt; list.len(), 1 + 10000 * 6);
+    assert_eq!(rt; split(alloc, &list)?.len(), 10001);
     Ok(())
 }

@@ -27,7 +27,7 @@ pub(crate) enum Manner {
 /// How an element is written, found in one pass over its bytes: whether one of them keeps it from
 /// standing as itself, and whether it could stand in braces.
 #[tactic(auto, unfolding(txt_core::specs::Counting::balances))]
-fn manner_of(text: &[u8]) -> Manner
+pub(crate) fn manner_of(text: &[u8]) -> Manner
     ensures { written text.now ≡ written_by result text.now }
 {
     let mut plain = text.first().is_some_and(|b| *b != b'#');
@@ -110,7 +110,7 @@ fn put_escaped(out: &mut Vec<u8>, text: &[u8]) -> Result<(), AllocError>
 }
 
 /// Writes an element.
-fn put_element(out: &mut Vec<u8>, text: &[u8]) -> Result<(), AllocError>
+pub(crate) fn put_element(out: &mut Vec<u8>, text: &[u8]) -> Result<(), AllocError>
     ensures { OnOk result (out.new.items ≡ out.old.items ++ written text.now) }
 {
     match manner_of(text) {

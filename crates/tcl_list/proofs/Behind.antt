@@ -1,0 +1,56 @@
+-- A list that is kept as it is written, and elements behind it.
+use Rattle.std.proofs.Common.{◌≡◌, ◌<◌, ◌+◌, ℕ, List, [], ◌∷◌, ◌++◌, length, take, drop, get_or, Ok, refl, ap, sym, ◌∙◌, subst, arith, append_assoc, append-nil}
+use Rattle.std.proofs.lemmas.List.{take-append-drop, drop_more}
+use Rattle.txt_core.specs.Lists.{elements}
+use Rattle.txt_core.specs.Listing.{listing}
+use Rattle.txt_core.specs.Quoting.{written, quoting}
+use Rattle.tcl_list.specs.Answers.{AppendsTo}
+use Rattle.tcl_list.specs.Appending.{Begins, IsWritten, behind}
+use Rattle.tcl_list.proofs.Quoting.{listing_quoting}
+use Rattle.tcl_list.proofs.Slashes.{quote_push}
+
+-- a text, cut round the byte at a place
+cut_at : (t : List ℕ) (i b : ℕ) → i < length t → get_or t i 0 ≡ b → t ≡ take i t ++ (b ∷ drop (i + 1) t)
+cut_at t i b lt e = sym (take-append-drop i t) ∙ ap (λ (u : List ℕ). take i t ++ u) (drop_more t i 0 lt ∙ ap (λ (c : ℕ). c ∷ drop (i + 1) t) e)
+
+-- an element in braces, up to the brace that closes it
+pub braces_begin : (t x rest : List ℕ) (i : ℕ) → i < length t → get_or t i 0 ≡ 125 → x ≡ take i t → rest ≡ drop (i + 1) t → written x ≡ 123 ∷ (x ++ (125 ∷ [])) → Begins (123 ∷ t) rest
+braces_begin t x rest i lt e ex er w =
+    let cut : t ≡ x ++ (125 ∷ rest) = cut_at t i 125 lt e ∙ (rw (ex, er) refl) in
+    (x, ap (λ (u : List ℕ). 123 ∷ u) (cut ∙ sym (append_assoc x (125 ∷ []) rest)) ∙ ap (λ (u : List ℕ). u ++ rest) (sym w))
+
+-- an element that is written as itself
+pub plain_begins : (t x rest : List ℕ) → t ≡ x ++ rest → written x ≡ x → Begins t rest
+plain_begins t x rest e w = (x, e ∙ ap (λ (u : List ℕ). u ++ rest) (sym w))
+
+-- an element with nothing behind it is a list
+pub last_element : (t rest : List ℕ) → Begins t rest → length rest ≡ 0 → IsWritten t
+unfolding quoting
+last_element t [] h none = (h.0, [], sym (h.1 ∙ append-nil (written h.0)))
+last_element t (b ∷ rest) h none = absurd (omega arith)
+
+-- an element in front of a list, with a space between
+pub more_elements : (t after : List ℕ) → Begins t (32 ∷ after) → IsWritten after → IsWritten t
+unfolding quoting
+more_elements t after h w = (h.0, w.0 ∷ w.1, ap (λ (u : List ℕ). written h.0 ++ (32 ∷ u)) w.2 ∙ sym h.1)
+
+-- what stands in front of elements stays there
+pub behind_text : (t s : List ℕ) (v : List (List ℕ)) → behind (t ++ s) v ≡ t ++ behind s v
+behind_text t s [] = refl
+behind_text t s (x ∷ v) = ap (λ (u : List ℕ). behind u v) (append_assoc t s (32 ∷ written x)) ∙ behind_text t (s ++ (32 ∷ written x)) v
+
+pub behind_list : (t : List ℕ) (v : List (List ℕ)) → behind t v ≡ t ++ behind [] v
+behind_list t v = ap (λ (u : List ℕ). behind u v) (sym (append-nil t)) ∙ behind_text t [] v
+
+-- elements behind a list that is written are those of the longer list
+behind_quoting : (y : List ℕ) (w v : List (List ℕ)) → behind (quoting (y ∷ w)) v ≡ quoting ((y ∷ w) ++ v)
+behind_quoting y w [] = ap quoting (sym (append-nil (y ∷ w)))
+behind_quoting y w (x ∷ v) =
+    ap (λ (u : List ℕ). behind u v) (sym (quote_push w x y))
+    ∙ behind_quoting y (w ++ (x ∷ [])) v
+    ∙ ap quoting (append_assoc (y ∷ w) (x ∷ []) v)
+
+pub appends_behind : (t : List ℕ) (v : List (List ℕ)) → IsWritten t → AppendsTo t v (Ok (behind t v))
+appends_behind t v h =
+    let list : List (List ℕ) = h.0 ∷ h.1 in
+    (list, subst (λ u. listing u ≡ elements list) h.2 (listing_quoting list), subst (λ u. behind u v ≡ quoting (list ++ v)) h.2 (behind_quoting h.0 h.1 v))
