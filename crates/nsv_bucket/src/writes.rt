@@ -14,7 +14,7 @@ use crate::message::{bad_list, no_array, no_integer, no_key, refuse, refuse_long
 use crate::question::word;
 use crate::reply::{MOST_BYTES, NsvReply};
 use std::alloc::Global;
-use tcl_list::{ListFault, quote, split};
+use tcl_list::{ListFault, append_elements};
 use txt_core::{NoMemory, Text, Words, read_int, write_int};
 
 /// Stores a value and gives it; one that is too long is refused.
@@ -120,18 +120,6 @@ pub(crate) fn append(
     store(alloc, arrays, word(words, 1), word(words, 2), value)
 }
 
-/// Puts copies of the words from a place on at the end of a list.
-fn push_rest(alloc: Global, list: &mut Words, rest: &[Text]) -> Result<(), NoMemory>
-    ensures { OnOk result (list.new ≡ list.old ++ rest.now) }
-{
-    for word in rest {
-        if list.push(copied(alloc, word)?).is_err() {
-            return Err(NoMemory);
-        }
-    }
-    Ok(())
-}
-
 /// Answers `nsv_lappend`: puts the values as elements behind the list that stands.
 pub(crate) fn lappend(
     alloc: Global,
@@ -144,14 +132,10 @@ pub(crate) fn lappend(
     ensures err { OnErr result (seen arrays.new ≡ seen arrays.old) }
 {
     let old = standing(alloc, arrays, words, b"")?;
-    match split(alloc, &old) {
+    match append_elements(alloc, old, &words.as_slice()[3..]) {
         Err(ListFault::NoMemory) => Err(NoMemory),
         Err(ListFault::Bad { at }) => refuse(alloc, bad_list(alloc, at)?),
-        Ok(mut list) => {
-            push_rest(alloc, &mut list, &words.as_slice()[3..])?;
-            let value = quote(alloc, &list)?;
-            store(alloc, arrays, word(words, 1), word(words, 2), value)
-        }
+        Ok(value) => store(alloc, arrays, word(words, 1), word(words, 2), value),
     }
 }
 

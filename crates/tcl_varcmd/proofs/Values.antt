@@ -1,5 +1,5 @@
 -- Numbers and lists.
-use Rattle.std.proofs.Common.{◌≡◌, ◌^◌, ◌<◌, ℕ, ℤ, pos, negsuc, true, false, List, Option, Some, None, Err, arith, refl, sym, ◌∙◌, ap}
+use Rattle.std.proofs.Common.{◌≡◌, ◌^◌, ◌<◌, ℕ, ℤ, pos, negsuc, true, false, List, ◌++◌, Option, Some, None, Ok, Err, arith, refl, sym, ◌∙◌, ap}
 use Rattle.std.specs.Bool.{nat_lt}
 use Rattle.std.specs.Option.{unwrap_or}
 use Rattle.std.specs.Int.{w64}
@@ -7,7 +7,7 @@ use Rattle.std.specs.Int.RustNames.{FitsSigned}
 use Rattle.std.proofs.lemmas.Bool.Decides.{nat_tests}
 use Rattle.tcl_list.specs.declared.fault.ListFault.{ListFault}
 use Rattle.tcl_list.specs.declared.fault.ListFault.TheVariants as list_faults
-use Rattle.tcl_list.specs.Answers.{SplitsAs}
+use Rattle.tcl_list.specs.Answers.{SplitsAs, AppendsTo}
 use Rattle.tcl_varcmd.specs.declared.fault.Fault.{Fault}
 use Rattle.tcl_varcmd.specs.declared.fault.Fault.TheVariants.{Error, NoMemory}
 use Rattle.tcl_varcmd.specs.Answers.{Tried}
@@ -15,6 +15,7 @@ use Rattle.tcl_varcmd.specs.Reading.{SaysOfList}
 use Rattle.txt_core.specs.Number.{number}
 use Rattle.txt_core.specs.Lists.{elements}
 use Rattle.txt_core.specs.Listing.{listing}
+use Rattle.txt_core.specs.Quoting.{quoting}
 use Rattle.tcl_varcmd.specs.Texts.{no_integer, overflow}
 use Rattle.tcl_varcmd.specs.Errors.{no_number, integer_error, integer, bad_list, list_error, listed, items, fits, sum_error}
 
@@ -29,6 +30,18 @@ none_number t h = ap (no_number t) (sym h)
 pub is_list : (t : List ℕ) (v : List (List ℕ)) → listing t ≡ elements v → (list_error t ≡ None) × (v ≡ items t)
 unfolding list_error items
 is_list t v h = (ap bad_list h, ap listed (sym h))
+
+-- elements behind those of a text that is a list
+pub appended : (t : List ℕ) (v : List (List ℕ)) (out : List ℕ) → AppendsTo t v (Ok out) → (list_error t ≡ None) × (out ≡ quoting (items t ++ v))
+unfolding list_error items
+appended t v out h =
+    let is : (list_error t ≡ None) × (h.0 ≡ items t) = is_list t h.0 h.1 in
+    (is.0, h.2 ∙ ap (λ (w : List (List ℕ)). quoting (w ++ v)) is.1)
+
+-- what putting elements behind a text says of one that is no list, splitting it says too
+pub bad_to_append : (t : List ℕ) (v : List (List ℕ)) (f : ListFault) → AppendsTo t v (Err f) → SplitsAs t (Err f)
+bad_to_append t v (list_faults.Bad at) h = h
+bad_to_append t v list_faults.NoMemory h = tt
 
 -- the error of a text that is no list
 pub bad_list_said : {B : Type 0} (P : B → Type 0) (t : List ℕ) (f : ListFault) (x : Fault) → SplitsAs t (Err f) → SaysOfList f x → Tried (list_error t) P (Err x)

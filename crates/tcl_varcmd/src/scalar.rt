@@ -1,17 +1,16 @@
 //! The commands that read or write one variable.
 
-ghost use Rattle.std.specs.Prelude.{◌≡◌, ◌<◌, ◌++◌, length, OnOk};
+ghost use Rattle.std.specs.Prelude.{◌≡◌, ◌<◌, length, OnOk};
 ghost use Rattle.std.specs.Option.{option_copied};
 ghost use Rattle.tcl_varcmd.specs.Answers.{Answers, IfNoMemory, Tried};
 ghost use Rattle.tcl_varcmd.specs.Scalars.{word, stored, set_to, set_came, step_error, step_of, incr_by, incr_came, joined, append_to, append_came, lappend_to, lappend_came};
 
 use crate::fault::Fault;
 use crate::message::{check_count, check_least, is_over, over};
-use crate::value::{list_in, number_in, push_copy, sum};
+use crate::value::{number_in, sum, with_elements};
 use crate::variable::{read, read_or_empty, write};
 use std::alloc::Global;
 use tcl_frame::Frames;
-use tcl_list::quote;
 use txt_core::{NoMemory, Text, Words, write_int};
 
 /// The word at a place.
@@ -136,16 +135,6 @@ pub(crate) fn append(alloc: Global, frames: &mut Frames, words: &Words) -> Resul
     append_values(alloc, frames, word_at(words, 1), &words.as_slice()[2..])
 }
 
-/// Puts copies of texts at the end of a list.
-fn push_all(alloc: Global, list: &mut Words, values: &[Text]) -> Result<(), NoMemory>
-    ensures { OnOk result (list.new ≡ list.old ++ values.now) }
-{
-    'values: for value in values {
-        push_copy(alloc, list, value)?;
-    }
-    Ok(())
-}
-
 /// Puts values at the end of a variable's list.
 fn lappend_values(
     alloc: Global,
@@ -158,9 +147,7 @@ fn lappend_values(
     ensures depth { length frames.new.above ≡ length frames.old.above }
 {
     let old = read_or_empty(alloc, frames, name)?;
-    let mut list = list_in(alloc, &old)?;
-    push_all(alloc, &mut list, values)?;
-    let value = quote(alloc, &list)?;
+    let value = with_elements(alloc, old, values)?;
     store(alloc, frames, name, value)
 }
 

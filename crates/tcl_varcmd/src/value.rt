@@ -1,6 +1,7 @@
 //! Values as numbers and lists.
 
 ghost use Rattle.std.specs.Prelude.{◌≡◌, ◌++◌, ◌∷◌, [], ◌+ℤ◌, IfOk, OnOk, decimal};
+ghost use Rattle.txt_core.specs.Quoting.{quoting};
 ghost use Rattle.tcl_varcmd.specs.Answers.{Tried};
 ghost use Rattle.tcl_varcmd.specs.Reading.{SaysOfList};
 ghost use Rattle.tcl_varcmd.specs.Errors.{integer_error, integer, sum_error, list_error, items};
@@ -8,7 +9,7 @@ ghost use Rattle.tcl_varcmd.specs.Errors.{integer_error, integer, sum_error, lis
 use crate::fault::Fault;
 use crate::message::{named, plain};
 use std::alloc::Global;
-use tcl_list::{ListFault, split};
+use tcl_list::{ListFault, append_elements, split};
 use txt_core::{NoMemory, Text, Words, read_int};
 
 /// The number that a text is.
@@ -57,6 +58,16 @@ pub(crate) fn list_in(alloc: Global, text: &Text) -> Result<Words, Fault>
 {
     match split(alloc, text) {
         Ok(list) => Ok(list),
+        Err(fault) => Err(bad_list(alloc, fault)),
+    }
+}
+
+/// The text of a list's elements with others behind them.
+pub(crate) fn with_elements(alloc: Global, list: Text, others: &[Text]) -> Result<Text, Fault>
+    ensures { Tried (list_error list) (λ text. text ≡ quoting (items list ++ others.now)) result }
+{
+    match append_elements(alloc, list, others) {
+        Ok(text) => Ok(text),
         Err(fault) => Err(bad_list(alloc, fault)),
     }
 }
