@@ -35,7 +35,7 @@ unfolding quoting
 more_elements t after h w = (h.0, w.0 ∷ w.1, ap (λ (u : List ℕ). written h.0 ++ (32 ∷ u)) w.2 ∙ sym h.1)
 
 -- what stands in front of elements stays there
-pub behind_text : (t s : List ℕ) (v : List (List ℕ)) → behind (t ++ s) v ≡ t ++ behind s v
+behind_text : (t s : List ℕ) (v : List (List ℕ)) → behind (t ++ s) v ≡ t ++ behind s v
 behind_text t s [] = refl
 behind_text t s (x ∷ v) = ap (λ (u : List ℕ). behind u v) (append_assoc t s (32 ∷ written x)) ∙ behind_text t (s ++ (32 ∷ written x)) v
 

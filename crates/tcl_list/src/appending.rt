@@ -27,15 +27,14 @@ fn closing_brace(bytes: &[u8]) -> Option<usize>
 {
     let mut open_now = 0usize;
     let mut taken = false;
-    'bytes: for at in 0..bytes.len() {
-        let b = bytes[at];
+    'bytes: for (at, b) in bytes.iter().enumerate() {
         if taken {
             taken = false;
-        } else if b == b'\\' {
+        } else if *b == b'\\' {
             taken = true;
-        } else if b == b'{' {
+        } else if *b == b'{' {
             open_now += 1;
-        } else if b == b'}' {
+        } else if *b == b'}' {
             if open_now == 0 {
                 return Some(at);
             }
