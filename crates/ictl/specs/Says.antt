@@ -19,7 +19,3 @@ miscounted words = fails (wrong_count (word_at words 0))
 -- a word is no number
 abbrev pub no_number : List ℕ → List ℕ
 no_number word = codes "expected integer but got " ++ quoted word
-
--- a command has no such subcommand
-abbrev pub unknown_subcommand : List ℕ → List ℕ → List ℕ
-unknown_subcommand subcommand name = codes "unknown subcommand " ++ quoted subcommand ++ codes " of " ++ quoted name

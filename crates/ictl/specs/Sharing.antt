@@ -13,10 +13,10 @@ use Rattle.outside.specs.declared.question.Answer.{Answer}
 use Rattle.outside.specs.declared.question.Answer.TheVariants.{Said, Failed, Page, NoPage, PageFault}
 use Rattle.outside.specs.declared.question.Question.{Question}
 use Rattle.outside.specs.declared.question.Service.TheVariants as service
-use Rattle.tcl_eval.specs.Messages.{bad_list}
+use Rattle.tcl_eval.specs.Messages.{bad_list, unknown_subcommand}
 use Rattle.tcl_eval.specs.State.{Leaf, says, wants}
 use Rattle.ictl.specs.Hosts.{HostState}
-use Rattle.ictl.specs.Says.{word_at, fails, miscounted, unknown_subcommand}
+use Rattle.ictl.specs.Says.{word_at, fails, miscounted}
 
 -- the words are asked of the shared arrays
 abbrev pub asks_nsv : List (List ℕ) → HostState → Leaf HostState

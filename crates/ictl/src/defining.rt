@@ -14,7 +14,6 @@ ghost use Rattle.ictl.specs.Interps.{stage_gives, StageStandsAt, stage_questions
 use crate::copy::push;
 use crate::host::RunHost;
 use crate::interp::Stage;
-use crate::message::outside_loop;
 use crate::next::Next;
 use crate::script::script_of;
 use cmd_table::Steps;
@@ -22,7 +21,7 @@ use natives::Natives;
 use outside::{Answer, Question, Service};
 use std::alloc::Global;
 use std::sync::ledger::Ledger;
-use tcl_eval::{Engine, Outcome, Work};
+use tcl_eval::{Engine, Outcome, Work, outside_loop};
 use txt_core::{NoMemory, Text, Words};
 
 /// The codes of a good end, of an error, of a return, of a break and of a continue.

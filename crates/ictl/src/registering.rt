@@ -8,10 +8,9 @@ ghost use Rattle.ictl.specs.Registering.{least_registering, is_method, begins_wi
 use crate::copy::copy_slice;
 use crate::host::RunHost;
 use crate::kind::Kind;
-use crate::message::bad_value;
 use crate::says::{failed, miscounted, word_at, words_from};
 use cmd_table::Def;
-use tcl_eval::HostReply;
+use tcl_eval::{HostReply, bad_value};
 use txt_core::{NoMemory, Text, Words};
 
 /// How many words a registration has at least.

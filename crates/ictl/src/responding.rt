@@ -8,10 +8,10 @@ ghost use Rattle.ictl.specs.Says.{word_at};
 ghost use Rattle.ictl.specs.Responding.{is_control, status_of, respond, typed, by_number, ns_return};
 
 use crate::host::RunHost;
-use crate::message::{bad_value, no_number};
+use crate::message::no_number;
 use crate::says::{done, failed, miscounted, word_at};
 use http_resp::Response;
-use tcl_eval::HostReply;
+use tcl_eval::{HostReply, bad_value};
 use txt_core::{NoMemory, Pairs, Text, Words, read_int_bytes};
 
 /// The statuses of responses.

@@ -5,8 +5,7 @@ ghost use Rattle.tcl_eval.specs.Answers.{Replies};
 ghost use Rattle.ictl.specs.Says.{word_at, miscounted};
 
 use crate::host::RunHost;
-use crate::message::wrong_count;
-use tcl_eval::HostReply;
+use tcl_eval::{HostReply, wrong_count};
 use txt_core::{NoMemory, Text, Words};
 
 /// The code of a good end.

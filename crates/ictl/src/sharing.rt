@@ -8,11 +8,10 @@ ghost use Rattle.ictl.specs.Sharing.{asks_nsv, nsv, nsv_from, by_subcommand, nsv
 
 use crate::copy::{append_copies, copy_text, copy_words, push};
 use crate::host::RunHost;
-use crate::message::{bad_list, unknown_subcommand};
 use crate::says::{done, failed, miscounted, word_at, words_from};
 use outside::{Answer, Question, Service};
 use std::alloc::Global;
-use tcl_eval::HostReply;
+use tcl_eval::{HostReply, bad_list, unknown_subcommand};
 use tcl_list::{ListFault, quote, split};
 use txt_core::{NoMemory, Text, Words};
 

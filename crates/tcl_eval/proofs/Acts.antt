@@ -19,7 +19,7 @@ use Rattle.cmd_table.specs.declared.command.Cmd.TheVariants.{Built}
 use Rattle.tcl_frame.specs.Stack.{Stack}
 use Rattle.tcl_frame.specs.Frames.{pushed as pushed_frame}
 use Rattle.tcl_varcmd.specs.Answers.{Came, gives as gives_text, fails as fails_with, IsAnswer}
-use Rattle.tcl_varcmd.specs.declared.fault.Fault.TheVariants as faults
+use Rattle.natives.specs.declared.fault.Fault.TheVariants as faults
 use Rattle.tcl_eval.specs.Natives.{Names}
 use Rattle.tcl_eval.specs.State.{State, LeafTable, Leaf, says, wants, defines, stores, not_mine, Given, Out, spent, Next}
 use Rattle.tcl_eval.specs.Messages.{unknown_command, no_command, command_exists}

@@ -20,20 +20,19 @@ use crate::message::{command_exists, fault_text, no_command, unknown_command, va
 use crate::parameter::{bound, parameters};
 use crate::stack::{Acted, Ended, Frame};
 use crate::value::{
-    MOST_BYTES, OK, do_break, do_continue, do_error, do_return, done, error, failed, too_long,
-    wrong_words,
+    OK, do_break, do_continue, do_error, do_return, done, error, failed, too_long, wrong_words,
 };
 use crate::verb::{Verb, find_verb};
 use crate::words::{BYTES_FOR_ONE, behind_name, copy_word, joined, push_word, with_name, word_at};
 use cmd_table::{Cmd, Def, Renamed, Steps};
-use natives::{Native, Natives};
+use natives::{Fault, MOST_BYTES, Native, Natives};
 use outside::{Answer, Question, Service};
 use std::alloc::Global;
 use std::rc::Rc;
 use std::sync::ledger::Ledger;
 use tcl_frame::VarFault;
 use tcl_parse::{ParseFault, parse};
-use tcl_varcmd::{Fault, is_var_command, var_command};
+use tcl_varcmd::{is_var_command, var_command};
 use txt_core::{NoMemory, Pairs, Text, Words};
 
 /// How deep scripts may stand in one another.
@@ -321,8 +320,8 @@ impl<H: Host> Engine<H> {
         }
         match native.call(self.alloc, words) {
             Ok(result) => Ok(Ended { code: OK, result }),
-            Err(natives::Fault::Error(message)) => Ok(failed(message)),
-            Err(natives::Fault::NoMemory) => Err(NoMemory),
+            Err(Fault::Error(message)) => Ok(failed(message)),
+            Err(Fault::NoMemory) => Err(NoMemory),
         }
     }
 

@@ -31,4 +31,5 @@ mod words;
 pub use engine::Engine;
 pub use host::{Host, HostReply};
 pub use law::turns_suffice;
+pub use message::{bad_list, bad_value, outside_loop, unknown_subcommand, wrong_count};
 pub use outcome::{Outcome, Work};

@@ -19,7 +19,11 @@ fn push_quoted(message: &mut Text, text: &[u8]) -> Result<(), NoMemory>
     message.append(b"\"")
 }
 
-/// A built-in or a procedure has the wrong number of words.
+/// The text of the error of a command with the wrong number of words.
+///
+/// # Errors
+///
+/// For want of memory alone.
 pub fn wrong_count(alloc: Global, name: &[u8]) -> Result<Text, NoMemory>
     ensures { IfOk result (λ message. message ≡ wrong_count name.now) }
 {
@@ -28,7 +32,11 @@ pub fn wrong_count(alloc: Global, name: &[u8]) -> Result<Text, NoMemory>
     Ok(message)
 }
 
-/// A command doesn't take this value.
+/// The text of the error of a command that doesn't take this value.
+///
+/// # Errors
+///
+/// For want of memory alone.
 pub fn bad_value(alloc: Global, value: &[u8], name: &[u8]) -> Result<Text, NoMemory>
     ensures { IfOk result (λ message. message ≡ bad_value value.now name.now) }
 {
@@ -67,7 +75,11 @@ pub fn command_exists(alloc: Global, name: &[u8]) -> Result<Text, NoMemory>
     Ok(message)
 }
 
-/// A procedure ends by this command.
+/// The text of the error of a script that ends by `break` or `continue`, where no loop is.
+///
+/// # Errors
+///
+/// For want of memory alone.
 pub fn outside_loop(alloc: Global, name: &[u8]) -> Result<Text, NoMemory>
     ensures { IfOk result (λ message. message ≡ outside_loop name.now) }
 {
@@ -77,7 +89,11 @@ pub fn outside_loop(alloc: Global, name: &[u8]) -> Result<Text, NoMemory>
     Ok(message)
 }
 
-/// A text is no list: it is bad at this byte.
+/// The text of the error of a text that is no list: it is bad at this byte.
+///
+/// # Errors
+///
+/// For want of memory alone.
 pub fn bad_list(alloc: Global, place: u64) -> Result<Text, NoMemory>
     ensures { IfOk result (λ message. message ≡ bad_list place) }
 {
@@ -140,7 +156,11 @@ pub fn variable_fault(alloc: Global, why: VarFault, name: &[u8]) -> Result<Text,
     }
 }
 
-/// The second word of a command is none of its subcommands.
+/// The text of the error of a command whose second word is none of its subcommands.
+///
+/// # Errors
+///
+/// For want of memory alone.
 pub fn unknown_subcommand(alloc: Global, name: &[u8], command: &[u8]) -> Result<Text, NoMemory>
     ensures { IfOk result (λ message. message ≡ unknown_subcommand name.now command.now) }
 {

@@ -1,9 +1,15 @@
 -- How an answer follows from the answers of the checks before it.
-use Rattle.std.proofs.Common.{◌≡◌, ℕ, List, Option, None, Result, Err, refl, ◌∙◌}
+use Rattle.std.proofs.Common.{◌≡◌, ℕ, List, Option, Some, None, Result, Err, refl, sym, ap, ◌∙◌}
 use Rattle.tcl_frame.specs.Stack.{Stack}
-use Rattle.tcl_varcmd.specs.declared.fault.Fault.{Fault}
-use Rattle.tcl_varcmd.specs.declared.fault.Fault.TheVariants.{Error, NoMemory}
-use Rattle.tcl_varcmd.specs.Answers.{Came, unless, Answers, Tried, Changes, Says}
+use Rattle.natives.specs.declared.fault.Fault.{Fault}
+use Rattle.natives.specs.declared.fault.Fault.TheVariants.{Error, NoMemory}
+use Rattle.natives.specs.Answers.{Tried, Says as SaysText}
+use Rattle.tcl_varcmd.specs.Answers.{Came, unless, Answers, Changes, Says}
+
+-- an error's text, where there is one to say
+pub said : (text : List ℕ) (x : Fault) → SaysText text x → Says (Some text) x
+said text (Error error) s = ap Some (sym s)
+said text NoMemory s = tt
 
 -- a check that says its error
 pub tried_said : {A : Type 0} (P : A → Type 0) (error message : Option (List ℕ)) (x : Fault) → error ≡ message → Says message x → Tried error P (Err x)

@@ -5,11 +5,12 @@ use Rattle.tcl_frame.specs.declared.fault.VarFault.TheVariants as faults
 use Rattle.tcl_frame.specs.Stack.{Stack}
 use Rattle.tcl_frame.specs.Meaning.{Found, Nothing, Value, AnArray, InScalar, no_read, no_write, value_there}
 use Rattle.tcl_frame.specs.Refusal.{IsRefusedFor}
-use Rattle.tcl_varcmd.specs.declared.fault.Fault.{Fault}
-use Rattle.tcl_varcmd.specs.declared.fault.Fault.TheVariants.{Error, NoMemory}
+use Rattle.natives.specs.declared.fault.Fault.{Fault}
+use Rattle.natives.specs.declared.fault.Fault.TheVariants.{Error, NoMemory}
 use Rattle.tcl_varcmd.specs.Texts.{fault_text}
 use Rattle.tcl_varcmd.specs.Errors.{refused}
-use Rattle.tcl_varcmd.specs.Answers.{Tried, Changes, Says}
+use Rattle.natives.specs.Answers.{Tried}
+use Rattle.tcl_varcmd.specs.Answers.{Changes, Says}
 use Rattle.tcl_varcmd.specs.Reading.{IsOrEmpty}
 
 -- what is said of a fault is the error

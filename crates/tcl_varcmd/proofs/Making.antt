@@ -13,11 +13,13 @@ use Rattle.tcl_frame.specs.Meaning.{Found, Nothing, Value, AnArray, InScalar, fo
 use Rattle.tcl_frame.specs.Stack.{Stack}
 use Rattle.tcl_frame.specs.Frames.{table_of, found_in, has, is_array}
 use Rattle.tcl_frame.specs.Names.{variable_name}
-use Rattle.tcl_varcmd.specs.declared.fault.Fault.{Fault}
-use Rattle.tcl_varcmd.specs.declared.fault.Fault.TheVariants.{Error, NoMemory}
-use Rattle.tcl_varcmd.specs.Texts.{naming, bad_value}
-use Rattle.tcl_varcmd.specs.Errors.{refused, array_error, remove_error, list_error, items}
-use Rattle.tcl_varcmd.specs.Answers.{Came, Answers, Tried, Changes}
+use Rattle.natives.specs.declared.fault.Fault.{Fault}
+use Rattle.natives.specs.declared.fault.Fault.TheVariants.{Error, NoMemory}
+use Rattle.natives.specs.Texts.{naming, bad_value}
+use Rattle.natives.specs.Checks.{list_error, items}
+use Rattle.tcl_varcmd.specs.Errors.{refused, array_error, remove_error}
+use Rattle.natives.specs.Answers.{Tried}
+use Rattle.tcl_varcmd.specs.Answers.{Came, Answers, Changes}
 use Rattle.tcl_varcmd.specs.Arrays.{pairs_error}
 
 -- ---- lists of pairs

@@ -1,31 +1,22 @@
 -- Numbers and lists.
-use Rattle.std.proofs.Common.{◌≡◌, ◌^◌, ◌<◌, ℕ, ℤ, pos, negsuc, true, false, List, ◌++◌, Option, Some, None, Ok, Err, arith, refl, sym, ◌∙◌, ap}
+use Rattle.std.proofs.Common.{◌≡◌, ◌^◌, ◌<◌, ℕ, ℤ, pos, negsuc, true, false, List, ◌++◌, Some, None, Ok, Err, arith, refl, sym, ◌∙◌, ap}
 use Rattle.std.specs.Bool.{nat_lt}
-use Rattle.std.specs.Option.{unwrap_or}
 use Rattle.std.specs.Int.{w64}
 use Rattle.std.specs.Int.RustNames.{FitsSigned}
 use Rattle.std.proofs.lemmas.Bool.Decides.{nat_tests}
 use Rattle.tcl_list.specs.declared.fault.ListFault.{ListFault}
 use Rattle.tcl_list.specs.declared.fault.ListFault.TheVariants as list_faults
 use Rattle.tcl_list.specs.Answers.{SplitsAs, AppendsTo}
-use Rattle.tcl_varcmd.specs.declared.fault.Fault.{Fault}
-use Rattle.tcl_varcmd.specs.declared.fault.Fault.TheVariants.{Error, NoMemory}
-use Rattle.tcl_varcmd.specs.Answers.{Tried}
+use Rattle.natives.specs.declared.fault.Fault.{Fault}
+use Rattle.natives.specs.declared.fault.Fault.TheVariants.{Error, NoMemory}
+use Rattle.natives.specs.Answers.{Tried}
 use Rattle.tcl_varcmd.specs.Reading.{SaysOfList}
-use Rattle.txt_core.specs.Number.{number}
 use Rattle.txt_core.specs.Lists.{elements}
 use Rattle.txt_core.specs.Listing.{listing}
 use Rattle.txt_core.specs.Quoting.{quoting}
-use Rattle.tcl_varcmd.specs.Texts.{no_integer, overflow}
-use Rattle.tcl_varcmd.specs.Errors.{no_number, integer_error, integer, bad_list, list_error, listed, items, fits, sum_error}
-
-pub some_number : (t : List ℕ) (n : ℤ) → Some n ≡ number t → (integer_error t ≡ None) × (n ≡ integer t)
-unfolding integer_error integer
-some_number t n h = (ap (no_number t) (sym h), ap (λ (o : Option ℤ). unwrap_or o (pos 0)) h)
-
-pub none_number : (t : List ℕ) → None ≡ number t → integer_error t ≡ Some (no_integer t)
-unfolding integer_error
-none_number t h = ap (no_number t) (sym h)
+use Rattle.tcl_varcmd.specs.Texts.{overflow}
+use Rattle.natives.specs.Checks.{bad_list, list_error, listed, items}
+use Rattle.tcl_varcmd.specs.Errors.{fits, sum_error}
 
 pub is_list : (t : List ℕ) (v : List (List ℕ)) → listing t ≡ elements v → (list_error t ≡ None) × (v ≡ items t)
 unfolding list_error items

@@ -1,8 +1,8 @@
 -- What a command comes to, and what the program answers for it.
 use Rattle.std.specs.Prelude.{◌≡◌, ℕ, List, Option, Some, None, Result, Ok, Err}
 use Rattle.tcl_frame.specs.Stack.{Stack}
-use Rattle.tcl_varcmd.specs.declared.fault.Fault.{Fault}
-use Rattle.tcl_varcmd.specs.declared.fault.Fault.TheVariants.{Error, NoMemory}
+use Rattle.natives.specs.declared.fault.Fault.{Fault}
+use Rattle.natives.specs.declared.fault.Fault.TheVariants.{Error, NoMemory}
 
 -- what a command comes to
 pub data Came : Type 0 where
@@ -33,12 +33,6 @@ abbrev pub IfNoMemory : {A : Type 0} → Result A Fault → Type 0 → Type 0
 IfNoMemory (Ok value) fact = Unit {0}
 IfNoMemory (Err (Error text)) fact = Unit {0}
 IfNoMemory (Err NoMemory) fact = fact
-
--- a check answers its error exactly where there is one, and else a value of which something holds
-abbrev pub Tried : {A : Type 0} → Option (List ℕ) → (A → Type 0) → Result A Fault → Type 0
-Tried error P (Ok value) = (error ≡ None) × P value
-Tried error P (Err (Error text)) = error ≡ Some text
-Tried error P (Err NoMemory) = Unit {0}
 
 -- a change answers its error exactly where there is one, and then changes nothing
 abbrev pub Changes : Option (List ℕ) → Stack → Stack → Result (Unit {0}) Fault → Stack → Type 0

@@ -9,10 +9,11 @@ use Rattle.tcl_frame.specs.Stack.{Stack}
 use Rattle.tcl_frame.specs.Frames.{has, is_array, elements_of, removed, pairs_written}
 use Rattle.tcl_varcmd.specs.declared.part.Part.{Part}
 use Rattle.tcl_varcmd.specs.declared.part.Part.TheVariants.{Exists, Size, Unset, Get, Names, Set}
-use Rattle.tcl_varcmd.specs.Texts.{unknown_subcommand, bad_value, no_list}
+use Rattle.natives.specs.Texts.{unknown_subcommand, bad_value, no_list}
 use Rattle.tcl_varcmd.specs.Answers.{Came, gives, fails, unless}
-use Rattle.tcl_varcmd.specs.Errors.{array_error, count_error, items}
-use Rattle.tcl_varcmd.specs.Scalars.{word}
+use Rattle.natives.specs.Checks.{items}
+use Rattle.tcl_varcmd.specs.Errors.{array_error, count_error}
+use Rattle.natives.specs.Words.{arg}
 
 -- 1 or 0
 abbrev pub truth_text : Bool → List ℕ
@@ -62,21 +63,21 @@ unset_array stack array = gives [] (if is_array stack array then removed stack a
 
 -- the elements that `array get` and `array names` list
 abbrev pub listed_pairs : Stack → List (List ℕ) → List Pair
-listed_pairs stack words = picked (slice_get words 3) (finite.entries (elements_of stack (word words 2)))
+listed_pairs stack words = picked (slice_get words 3) (finite.entries (elements_of stack (arg words 2)))
 
 -- the subcommands: `exists a`, `size a` and `unset a`, which removes an array that is there; `get a ?glob?` and
 -- `names a ?glob?`; `set a list`
 abbrev pub array_part : Stack → Option Part → List (List ℕ) → Came
-array_part stack None words = fails (unknown_subcommand (word words 1) (codes "array")) stack
+array_part stack None words = fails (unknown_subcommand (arg words 1) (codes "array")) stack
 array_part stack (Some Exists) words =
-    unless (count_error 3 3 words (codes "array")) stack (gives (truth_text (is_array stack (word words 2))) stack)
+    unless (count_error 3 3 words (codes "array")) stack (gives (truth_text (is_array stack (arg words 2))) stack)
 array_part stack (Some Size) words =
-    unless (count_error 3 3 words (codes "array")) stack (gives (decimal (length (finite.entries (elements_of stack (word words 2))))) stack)
+    unless (count_error 3 3 words (codes "array")) stack (gives (decimal (length (finite.entries (elements_of stack (arg words 2))))) stack)
 array_part stack (Some Unset) words =
-    unless (count_error 3 3 words (codes "array")) stack (unset_array stack (word words 2))
+    unless (count_error 3 3 words (codes "array")) stack (unset_array stack (arg words 2))
 array_part stack (Some Get) words = gives (quoting (in_turn (listed_pairs stack words))) stack
 array_part stack (Some Names) words = gives (quoting (map (λ pair. pair.0) (listed_pairs stack words))) stack
-array_part stack (Some Set) words = unless (count_error 4 4 words (codes "array")) stack (array_set stack (word words 2) (word words 3))
+array_part stack (Some Set) words = unless (count_error 4 4 words (codes "array")) stack (array_set stack (arg words 2) (arg words 3))
 
 -- the subcommand of this name
 abbrev pub part_named : List ℕ → Option Part
@@ -91,8 +92,8 @@ part_named name =
 
 -- `array`: first the number of words that any subcommand may have, then the subcommand
 abbrev pub array_came : Stack → List (List ℕ) → Came
-array_came stack words = unless (count_error 3 4 words (codes "array")) stack (array_part stack (part_named (word words 1)) words)
+array_came stack words = unless (count_error 3 4 words (codes "array")) stack (array_part stack (part_named (arg words 1)) words)
 
 -- `info exists name`: whether a scalar, an array or an element of this name is there
 abbrev pub info_came : Stack → List (List ℕ) → Came
-info_came stack words = unless (count_error 3 3 words (codes "info")) stack (gives (truth_text (has stack (word words 2))) stack)
+info_came stack words = unless (count_error 3 3 words (codes "info")) stack (gives (truth_text (has stack (arg words 2))) stack)

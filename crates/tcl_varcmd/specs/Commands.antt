@@ -3,10 +3,11 @@ use Rattle.std.specs.Prelude.{ℕ, Bool, true, false, List, Option, Some, None, 
 use Rattle.tcl_frame.specs.Stack.{Stack}
 use Rattle.tcl_varcmd.specs.declared.command.Command.{Command}
 use Rattle.tcl_varcmd.specs.declared.command.Command.TheVariants.{Set, Unset, Incr, Append, Lappend, Global, Array, Info}
-use Rattle.tcl_varcmd.specs.Texts.{too_long}
+use Rattle.natives.specs.Texts.{too_long}
 use Rattle.tcl_varcmd.specs.Answers.{Came, gives, fails}
-use Rattle.tcl_varcmd.specs.Errors.{is_long}
-use Rattle.tcl_varcmd.specs.Scalars.{word, set_came, unset_came, incr_came, append_came, lappend_came, global_came}
+use Rattle.natives.specs.Answers.{is_long}
+use Rattle.natives.specs.Words.{arg}
+use Rattle.tcl_varcmd.specs.Scalars.{set_came, unset_came, incr_came, append_came, lappend_came, global_came}
 use Rattle.tcl_varcmd.specs.Arrays.{array_came, info_came}
 
 -- the command of this name
@@ -44,11 +45,11 @@ goes_on (Some Append) words = true
 goes_on (Some Lappend) words = true
 goes_on (Some Global) words = true
 goes_on (Some Array) words = true
-goes_on (Some Info) words = bytes_eq (word words 1) (codes "exists")
+goes_on (Some Info) words = bytes_eq (arg words 1) (codes "exists")
 
 -- whether words begin with a variable command
 unfoldable pub begins_var_command : List (List ℕ) → Bool
-begins_var_command words = goes_on (command_named (word words 0)) words
+begins_var_command words = goes_on (command_named (arg words 0)) words
 
 -- what each comes to
 abbrev pub command_came : Stack → Option Command → List (List ℕ) → Came
@@ -69,4 +70,4 @@ bounded (fails text stack) = if is_long text then fails too_long stack else fail
 
 -- what words that begin with a variable command come to
 abbrev pub var_came : Stack → List (List ℕ) → Came
-var_came stack words = bounded (command_came stack (command_named (word words 0)) words)
+var_came stack words = bounded (command_came stack (command_named (arg words 0)) words)

@@ -1,13 +1,12 @@
 -- The checks of commands: each gives the text of its error, where it finds one.
-use Rattle.std.specs.Prelude.{ℕ, nat_lt, Bool, List, [], length, ℤ, pos, negsuc, Option, Some, None, if◌then◌else◌, codes, unwrap_or, ◌^◌}
-use Rattle.txt_core.specs.Number.{number}
-use Rattle.txt_core.specs.Lists.{Listing, elements, bad_at}
-use Rattle.txt_core.specs.Listing.{listing}
+use Rattle.std.specs.Prelude.{ℕ, nat_lt, Bool, List, length, ℤ, pos, negsuc, Option, Some, None, if◌then◌else◌, codes, ◌^◌}
 use Rattle.tcl_frame.specs.declared.fault.VarFault.{VarFault}
 use Rattle.tcl_frame.specs.Names.{named, is_element}
 use Rattle.tcl_frame.specs.Stack.{Stack}
 use Rattle.tcl_frame.specs.Frames.{read_fault, write_fault, remove_fault, array_fault, link_fault}
-use Rattle.tcl_varcmd.specs.Texts.{fault_text, wrong_words, bad_value, no_integer, no_list, overflow, too_long}
+use Rattle.natives.specs.Answers.{is_long}
+use Rattle.natives.specs.Texts.{wrong_words, bad_value, too_long}
+use Rattle.tcl_varcmd.specs.Texts.{fault_text, overflow}
 
 -- the text of a fault of a variable, where there is one
 abbrev pub refused : List ℕ → Option VarFault → Option (List ℕ)
@@ -41,18 +40,6 @@ count_error least most words command =
 unfoldable pub least_error : ℕ → List (List ℕ) → List ℕ → Option (List ℕ)
 least_error least words command = if nat_lt (length words) least then Some (wrong_words command) else None
 
--- a text that must be a number
-abbrev pub no_number : List ℕ → Option ℤ → Option (List ℕ)
-no_number text None = Some (no_integer text)
-no_number text (Some n) = None
-
-unfoldable pub integer_error : List ℕ → Option (List ℕ)
-integer_error text = no_number text (number text)
-
--- the number that it is
-unfoldable pub integer : List ℕ → ℤ
-integer text = unwrap_or (number text) (pos 0)
-
 -- whether a number is one of 64 bits with a sign
 abbrev pub fits : ℤ → Bool
 fits (pos n) = nat_lt n (2 ^ 63)
@@ -61,25 +48,6 @@ fits (negsuc n) = nat_lt n (2 ^ 63)
 unfoldable pub sum_error : ℤ → Option (List ℕ)
 sum_error sum = if fits sum then None else Some overflow
 
--- a text that must be a list
-abbrev pub bad_list : Listing → Option (List ℕ)
-bad_list (elements list) = None
-bad_list (bad_at place) = Some (no_list place)
-
-unfoldable pub list_error : List ℕ → Option (List ℕ)
-list_error text = bad_list (listing text)
-
--- the elements that it has
-abbrev pub listed : Listing → List (List ℕ)
-listed (elements list) = list
-listed (bad_at place) = []
-
-unfoldable pub items : List ℕ → List (List ℕ)
-items text = listed (listing text)
-
--- whether a text is over the limit of 1,048,576 bytes
-abbrev pub is_long : List ℕ → Bool
-is_long text = nat_lt 1048576 (length text)
-
+-- a value over the limit
 unfoldable pub long_error : List ℕ → Option (List ℕ)
 long_error value = if is_long value then Some too_long else None

@@ -4,8 +4,9 @@ use Rattle.tcl_frame.specs.declared.fault.VarFault.{VarFault}
 use Rattle.tcl_frame.specs.declared.fault.VarFault.TheVariants.{NoVariable, IsArray, NotArray, Exists, NoMemory}
 use Rattle.tcl_list.specs.declared.fault.ListFault.{ListFault}
 use Rattle.tcl_list.specs.declared.fault.ListFault.TheVariants as list_faults
-use Rattle.tcl_varcmd.specs.declared.fault.Fault.{Fault}
-use Rattle.tcl_varcmd.specs.Texts.{fault_text, no_list}
+use Rattle.natives.specs.declared.fault.Fault.{Fault}
+use Rattle.natives.specs.Texts.{no_list}
+use Rattle.tcl_varcmd.specs.Texts.{fault_text}
 use Rattle.tcl_varcmd.specs.Answers.{Says}
 
 -- for a variable that is to be written: the empty text where the variable is absent, and the refusal elsewhere

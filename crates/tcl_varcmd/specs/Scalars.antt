@@ -1,15 +1,13 @@
 -- The commands on single variables.
-use Rattle.std.specs.Prelude.{ℕ, List, [], ◌∷◌, ◌++◌, drop, slice_get, slice_index_or, ℤ, pos, ◌+ℤ◌, Option, Some, None, codes}
+use Rattle.std.specs.Prelude.{ℕ, List, [], ◌∷◌, ◌++◌, drop, slice_get, ℤ, pos, ◌+ℤ◌, Option, Some, None, codes}
 use Rattle.std.specs.Fmt.{signed_decimal}
 use Rattle.txt_core.specs.Quoting.{quoting}
 use Rattle.tcl_frame.specs.Stack.{Stack}
 use Rattle.tcl_frame.specs.Frames.{read_of, written, removed, linked}
+use Rattle.natives.specs.Words.{arg}
 use Rattle.tcl_varcmd.specs.Answers.{Came, gives, unless}
-use Rattle.tcl_varcmd.specs.Errors.{read_error, write_error, remove_error, global_error, count_error, least_error, integer_error, integer, sum_error, list_error, items, long_error}
-
--- the word at a place, counted from the command's name at 0
-abbrev pub word : List (List ℕ) → ℕ → List ℕ
-word words at = slice_index_or words at []
+use Rattle.natives.specs.Checks.{integer_error, integer, list_error, items}
+use Rattle.tcl_varcmd.specs.Errors.{read_error, write_error, remove_error, global_error, count_error, least_error, sum_error, long_error}
 
 -- a value is written, and is the result. One over the limit isn't written
 abbrev pub stored : Stack → List ℕ → List ℕ → Came
@@ -22,7 +20,7 @@ set_to stack name None = unless (read_error stack name) stack (gives (read_of st
 set_to stack name (Some value) = stored stack name value
 
 abbrev pub set_came : Stack → List (List ℕ) → Came
-set_came stack words = unless (count_error 2 3 words (codes "set")) stack (set_to stack (word words 1) (slice_get words 2))
+set_came stack words = unless (count_error 2 3 words (codes "set")) stack (set_to stack (arg words 1) (slice_get words 2))
 
 -- `incr name ?n?`: the variable must be there and be a number, and then n, which is 1 where it is left out
 abbrev pub step_error : Option (List ℕ) → Option (List ℕ)
@@ -43,7 +41,7 @@ incr_by stack name n =
     unless (step_error n) stack (added stack name (integer (read_of stack name) +ℤ step_of n))))
 
 abbrev pub incr_came : Stack → List (List ℕ) → Came
-incr_came stack words = unless (count_error 2 3 words (codes "incr")) stack (incr_by stack (word words 1) (slice_get words 2))
+incr_came stack words = unless (count_error 2 3 words (codes "incr")) stack (incr_by stack (arg words 1) (slice_get words 2))
 
 -- texts behind a text
 abbrev pub joined : List ℕ → List (List ℕ) → List ℕ
@@ -55,7 +53,7 @@ abbrev pub append_to : Stack → List ℕ → List (List ℕ) → Came
 append_to stack name values = unless (write_error stack name) stack (stored stack name (joined (read_of stack name) values))
 
 abbrev pub append_came : Stack → List (List ℕ) → Came
-append_came stack words = unless (least_error 2 words (codes "append")) stack (append_to stack (word words 1) (drop 2 words))
+append_came stack words = unless (least_error 2 words (codes "append")) stack (append_to stack (arg words 1) (drop 2 words))
 
 -- `lappend name value*`: the same on a list, which is quoted anew
 abbrev pub lappend_to : Stack → List ℕ → List (List ℕ) → Came
@@ -64,7 +62,7 @@ lappend_to stack name values =
     unless (list_error (read_of stack name)) stack (stored stack name (quoting (items (read_of stack name) ++ values))))
 
 abbrev pub lappend_came : Stack → List (List ℕ) → Came
-lappend_came stack words = unless (least_error 2 words (codes "lappend")) stack (lappend_to stack (word words 1) (drop 2 words))
+lappend_came stack words = unless (least_error 2 words (codes "lappend")) stack (lappend_to stack (arg words 1) (drop 2 words))
 
 -- `unset name name*`: removes one after the other, up to the first that can't be
 abbrev pub unset_all : Stack → List (List ℕ) → Came

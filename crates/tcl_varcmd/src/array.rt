@@ -5,16 +5,17 @@ ghost use Rattle.std.specs.Option.{option_copied};
 ghost use Rattle.std.specs.FinMap as finite;
 ghost use Rattle.txt_core.specs.Quoting.{quoting};
 ghost use Rattle.tcl_frame.specs.Frames.{elements_of};
-ghost use Rattle.tcl_varcmd.specs.Answers.{Answers, IfNoMemory, Tried};
-ghost use Rattle.tcl_varcmd.specs.Errors.{array_error, items};
+ghost use Rattle.natives.specs.Answers.{Tried};
+ghost use Rattle.tcl_varcmd.specs.Answers.{Answers, IfNoMemory};
+ghost use Rattle.natives.specs.Checks.{items};
+ghost use Rattle.tcl_varcmd.specs.Errors.{array_error};
 ghost use Rattle.tcl_varcmd.specs.Arrays.{truth_text, is_picked, picked, in_turn, pairs_error, array_set, unset_array, array_part, array_came, info_came};
 
-use crate::fault::Fault;
-use crate::message::{bad_word, check_count, no_subcommand, refusal};
+use crate::message::{check_count, refusal};
 use crate::part::{Part, part_of};
-use crate::scalar::word_at;
 use crate::value::{digits, list_in, push_copy};
 use crate::variable::{remove, write_array};
+use natives::{Fault, word_at};
 use std::alloc::Global;
 use tcl_frame::{Frames, VarFault, is_element_name};
 use tcl_list::quote;
@@ -128,7 +129,7 @@ fn pairs_in(alloc: Global, text: &Text) -> Result<Words, Fault>
 {
     let list = list_in(alloc, text)?;
     if is_uneven(&list) {
-        return Err(bad_word(alloc, text.bytes(), "array"));
+        return Err(Fault::bad_value(alloc, text.bytes(), "array"));
     }
     Ok(list)
 }
@@ -201,7 +202,7 @@ pub(crate) fn array(alloc: Global, frames: &mut Frames, words: &Words) -> Result
     let word = word_at(words, 1).bytes();
     match part_of(word) {
         Some(part) => run_part(alloc, frames, part, words),
-        None => Err(no_subcommand(alloc, word, "array")),
+        None => Err(Fault::unknown_subcommand(alloc, word, "array")),
     }
 }
 

@@ -1,7 +1,7 @@
 //! The variable commands by their names.
 
 ghost use Rattle.std.specs.Prelude.{◌≡◌, Some, codes, bytes_eq};
-ghost use Rattle.tcl_varcmd.specs.Scalars.{word};
+ghost use Rattle.natives.specs.Words.{arg};
 ghost use Rattle.tcl_varcmd.specs.Commands.{command_named, goes_on, begins_var_command};
 
 use txt_core::Words;
@@ -46,7 +46,7 @@ pub(crate) fn command_of(name: &[u8]) -> Option<Command>
 
 /// The command that words begin with; `None` exactly where there is none.
 pub(crate) fn command_in(words: &Words) -> Option<Command>
-    ensures { result ≡ command_named (word words.now 0) }
+    ensures { result ≡ command_named (arg words.now 0) }
 {
     match words.get(0) {
         Some(first) => command_of(first.bytes()),
@@ -56,7 +56,7 @@ pub(crate) fn command_in(words: &Words) -> Option<Command>
 
 /// Whether the second word is `exists`.
 fn is_exists(words: &Words) -> bool
-    ensures { result ≡ bytes_eq (word words.now 1) (codes "exists") }
+    ensures { result ≡ bytes_eq (arg words.now 1) (codes "exists") }
 {
     match words.get(1) {
         Some(second) => second.bytes() == b"exists".as_slice(),

@@ -3,16 +3,15 @@
 ghost use Rattle.std.specs.Prelude.{◌≡◌, length, Some, false, IsTrue};
 ghost use Rattle.tcl_frame.specs.Stack.{Stack};
 ghost use Rattle.tcl_varcmd.specs.Answers.{Came, Answers, IfNoMemory};
-ghost use Rattle.tcl_varcmd.specs.Scalars.{word};
-ghost use Rattle.tcl_varcmd.specs.Texts.{too_long};
+ghost use Rattle.natives.specs.Words.{arg};
+ghost use Rattle.natives.specs.Texts.{too_long};
 ghost use Rattle.tcl_varcmd.specs.Commands.{command_came, command_named, goes_in_turn, bounded, var_came, begins_var_command};
 
 use crate::array::{array, info};
 use crate::command::{Command, command_in};
-use crate::fault::Fault;
-use crate::message::is_over;
 use crate::names::{global, unset};
 use crate::scalar::{append, incr, lappend, set};
+use natives::{Fault, is_too_long};
 use std::alloc::Global;
 use tcl_frame::Frames;
 use txt_core::{Text, Words};
@@ -47,7 +46,7 @@ fn within_limit(answer: Result<Text, Fault>, over: Text) -> Result<Text, Fault>
     ensures kept { (old new : Stack) → IfNoMemory answer (new ≡ old) → IfNoMemory result (new ≡ old) }
 {
     match answer {
-        Ok(text) | Err(Fault::Error(text)) if is_over(&text) => Err(Fault::Error(over)),
+        Ok(text) | Err(Fault::Error(text)) if is_too_long(&text) => Err(Fault::Error(over)),
         answer => answer,
     }
 }
@@ -70,7 +69,7 @@ fn within_limit(answer: Result<Text, Fault>, over: Text) -> Result<Text, Fault>
 pub fn var_command(alloc: Global, frames: &mut Frames, words: &Words) -> Result<Text, Fault>
     requires { IsTrue (begins_var_command words.now) }
     ensures came { Answers (var_came frames.old words.now) result frames.new }
-    ensures kept { goes_in_turn (command_named (word words.now 0)) ≡ false → IfNoMemory result (frames.new ≡ frames.old) }
+    ensures kept { goes_in_turn (command_named (arg words.now 0)) ≡ false → IfNoMemory result (frames.new ≡ frames.old) }
     ensures depth { length frames.new.above ≡ length frames.old.above }
 {
     match command_in(words) {

@@ -3,7 +3,6 @@
 
 mod array;
 mod command;
-mod fault;
 mod flow;
 mod message;
 mod names;
@@ -15,5 +14,4 @@ mod value;
 mod variable;
 
 pub use command::is_var_command;
-pub use fault::Fault;
 pub use flow::var_command;

@@ -1,17 +1,16 @@
 //! The texts of errors, and the checks that need no variable.
 
-ghost use Rattle.std.specs.Prelude.{◌≡◌, ◌↔◌, ◌<◌, ◌≤◌, ◌++◌, nat_lt, length, IfOk, IsTrue, Some, codes};
-ghost use Rattle.tcl_varcmd.specs.Answers.{Says, Tried};
-ghost use Rattle.tcl_varcmd.specs.Texts.{naming, wrong_words, fault_text, bad_value, unknown_subcommand, too_long};
-ghost use Rattle.tcl_varcmd.specs.Errors.{count_error, least_error, is_long};
+ghost use Rattle.std.specs.Prelude.{◌≡◌, ◌↔◌, ◌<◌, ◌≤◌, nat_lt, length, IfOk, IsTrue, Some};
+ghost use Rattle.natives.specs.Answers.{Tried};
+ghost use Rattle.natives.specs.Texts.{naming, wrong_words};
+ghost use Rattle.tcl_varcmd.specs.Answers.{Says};
+ghost use Rattle.tcl_varcmd.specs.Texts.{fault_text};
+ghost use Rattle.tcl_varcmd.specs.Errors.{count_error, least_error};
 
-use crate::fault::Fault;
+use natives::Fault;
 use std::alloc::Global;
 use tcl_frame::VarFault;
 use txt_core::{NoMemory, Text, Words};
-
-/// How many bytes a value may have.
-const MOST_BYTES: usize = 1_048_576;
 
 /// Three texts as one.
 fn joined(alloc: Global, front: &str, middle: &[u8], back: &str) -> Result<Text, NoMemory>
@@ -43,43 +42,6 @@ pub(crate) fn plain(alloc: Global, text: &str) -> Fault
     }
 }
 
-/// An error of a command for one of its words.
-fn about(alloc: Global, front: &str, word: &[u8], between: &str, command: &str) -> Fault
-    ensures { Says (Some (naming front.now word.now (between.now ++ command.now ++ codes "\""))) result }
-{
-    match joined(alloc, between, command.as_bytes(), "\"") {
-        Ok(back) => ending(alloc, front, word, &back),
-        Err(NoMemory) => Fault::NoMemory,
-    }
-}
-
-/// An error whose text names something between a part and a text.
-fn ending(alloc: Global, front: &str, name: &[u8], back: &Text) -> Fault
-    ensures { Says (Some (naming front.now name.now back.now)) result }
-{
-    match joined(alloc, front, name, "") {
-        Ok(mut text) => match text.append(back.bytes()) {
-            Ok(()) => Fault::Error(text),
-            Err(NoMemory) => Fault::NoMemory,
-        },
-        Err(NoMemory) => Fault::NoMemory,
-    }
-}
-
-/// A word that the command can't take.
-pub(crate) fn bad_word(alloc: Global, word: &[u8], command: &str) -> Fault
-    ensures { Says (Some (bad_value word.now command.now)) result }
-{
-    about(alloc, "bad value \"", word, "\" for \"", command)
-}
-
-/// A word that is no subcommand.
-pub(crate) fn no_subcommand(alloc: Global, word: &[u8], command: &str) -> Fault
-    ensures { Says (Some (unknown_subcommand word.now command.now)) result }
-{
-    about(alloc, "unknown subcommand \"", word, "\" of \"", command)
-}
-
 /// Why a variable is refused.
 pub(crate) fn refusal(alloc: Global, fault: VarFault, name: &Text) -> Fault
     ensures { Says (fault_text fault name.now) result }
@@ -92,18 +54,6 @@ pub(crate) fn refusal(alloc: Global, fault: VarFault, name: &Text) -> Fault
         VarFault::Exists => named(alloc, "variable \"", name, "\" exists"),
         VarFault::NoMemory => Fault::NoMemory,
     }
-}
-
-/// Too few or too many words.
-fn wrong_count(alloc: Global, command: &str) -> Fault
-    ensures { Says (Some (wrong_words command.now)) result }
-{
-    named(
-        alloc,
-        "wrong number of words for \"",
-        command.as_bytes(),
-        "\"",
-    )
 }
 
 /// Whether there are fewer words than so many.
@@ -133,10 +83,10 @@ pub(crate) fn check_count(
     ensures { Tried (count_error least most words.now command.now) (λ _. (least ≤ length words.now) × (length words.now ≤ most)) result }
 {
     if are_fewer(words, least) {
-        return Err(wrong_count(alloc, command));
+        return Err(Fault::wrong_words(alloc, command));
     }
     if are_more(words, most) {
-        return Err(wrong_count(alloc, command));
+        return Err(Fault::wrong_words(alloc, command));
     }
     Ok(())
 }
@@ -151,21 +101,7 @@ pub(crate) fn check_least(
     ensures { Tried (least_error least words.now command.now) (λ _. least ≤ length words.now) result }
 {
     if are_fewer(words, least) {
-        return Err(wrong_count(alloc, command));
+        return Err(Fault::wrong_words(alloc, command));
     }
     Ok(())
-}
-
-/// Whether a text is over the limit of a value.
-pub(crate) fn is_over(text: &Text) -> bool
-    ensures { result ≡ is_long text.now }
-{
-    text.len() > MOST_BYTES
-}
-
-/// The error of a value that is over the limit.
-pub(crate) fn over(alloc: Global) -> Fault
-    ensures { Says (Some too_long) result }
-{
-    plain(alloc, "value too long")
 }

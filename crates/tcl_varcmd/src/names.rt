@@ -6,9 +6,9 @@ ghost use Rattle.tcl_varcmd.specs.Answers.{Answers, Changes};
 ghost use Rattle.tcl_varcmd.specs.Errors.{global_error};
 ghost use Rattle.tcl_varcmd.specs.Scalars.{unset_all, unset_came, global_all, global_came};
 
-use crate::fault::Fault;
-use crate::message::{bad_word, check_least};
+use crate::message::check_least;
 use crate::variable::{link, remove};
+use natives::Fault;
 use std::alloc::Global;
 use tcl_frame::{Frames, is_element_name};
 use txt_core::{Text, Words};
@@ -39,7 +39,7 @@ fn link_name(alloc: Global, frames: &mut Frames, name: &Text) -> Result<(), Faul
     ensures depth { length frames.new.above ≡ length frames.old.above }
 {
     if is_element_name(name) {
-        return Err(bad_word(alloc, name.bytes(), "global"));
+        return Err(Fault::bad_value(alloc, name.bytes(), "global"));
     }
     link(alloc, frames, name)
 }

@@ -2,24 +2,17 @@
 
 ghost use Rattle.std.specs.Prelude.{◌≡◌, ◌<◌, length, OnOk};
 ghost use Rattle.std.specs.Option.{option_copied};
-ghost use Rattle.tcl_varcmd.specs.Answers.{Answers, IfNoMemory, Tried};
-ghost use Rattle.tcl_varcmd.specs.Scalars.{word, stored, set_to, set_came, step_error, step_of, incr_by, incr_came, joined, append_to, append_came, lappend_to, lappend_came};
+ghost use Rattle.natives.specs.Answers.{Tried};
+ghost use Rattle.tcl_varcmd.specs.Answers.{Answers, IfNoMemory};
+ghost use Rattle.tcl_varcmd.specs.Scalars.{stored, set_to, set_came, step_error, step_of, incr_by, incr_came, joined, append_to, append_came, lappend_to, lappend_came};
 
-use crate::fault::Fault;
-use crate::message::{check_count, check_least, is_over, over};
-use crate::value::{number_in, sum, with_elements};
+use crate::message::{check_count, check_least};
+use crate::value::{sum, with_elements};
 use crate::variable::{read, read_or_empty, write};
+use natives::{Fault, is_too_long, number_in, word_at};
 use std::alloc::Global;
 use tcl_frame::Frames;
 use txt_core::{NoMemory, Text, Words, write_int};
-
-/// The word at a place.
-pub(crate) fn word_at(words: &Words, at: usize) -> &Text
-    requires { at < length words.now }
-    ensures { result.now ≡ word words.now at }
-{
-    &words.as_slice()[at]
-}
 
 /// Writes a value, which is the result.
 fn store(alloc: Global, frames: &mut Frames, name: &Text, value: Text) -> Result<Text, Fault>
@@ -27,8 +20,8 @@ fn store(alloc: Global, frames: &mut Frames, name: &Text, value: Text) -> Result
     ensures kept { IfNoMemory result (frames.new ≡ frames.old) }
     ensures depth { length frames.new.above ≡ length frames.old.above }
 {
-    if is_over(&value) {
-        return Err(over(alloc));
+    if is_too_long(&value) {
+        return Err(Fault::too_long(alloc));
     }
     let copy = Text::new(alloc, value.bytes())?;
     write(alloc, frames, name, copy)?;

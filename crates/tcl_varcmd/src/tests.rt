@@ -1,4 +1,5 @@
 use super::*;
+use natives::Fault;
 use std::alloc::Global;
 use std::test::Fail;
 use tcl_frame::Frames;

@@ -2,25 +2,16 @@
 
 ghost use Rattle.std.specs.Prelude.{◌≡◌, ◌++◌, ◌∷◌, [], ◌+ℤ◌, IfOk, OnOk, decimal};
 ghost use Rattle.txt_core.specs.Quoting.{quoting};
-ghost use Rattle.tcl_varcmd.specs.Answers.{Tried};
+ghost use Rattle.natives.specs.Answers.{Tried};
+ghost use Rattle.natives.specs.Checks.{list_error, items};
 ghost use Rattle.tcl_varcmd.specs.Reading.{SaysOfList};
-ghost use Rattle.tcl_varcmd.specs.Errors.{integer_error, integer, sum_error, list_error, items};
+ghost use Rattle.tcl_varcmd.specs.Errors.{sum_error};
 
-use crate::fault::Fault;
-use crate::message::{named, plain};
+use crate::message::plain;
+use natives::Fault;
 use std::alloc::Global;
 use tcl_list::{ListFault, append_elements, split};
-use txt_core::{NoMemory, Text, Words, read_int};
-
-/// The number that a text is.
-pub(crate) fn number_in(alloc: Global, text: &Text) -> Result<i64, Fault>
-    ensures { Tried (integer_error text.now) (λ n. n ≡ integer text.now) result }
-{
-    match read_int(text) {
-        Some(number) => Ok(number),
-        None => Err(named(alloc, "expected integer but got \"", text.bytes(), "\"")),
-    }
-}
+use txt_core::{NoMemory, Text, Words};
 
 /// The sum of two numbers.
 pub(crate) fn sum(alloc: Global, left: i64, right: i64) -> Result<i64, Fault>
@@ -40,14 +31,12 @@ pub(crate) fn digits(alloc: Global, number: usize) -> Result<Text, NoMemory>
 }
 
 /// The error of a text that is no list.
+#[tactic(auto, using(crate::proofs::Exits::said))]
 fn bad_list(alloc: Global, fault: ListFault) -> Fault
     ensures { SaysOfList fault result }
 {
     match fault {
-        ListFault::Bad { at } => match format!(in alloc; "bad list at {at}") {
-            Ok(text) => Fault::Error(Text::from_vec(text.into_bytes())),
-            Err(_) => Fault::NoMemory,
-        },
+        ListFault::Bad { at } => Fault::no_list(alloc, at),
         ListFault::NoMemory => Fault::NoMemory,
     }
 }

@@ -3,12 +3,13 @@
 ghost use Rattle.std.specs.Prelude.{◌≡◌, length, false};
 ghost use Rattle.tcl_frame.specs.Names.{named, is_element};
 ghost use Rattle.tcl_frame.specs.Frames.{read_of, link_fault, written, removed, pairs_written, linked};
-ghost use Rattle.tcl_varcmd.specs.Answers.{Tried, Changes};
+ghost use Rattle.natives.specs.Answers.{Tried};
+ghost use Rattle.tcl_varcmd.specs.Answers.{Changes};
 ghost use Rattle.tcl_varcmd.specs.Reading.{IsOrEmpty};
 ghost use Rattle.tcl_varcmd.specs.Errors.{refused, read_error, write_error, remove_error, array_error};
 
-use crate::fault::Fault;
 use crate::message::refusal;
+use natives::Fault;
 use std::alloc::Global;
 use tcl_frame::{Frames, VarFault};
 use txt_core::Text;

@@ -1,4 +1,4 @@
-use Rattle.std.proofs.Common.{◌∙◌, sym, true}
+use Rattle.std.proofs.Common.{◌∙◌, sym}
 use Rattle.std.proofs.lemmas.Result.{err_from_is_err_and}
 use Rattle.tcl_frame.specs.Frames.{removed}
 use Rattle.tcl_varcmd.specs.Errors.{remove_error}

@@ -2,17 +2,18 @@ use Rattle.std.proofs.Common.{◌∙◌, sym, refl, subst, Some, Option, List, �
 use Rattle.std.specs.Prelude.{codes}
 use Rattle.tcl_frame.specs.Frames.{linked}
 use Rattle.tcl_varcmd.specs.Answers.{Says, Changes}
-use Rattle.tcl_varcmd.specs.Texts.{bad_value}
+use Rattle.natives.specs.Answers.{Says as SaysText}
+use Rattle.natives.specs.Texts.{bad_value}
 use Rattle.tcl_varcmd.specs.Errors.{global_error}
-use Rattle.tcl_varcmd.proofs.Exits.{changes_said}
+use Rattle.tcl_varcmd.proofs.Exits.{said, changes_said}
 use Rattle.tcl_varcmd.proofs.Counts.{no_global, plain_global}
 use Rattle.tcl_varcmd.proofs.names.link_name.Goals as goal
 
 pub returns-then-is_element_name-clause-change : goal.returns-then-is_element_name-clause-change
 returns-then-is_element_name-clause-change c =
     let stack = c.args.frames.now in let name = c.args.name.now in
-    let says : Says (Some (bad_value name (codes "global"))) c.bad_word.result = subst (λ (t : List ℕ). Says (Some (bad_value t (codes "global"))) c.bad_word.result) c.bytes.ensures c.bad_word.ensures in
-    changes_said (global_error stack name) (Some (bad_value name (codes "global"))) (linked stack name) stack stack c.bad_word.result
+    let says : Says (Some (bad_value name (codes "global"))) c.bad_value.result = said (bad_value name (codes "global")) c.bad_value.result (subst (λ (t : List ℕ). SaysText (bad_value t (codes "global")) c.bad_value.result) c.bytes.ensures c.bad_value.ensures) in
+    changes_said (global_error stack name) (Some (bad_value name (codes "global"))) (linked stack name) stack stack c.bad_value.result
     (no_global stack name (sym c.is_element_name.ensures ∙ c.if-is_element_name.true)) says refl
 
 pub returns-clause-change : goal.returns-clause-change

@@ -1,25 +1,25 @@
 use Rattle.std.proofs.Common.{◌≡◌, ◌∙◌, sym, refl, ap, Some, Ok, Err}
 use Rattle.std.proofs.lemmas.Result.{err_from_is_err_and}
 use Rattle.tcl_frame.specs.Frames.{written}
-use Rattle.tcl_varcmd.specs.Texts.{too_long}
+use Rattle.natives.specs.Texts.{too_long}
 use Rattle.tcl_varcmd.specs.Errors.{long_error, write_error}
 use Rattle.tcl_varcmd.specs.Answers.{gives, unless}
-use Rattle.tcl_varcmd.proofs.Exits.{answers_said, answers_on, answers_unchanged}
+use Rattle.tcl_varcmd.proofs.Exits.{said, answers_said, answers_on, answers_unchanged}
 use Rattle.tcl_varcmd.proofs.Counts.{is_too_long, is_short}
 use Rattle.tcl_varcmd.proofs.scalar.store.Goals as goal
 
-pub returns-then-is_over-clause-came : goal.returns-then-is_over-clause-came
-returns-then-is_over-clause-came c =
+pub returns-then-is_too_long-clause-came : goal.returns-then-is_too_long-clause-came
+returns-then-is_too_long-clause-came c =
     let stack = c.args.frames.now in
-    answers_said (long_error c.args.value) (Some too_long) stack stack (unless (write_error stack c.args.name.now) stack (gives c.args.value (written stack c.args.name.now c.args.value))) c.over.result
-    (is_too_long c.args.value (sym c.is_over.ensures ∙ c.if-is_over.true)) c.over.ensures refl
+    answers_said (long_error c.args.value) (Some too_long) stack stack (unless (write_error stack c.args.name.now) stack (gives c.args.value (written stack c.args.name.now c.args.value))) c.too_long.result
+    (is_too_long c.args.value (sym c.is_too_long.ensures ∙ c.if-is_too_long.true)) (said too_long c.too_long.result c.too_long.ensures) refl
 
 pub returns-in_err-write-clause-came : goal.returns-in_err-write-clause-came
 returns-in_err-write-clause-came c =
     let stack = c.args.frames.now in
     let p = err_from_is_err_and c.from_residual-in_err-write.result c.from_residual-in_err-write.ensures.1 in
     rw (p.1, p.2) (answers_on (long_error c.args.value) stack c.write.new.frames (unless (write_error stack c.args.name.now) stack (gives c.args.value (written stack c.args.name.now c.args.value))) (Err c.in_err-write.field-0.0)
-    (is_short c.args.value (sym c.is_over.ensures ∙ c.if-is_over.false))
+    (is_short c.args.value (sym c.is_too_long.ensures ∙ c.if-is_too_long.false))
     (answers_unchanged (write_error stack c.args.name.now) stack (written stack c.args.name.now c.in_ok-copy.copy) c.write.new.frames (gives c.args.value (written stack c.args.name.now c.args.value)) c.in_err-write.field-0.0 c.in_err-write.ensures.change))
 
 pub returns-clause-came : goal.returns-clause-came
@@ -27,6 +27,6 @@ returns-clause-came c =
     let stack = c.args.frames.now in
     let copy : c.in_ok-copy.copy ≡ c.args.value = c.in_ok-copy.ensures ∙ c.bytes.ensures in
     answers_on (long_error c.args.value) stack c.write.new.frames (unless (write_error stack c.args.name.now) stack (gives c.args.value (written stack c.args.name.now c.args.value))) (Ok c.args.value)
-    (is_short c.args.value (sym c.is_over.ensures ∙ c.if-is_over.false))
+    (is_short c.args.value (sym c.is_too_long.ensures ∙ c.if-is_too_long.false))
     (answers_on (write_error stack c.args.name.now) stack c.write.new.frames (gives c.args.value (written stack c.args.name.now c.args.value)) (Ok c.args.value)
     c.in_ok-write.ensures.change.0 (refl, c.in_ok-write.ensures.change.1 ∙ ap (written stack c.args.name.now) copy))

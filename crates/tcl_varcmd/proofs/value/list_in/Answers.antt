@@ -1,5 +1,5 @@
 use Rattle.std.proofs.Common.{◌≡◌, List, ℕ}
-use Rattle.tcl_varcmd.specs.Errors.{items}
+use Rattle.natives.specs.Checks.{items}
 use Rattle.tcl_varcmd.proofs.Values.{is_list, bad_list_said}
 use Rattle.tcl_varcmd.proofs.value.list_in.Goals as goal
 

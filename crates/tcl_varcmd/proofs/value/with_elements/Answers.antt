@@ -1,6 +1,6 @@
 use Rattle.std.proofs.Common.{◌≡◌, ◌++◌, List, ℕ}
 use Rattle.txt_core.specs.Quoting.{quoting}
-use Rattle.tcl_varcmd.specs.Errors.{items}
+use Rattle.natives.specs.Checks.{items}
 use Rattle.tcl_varcmd.proofs.Values.{appended, bad_to_append, bad_list_said}
 use Rattle.tcl_varcmd.proofs.value.with_elements.Goals as goal
 
