@@ -5,6 +5,7 @@
 ghost use Rattle.std.specs.Prelude.{◌≡◌, ◌<◌, ◌+◌, ◌∷◌, ◌++◌, [], false, take, OnOk};
 ghost use Rattle.natives.specs.Names.{name_of, names_of, has_name};
 ghost use Rattle.ns_server.specs.Natives.{native_names};
+ghost use Rattle.ns_server.specs.Running.{Ends};
 
 // Both macros stand above the modules, so that the tests see them.
 
@@ -78,7 +79,8 @@ fn add_next(natives: &mut Natives, place: usize, native: Native) -> Result<(), N
     natives.add(native)
 }
 
-/// Runs the program with new counters, and with every command that looks at its words alone as a native.
+/// Runs the program with new counters, and with every command that looks at its words alone as a native, and
+/// gives the number of the status with which it ends.
 fn run_counted<S: Source, K: Sink, E: Sink, L: Ledger>(
     alloc: Global,
     natives: &Natives,
@@ -92,6 +94,10 @@ fn run_counted<S: Source, K: Sink, E: Sink, L: Ledger>(
     requires parts { blank.parts ≡ L.parts }
     requires some { 0 < blank.parts }
     requires natives { names_of natives.now ≡ native_names }
+    ensures { Ends native_names words.now
+        (record { input = S.rest input.old; read_faults = S.faults input.old; output = K.taken output.old; write_faults = K.faults output.old; errors = E.taken errors.old; error_faults = E.faults errors.old })
+        result
+        (record { input = S.rest input.new; read_faults = S.faults input.new; output = K.taken output.new; write_faults = K.faults output.new; errors = E.taken errors.new; error_faults = E.faults errors.new }) }
 {
     let mut steps = [Steps::<L>::new(blank)];
     run(alloc, natives, words, input, output, errors, &mut steps)

@@ -1,7 +1,7 @@
 //! Worked rehearsals of scripts: their responses to the byte, with the length of each written out.
 
 use crate::tests::{push_define, push_error, rehearsed};
-use natives::Natives;
+use natives::{Native, Natives};
 use std::alloc::Global;
 use std::marker::Brand;
 use std::sync::ledger::Blank;

@@ -2,7 +2,7 @@ ghost use Rattle.std.specs.Prelude.{◌≡◌, ◌<◌};
 
 use crate::program::run;
 use cmd_table::Steps;
-use natives::Natives;
+use natives::{Native, Natives};
 use outside::{MemSink, MemSource};
 use std::alloc::Global;
 use std::marker::Brand;
