@@ -1,5 +1,5 @@
 -- What comes next: a run is written by what comes after each part of it.
-use Rattle.std.specs.Prelude.{Bool, true, false, ℕ, zero, suc, ◌+◌, ◌-◌, ◌/◌, List, [], ◌∷◌, ◌++◌, length, nat_lt, if◌then◌else◌, Option, Some, None}
+use Rattle.std.specs.Prelude.{Bool, true, false, ℕ, zero, suc, ◌-◌, ◌/◌, List, [], ◌∷◌, ◌++◌, length, nat_lt, if◌then◌else◌, Option, Some, None}
 use Rattle.tcl_parse.specs.Tree.{Commands}
 use Rattle.cmd_table.specs.Commands.{defined}
 use Rattle.cmd_table.specs.declared.definition.Def.{Def}

@@ -433,7 +433,7 @@ type Limit = (
     &'static str,
 );
 
-const LIMITS: [Limit; 11] = [
+const LIMITS: [Limit; 12] = [
     (
         ("", "[", "]", 199),
         500,
@@ -452,6 +452,12 @@ const LIMITS: [Limit; 11] = [
         1_024,
         1,
         "spent 1024|",
+    ),
+    (
+        ("info exists ", "sixteen.bytes.xx", "", 65_536),
+        2_000,
+        1,
+        "0 0 975|",
     ),
     (
         ("return x", "sixteen.bytes.xx", "", 65_536),
