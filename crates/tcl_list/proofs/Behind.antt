@@ -1,13 +1,13 @@
 -- A list that is kept as it is written, and elements behind it.
 use Rattle.std.proofs.Common.{◌≡◌, ◌<◌, ◌+◌, ℕ, List, [], ◌∷◌, ◌++◌, length, take, drop, get_or, Ok, refl, ap, sym, ◌∙◌, subst, arith, append_assoc, append-nil}
 use Rattle.std.proofs.lemmas.List.{take-append-drop, drop_more}
+use Rattle.txt_core.specs.Knowing.{IsWrittenList}
 use Rattle.txt_core.specs.Lists.{elements}
 use Rattle.txt_core.specs.Listing.{listing}
 use Rattle.txt_core.specs.Quoting.{written, quoting}
 use Rattle.tcl_list.specs.Answers.{AppendsTo}
-use Rattle.tcl_list.specs.Appending.{Begins, IsWritten, behind}
+use Rattle.tcl_list.specs.Appending.{Begins, spaced}
 use Rattle.tcl_list.proofs.Quoting.{listing_quoting}
-use Rattle.tcl_list.proofs.Slashes.{quote_push}
 
 -- a text, cut round the byte at a place
 cut_at : (t : List ℕ) (i b : ℕ) → i < length t → get_or t i 0 ≡ b → t ≡ take i t ++ (b ∷ drop (i + 1) t)
@@ -24,33 +24,34 @@ pub plain_begins : (t x rest : List ℕ) → t ≡ x ++ rest → written x ≡ x
 plain_begins t x rest e w = (x, e ∙ ap (λ (u : List ℕ). u ++ rest) (sym w))
 
 -- an element with nothing behind it is a list
-pub last_element : (t rest : List ℕ) → Begins t rest → length rest ≡ 0 → IsWritten t
+pub last_element : (t rest : List ℕ) → Begins t rest → length rest ≡ 0 → IsWrittenList t
 unfolding quoting
 last_element t [] h none = (h.0, [], sym (h.1 ∙ append-nil (written h.0)))
 last_element t (b ∷ rest) h none = absurd (omega arith)
 
 -- an element in front of a list, with a space between
-pub more_elements : (t after : List ℕ) → Begins t (32 ∷ after) → IsWritten after → IsWritten t
+pub more_elements : (t after : List ℕ) → Begins t (32 ∷ after) → IsWrittenList after → IsWrittenList t
 unfolding quoting
 more_elements t after h w = (h.0, w.0 ∷ w.1, ap (λ (u : List ℕ). written h.0 ++ (32 ∷ u)) w.2 ∙ sym h.1)
 
--- what stands in front of elements stays there
-behind_text : (t s : List ℕ) (v : List (List ℕ)) → behind (t ++ s) v ≡ t ++ behind s v
-behind_text t s [] = refl
-behind_text t s (x ∷ v) = ap (λ (u : List ℕ). behind u v) (append_assoc t s (32 ∷ written x)) ∙ behind_text t (s ++ (32 ∷ written x)) v
-
-pub behind_list : (t : List ℕ) (v : List (List ℕ)) → behind t v ≡ t ++ behind [] v
-behind_list t v = ap (λ (u : List ℕ). behind u v) (sym (append-nil t)) ∙ behind_text t [] v
-
 -- elements behind a list that is written are those of the longer list
-behind_quoting : (y : List ℕ) (w v : List (List ℕ)) → behind (quoting (y ∷ w)) v ≡ quoting ((y ∷ w) ++ v)
-behind_quoting y w [] = ap quoting (sym (append-nil (y ∷ w)))
-behind_quoting y w (x ∷ v) =
-    ap (λ (u : List ℕ). behind u v) (sym (quote_push w x y))
-    ∙ behind_quoting y (w ++ (x ∷ [])) v
-    ∙ ap quoting (append_assoc (y ∷ w) (x ∷ []) v)
+quoting_spaced : (y : List ℕ) (w v : List (List ℕ)) → quoting ((y ∷ w) ++ v) ≡ quoting (y ∷ w) ++ spaced v
+unfolding quoting
+quoting_spaced y [] [] = sym (append-nil (written y))
+quoting_spaced y [] (x ∷ v) = ap (λ (u : List ℕ). written y ++ (32 ∷ u)) (quoting_spaced x [] v)
+quoting_spaced y (z ∷ w) v =
+    ap (λ (u : List ℕ). written y ++ (32 ∷ u)) (quoting_spaced z w v)
+    ∙ sym (append_assoc (written y) (32 ∷ quoting (z ∷ w)) (spaced v))
 
-pub appends_behind : (t : List ℕ) (v : List (List ℕ)) → IsWritten t → AppendsTo t v (Ok (behind t v))
-appends_behind t v h =
+pub appends_spaced : (t : List ℕ) (v : List (List ℕ)) → IsWrittenList t → AppendsTo t v (Ok (t ++ spaced v))
+appends_spaced t v h =
     let list : List (List ℕ) = h.0 ∷ h.1 in
-    (list, subst (λ u. listing u ≡ elements list) h.2 (listing_quoting list), subst (λ u. behind u v ≡ quoting (list ++ v)) h.2 (behind_quoting h.0 h.1 v))
+    (list, subst (λ u. listing u ≡ elements list) h.2 (listing_quoting list), subst (λ u. u ++ spaced v ≡ quoting (list ++ v)) h.2 (sym (quoting_spaced h.0 h.1 v)))
+
+pub written_spaced : (t : List ℕ) (v : List (List ℕ)) → IsWrittenList t → IsWrittenList (t ++ spaced v)
+written_spaced t v h = (h.0, h.1 ++ v, subst (λ u. quoting ((h.0 ∷ h.1) ++ v) ≡ u ++ spaced v) h.2 (quoting_spaced h.0 h.1 v))
+
+-- a list of some elements
+pub written_list : (v : List (List ℕ)) → (v ≡ [] → ⊥) → IsWrittenList (quoting v)
+written_list [] some = absurd (some refl)
+written_list (x ∷ v) some = (x, v, refl)

@@ -1,14 +1,15 @@
 //! Elements behind a list.
 
-ghost use Rattle.std.specs.Prelude.{◌≡◌, ◌<◌, ◌++◌, ◌∷◌, true, length, get_or, IfOk, IfSome, OnOk};
+ghost use Rattle.std.specs.Prelude.{◌≡◌, ◌<◌, ◌++◌, ◌∷◌, true, length, get_or, Ok, IfOk, IfSome, OnOk};
+ghost use Rattle.txt_core.specs.Knowing.{IsWrittenList};
 ghost use Rattle.tcl_list.specs.Answers.{AppendsTo};
-ghost use Rattle.tcl_list.specs.Appending.{Begins, IsWritten, behind};
+ghost use Rattle.tcl_list.specs.Appending.{Begins, spaced};
 
 use crate::fault::ListFault;
 use crate::splitting::split;
 use crate::writing::{Manner, manner_of, put_element, quote};
 use std::alloc::{AllocError, Global};
-use txt_core::{NoMemory, Text, Words};
+use txt_core::{Known, NoMemory, Text, Words};
 
 /// What stands before the first space, and what is left from it on.
 fn to_space(bytes: &[u8]) -> (&[u8], &[u8])
@@ -81,7 +82,7 @@ fn behind_element(bytes: &[u8]) -> Option<&[u8]>
 /// Whether a text is a list of at least one element as `quote` writes it. One in which an element
 /// is written with backslashes is not looked into: of it the answer is no.
 fn stands_as_written(bytes: &[u8]) -> bool
-    ensures { result ≡ true → IsWritten bytes.now }
+    ensures { result ≡ true → IsWrittenList bytes.now }
 {
     let mut rest = bytes;
     'elements: loop {
@@ -102,7 +103,7 @@ fn stands_as_written(bytes: &[u8]) -> bool
 
 /// Writes elements, each behind a space.
 fn put_behind(out: &mut Vec<u8>, words: &[Text]) -> Result<(), AllocError>
-    ensures { OnOk result (out.new.items ≡ behind out.old.items words.now) }
+    ensures { OnOk result (out.new.items ≡ out.old.items ++ spaced words.now) }
 {
     'words: for word in words {
         out.push(b' ')?;
@@ -111,14 +112,27 @@ fn put_behind(out: &mut Vec<u8>, words: &[Text]) -> Result<(), AllocError>
     Ok(())
 }
 
-/// Puts elements behind a list that is kept as it stands.
-fn kept(alloc: Global, mut list: Text, words: &[Text]) -> Result<Text, NoMemory>
-    ensures { IfOk result (λ text. text ≡ behind list words.now) }
+/// What stands behind a list, once these elements are put at its end. The condition is that the
+/// list, of at least one element, stands as `quote` writes it; its bytes aren't read. The only error
+/// is want of memory.
+pub fn elements_behind(alloc: Global, list: &Text, words: &[Text]) -> Result<Text, NoMemory>
+    requires { IsWrittenList list.now }
+    ensures appends { IfOk result (λ more. AppendsTo list.now words.now (Ok (list.now ++ more))) }
+    ensures written { IfOk result (λ more. IsWrittenList (list.now ++ more)) }
 {
     let mut more = Vec::new(alloc);
     put_behind(&mut more, words)?;
-    list.append(more.as_slice())?;
-    Ok(list)
+    Ok(Text::from_vec(more))
+}
+
+/// Whether a list of at least one element is known, or is found, to stand as `quote` writes it.
+fn is_as_written(list: &Text) -> bool
+    ensures { result ≡ true → IsWrittenList list.now }
+{
+    match list.known() {
+        Known::WrittenList => true,
+        Known::Nothing => stands_as_written(list.bytes()),
+    }
 }
 
 /// Puts copies of texts at the end of a list.
@@ -145,19 +159,22 @@ fn quoted_anew(alloc: Global, list: &Text, words: &[Text]) -> Result<Text, ListF
 /// Puts elements at the end of a list: the one text in which the list's elements and, behind them,
 /// these are written.
 ///
-/// A text that stands as `quote` writes it is kept, and only the new elements are written behind
-/// it; the empty text, one in which an element has backslashes and any other are split and quoted
-/// anew.
+/// A text that is known to be a list of at least one element as `quote` writes it, or is found to
+/// be one whose elements stand as themselves or in braces, is kept, and only the new elements are
+/// written behind it; a known one isn't looked at. Any other, the empty text too, is split and
+/// quoted anew.
 ///
 /// # Errors
 ///
 /// `Bad { at }` exactly where the text is no list, at the first such place, as [`split`] tells it.
 /// `NoMemory` for want of memory alone.
-pub fn append_elements(alloc: Global, list: Text, words: &[Text]) -> Result<Text, ListFault>
+pub fn append_elements(alloc: Global, mut list: Text, words: &[Text]) -> Result<Text, ListFault>
     ensures { AppendsTo list words.now result }
 {
-    if stands_as_written(list.bytes()) {
-        return Ok(kept(alloc, list, words)?);
+    if is_as_written(&list) {
+        let more = elements_behind(alloc, &list, words)?;
+        list.append(more.bytes())?;
+        return Ok(list.knowing(Known::WrittenList));
     }
     quoted_anew(alloc, &list, words)
 }

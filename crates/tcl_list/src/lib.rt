@@ -11,7 +11,7 @@ mod splitting;
 mod tests;
 mod writing;
 
-pub use appending::append_elements;
+pub use appending::{append_elements, elements_behind};
 pub use fault::ListFault;
 pub use law::{one_answer, one_listing, one_writing, quote_splits};
 pub use splitting::split;

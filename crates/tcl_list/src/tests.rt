@@ -1,8 +1,8 @@
-use super::{ListFault, append_elements, quote, split};
+use super::{ListFault, append_elements, elements_behind, quote, split};
 use std::alloc::Global;
 use std::process::Abort;
 use std::test::Fail;
-use txt_core::{Text, Words};
+use txt_core::{Known, Text, Words};
 
 /// The texts that each end at a bar.
 fn words_of(alloc: Global, ended: &[u8]) -> Result<Words, Fail> {
@@ -17,6 +17,14 @@ fn words_of(alloc: Global, ended: &[u8]) -> Result<Words, Fail> {
         }
     }
     Ok(words)
+}
+
+/// Whether a text that was written as a list is known to be one, or is empty and nothing is known.
+fn known_where_any(text: &Text) -> bool {
+    match text.known() {
+        Known::WrittenList => !text.is_empty(),
+        Known::Nothing => text.is_empty(),
+    }
 }
 
 /// The elements of a text, each with a bar at its end.
@@ -110,6 +118,7 @@ fn quoted(rt: HostRuntime) -> Result<(), Fail> {
     for (words, want) in rows {
         let text = quote(alloc, &words_of(alloc, words)?)?;
         assert_eq!(rt; text.bytes(), want);
+        assert_eq!(rt; known_where_any(&text), true);
         assert_eq!(rt; ended(alloc, text.bytes())?.as_slice(), words);
     }
     Ok(())
@@ -160,11 +169,9 @@ fn ten_thousand(rt: HostRuntime) -> Result<(), Fail> {
     Ok(())
 }
 
-/// The list with the elements that each end at a bar behind its own.
-fn appended(alloc: Global, list: &[u8], ended: &[u8]) -> Result<Vec<u8>, Fail> {
-    let words = words_of(alloc, ended)?;
-    let text = append_elements(alloc, Text::new(alloc, list)?, words.as_slice())?;
-    Ok(Vec::from_slice(alloc, text.bytes())?)
+/// A text that is known to be a list as it is written, where the list has an element.
+fn known_list(alloc: Global, list: &[u8]) -> Result<Text, Fail> {
+    Ok(quote(alloc, &split(alloc, &Text::new(alloc, list)?)?)?)
 }
 
 #[test]
@@ -199,7 +206,41 @@ fn elements_behind_a_list(rt: HostRuntime) -> Result<(), Fail> {
         (b"a$b", b"c|", b"{a$b} c"),
     ];
     for (list, words, want) in rows {
-        assert_eq!(rt; appended(alloc, list, words)?.as_slice(), want);
+        let words = words_of(alloc, words)?;
+        let once = append_elements(alloc, Text::new(alloc, list)?, words.as_slice())?;
+        assert_eq!(rt; once.bytes(), want);
+        assert_eq!(rt; known_where_any(&once), true);
+        let known = append_elements(alloc, known_list(alloc, list)?, words.as_slice())?;
+        assert_eq!(rt; known.bytes(), want);
+        assert_eq!(rt; known_where_any(&known), true);
+        let unknown = append_elements(alloc, Text::new(alloc, want)?, words.as_slice())?;
+        let twice = append_elements(alloc, once, words.as_slice())?;
+        assert_eq!(rt; twice.bytes(), unknown.bytes());
+    }
+    Ok(())
+}
+
+#[test]
+fn elements_apart_from_their_list(rt: HostRuntime) -> Result<(), Fail> {
+    let alloc = rt.alloc();
+    let rows: [(&[u8], &[u8], &[u8]); 8] = [
+        (b"a", b"", b""),
+        (b"a", b"b|", b" b"),
+        (b"a", b"b|c d|", b" b {c d}"),
+        (b"{}", b"|", b" {}"),
+        (b"a {b c}", b"#|{|c$d|", b" {#} \\{ {c$d}"),
+        (b"\\{", b"}|", b" \\}"),
+        (b"{#}", b"#a|b\\|", b" {#a} b\\\\"),
+        (b"a", b"\n|\\\n|", b" {\n} \\\\\\n"),
+    ];
+    for (list, words, want) in rows {
+        let words = words_of(alloc, words)?;
+        let list = known_list(alloc, list)?;
+        let more = match list.known() {
+            Known::WrittenList => Some(elements_behind(alloc, &list, words.as_slice())?),
+            Known::Nothing => None,
+        };
+        assert_eq!(rt; more.as_ref().map(|text| text.bytes()), Some(want));
     }
     Ok(())
 }

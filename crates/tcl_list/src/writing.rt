@@ -2,12 +2,13 @@
 
 ghost use Rattle.std.specs.Prelude.{[], false, ◌≡◌, ◌++◌, length, take, ◌<◌, IfOk, OnOk};
 ghost use Rattle.txt_core.specs.Counting.{balances};
+ghost use Rattle.txt_core.specs.Knowing.{Holds};
 ghost use Rattle.tcl_list.specs.Manners.{written_by};
 ghost use Rattle.txt_core.specs.Quoting.{is_special, letter_of, with_backslashes, escaped, written, quoting};
 
 use crate::gap::{FORM_FEED, VERTICAL_TAB, is_blank_or_newline};
 use std::alloc::{AllocError, Global};
-use txt_core::{NoMemory, Text, Words};
+use txt_core::{Known, NoMemory, Text, Words};
 
 /// Whether the byte keeps an element from standing as itself.
 fn special(b: u8) -> bool
@@ -157,13 +158,25 @@ fn put_all(out: &mut Vec<u8>, words: &Words) -> Result<(), AllocError>
     }
 }
 
+/// What is known of the text in which these elements are written.
+fn known_of(words: &Words) -> Known
+    ensures { Holds result (quoting words.now) }
+{
+    if words.is_empty() {
+        Known::Nothing
+    } else {
+        Known::WrittenList
+    }
+}
+
 /// The one text in which these elements are written as a list, with one space between.
 ///
 /// An element stands as itself where it isn't empty, doesn't begin with `#` and holds no blank,
 /// newline or one of `{ } [ ] " \ $ ;`. Otherwise it stands in braces where its braces match and
 /// no backslash stands last or before a newline. Otherwise each of those bytes, and a leading `#`,
 /// is written with a backslash, and newline, tab, carriage return, vertical tab and form feed as
-/// `\n \t \r \v \f`. Splitting the text gives these elements again.
+/// `\n \t \r \v \f`. Splitting the text gives these elements again. Where there is an element, the
+/// text is known to be a written list.
 ///
 /// # Errors
 ///
@@ -173,5 +186,5 @@ pub fn quote(alloc: Global, words: &Words) -> Result<Text, NoMemory>
 {
     let mut out = Vec::new(alloc);
     put_all(&mut out, words)?;
-    Ok(Text::from_vec(out))
+    Ok(Text::from_vec(out).knowing(known_of(words)))
 }
