@@ -34,7 +34,7 @@ impl Model for NsvArray {
 pub(crate) fn copied(alloc: Global, text: &Text) -> Result<Text, NoMemory>
     ensures { IfOk result (λ copy. copy ≡ text.now) }
 {
-    Text::new(alloc, text.bytes())
+    text.copy(alloc)
 }
 
 impl NsvArray {

@@ -5,7 +5,7 @@ ghost use Rattle.std.specs.List.{concat};
 ghost use Rattle.std.specs.Option.{unwrap_or};
 ghost use Rattle.nsv_bucket.specs.Questions.{word_at};
 ghost use Rattle.nsv_bucket.specs.Arrays.{seen, value_of};
-ghost use Rattle.nsv_bucket.specs.Writes.{stored, set_step, incr_step, append_step, unset_key, unset_array, unset_step};
+ghost use Rattle.nsv_bucket.specs.Writes.{stored, set_step, sum_of, incr_step, append_step, unset_key, unset_array, unset_step};
 ghost use Rattle.nsv_bucket.specs.Lists.{lappend_step};
 
 use crate::array::copied;
@@ -23,7 +23,7 @@ fn store(
     arrays: &mut Arrays,
     name: &Text,
     key: &Text,
-    value: Text,
+    mut value: Text,
 ) -> Result<NsvReply, NoMemory>
     ensures reply { IfOk result (λ reply. reply ≡ (stored (seen arrays.old) name.now key.now value).0) }
     ensures ok { OnOk result (seen arrays.new ≡ (stored (seen arrays.old) name.now key.now value).1) }
@@ -32,7 +32,7 @@ fn store(
     if value.len() > MOST_BYTES {
         return refuse_long(alloc);
     }
-    let said = copied(alloc, &value)?;
+    let said = value.share(alloc)?;
     put_value(alloc, arrays, name, key, value)?;
     Ok(NsvReply::Said(said))
 }
@@ -69,6 +69,13 @@ fn added(alloc: Global, words: &Words) -> Result<Text, NoMemory>
     }
 }
 
+/// The sum of two numbers; `None` where it has no room in 64 bits.
+fn sum_of(number: i64, step: i64) -> Option<i64>
+    ensures { result ≡ sum_of number step }
+{
+    number.checked_add(step)
+}
+
 /// Answers `nsv_incr`: adds to the number that stands, which is looked at before the one that is
 /// added.
 pub(crate) fn incr(alloc: Global, arrays: &mut Arrays, words: &Words) -> Result<NsvReply, NoMemory>
@@ -85,7 +92,7 @@ pub(crate) fn incr(alloc: Global, arrays: &mut Arrays, words: &Words) -> Result<
     let Some(step) = read_int(&more) else {
         return refuse(alloc, no_integer(alloc, &more)?);
     };
-    match number.checked_add(step) {
+    match sum_of(number, step) {
         None => refuse(alloc, Text::new(alloc, b"integer overflow")?),
         Some(sum) => {
             let value = write_int(alloc, sum)?;
