@@ -1,7 +1,8 @@
 //! The variables of an interpreter.
 
-ghost use Rattle.std.specs.Prelude.{◌≡◌, ◌<◌, IfOk, OnOk, OnErr, length, false};
+ghost use Rattle.std.specs.Prelude.{◌≡◌, ◌<◌, ◌++◌, IfOk, OnOk, OnErr, length, false};
 ghost use Rattle.std.specs.FinMap as map;
+ghost use Rattle.txt_core.specs.Knowing.{Holds};
 ghost use Rattle.tcl_frame.specs.Names.{named, is_element};
 ghost use Rattle.tcl_frame.specs.Frames.{fresh, pushed, popped, table_of, has, is_array, elements_of, read_of, read_fault, write_fault, remove_fault, array_fault, link_fault, written, removed, pairs_written, linked};
 ghost use Rattle.tcl_frame.specs.Refusal.{IsRefusedFor};
@@ -13,7 +14,7 @@ use crate::name::Name;
 use crate::variable::Table;
 use std::alloc::Global;
 use std::marker::Model;
-use txt_core::{NoMemory, Pairs, Text};
+use txt_core::{Known, NoMemory, Pairs, Text};
 
 /// The variables of an interpreter: the global ones, and above them a stack of frames. A name is
 /// looked up in the topmost frame, and among the global variables where there is no frame above
@@ -90,6 +91,22 @@ impl Frames {
         }
     }
 
+    /// The value of a scalar or an element, without a copy. `NoVariable` comes exactly where the
+    /// variable, the array or the element is absent, `IsArray` where the name is an array's, and
+    /// `NotArray` where an element's array is a scalar.
+    pub fn value(&self, name: &Text) -> Result<&Text, VarFault>
+        ensures value { IfOk result (λ value. value.now ≡ read_of self.now name.now) }
+        ensures refused { IsRefusedFor (read_fault self.now name.now) result }
+    {
+        let name = Name::new(name.bytes());
+        match self.table(name.variable()).find(&name) {
+            Found::Nothing => Err(VarFault::NoVariable),
+            Found::Value(value) => Ok(value),
+            Found::AnArray(_) => Err(VarFault::IsArray),
+            Found::InScalar => Err(VarFault::NotArray),
+        }
+    }
+
     /// A copy of the value of a scalar or an element. `NoVariable` comes exactly where the
     /// variable, the array or the element is absent, `IsArray` where the name is an array's, and
     /// `NotArray` where an element's array is a scalar.
@@ -97,13 +114,8 @@ impl Frames {
         ensures value { IfOk result (λ value. value ≡ read_of self.now name.now) }
         ensures refused { IsRefusedFor (read_fault self.now name.now) result }
     {
-        let name = Name::new(name.bytes());
-        match self.table(name.variable()).find(&name) {
-            Found::Nothing => Err(VarFault::NoVariable),
-            Found::Value(value) => Ok(Text::new(self.alloc, value.bytes())?),
-            Found::AnArray(_) => Err(VarFault::IsArray),
-            Found::InScalar => Err(VarFault::NotArray),
-        }
+        let value = self.value(name)?;
+        Ok(value.copy(self.alloc)?)
     }
 
     /// Whether the name is a scalar, an array or an element that is there.
@@ -160,6 +172,29 @@ impl Frames {
                 frame.variables.write(&name, value)
             }
             _ => self.global.write(&name, value),
+        }
+    }
+
+    /// Puts bytes behind the value of a scalar or an element, which is empty where the variable, the
+    /// array or the element is absent, and gives the new value, with which the variable shares its
+    /// bytes: a value that nothing else shares is written to in place. The condition is that what is
+    /// known of the new value is true. `IsArray` comes exactly where the name is an array's,
+    /// `NotArray` where an element's array is a scalar. A refusal, and want of memory, change
+    /// nothing.
+    pub fn append(&mut self, name: &Text, more: &[u8], known: Known) -> Result<Text, VarFault>
+        requires { Holds known (read_of self.old name.now ++ more.now) }
+        ensures value { IfOk result (λ value. value ≡ read_of self.old name.now ++ more.now) }
+        ensures ok { OnOk result (self.new ≡ written self.old name.now (read_of self.old name.now ++ more.now)) }
+        ensures refused { IsRefusedFor (write_fault self.old name.now) result }
+        ensures err { OnErr result (self.new ≡ self.old) }
+        ensures depth { length self.new.above ≡ length self.old.above }
+    {
+        let name = Name::new(name.bytes());
+        match self.above.last_mut() {
+            Some(frame) if !frame.links.contains(name.variable()) => {
+                frame.variables.append(&name, more, known)
+            }
+            _ => self.global.append(&name, more, known),
         }
     }
 

@@ -1,7 +1,9 @@
 //! Variables by name, without frames.
 
-ghost use Rattle.std.specs.Prelude.{◌≡◌, None, OnOk, OnErr};
+ghost use Rattle.std.specs.Prelude.{◌≡◌, None, IfOk, OnOk, OnErr};
+ghost use Rattle.txt_core.specs.Knowing.{Holds};
 ghost use Rattle.tcl_frame.specs.Variables.{with_value, without, with_array};
+ghost use Rattle.tcl_frame.specs.Appending.{longer, with_longer};
 ghost use Rattle.tcl_frame.specs.Names as names;
 ghost use Rattle.tcl_frame.specs.Meaning.{found, no_write, no_removal, no_array};
 ghost use Rattle.tcl_frame.specs.Seen.{name_seen};
@@ -12,7 +14,7 @@ use crate::fault::VarFault;
 use crate::found::Found;
 use crate::name::Name;
 use crate::variable::{Elements, Table, Variable};
-use txt_core::{NoMemory, Text};
+use txt_core::{Known, NoMemory, Text};
 
 impl Table {
     /// What a name finds.
@@ -78,6 +80,72 @@ impl Table {
                 let mut elements = Elements::new(self.alloc);
                 elements.insert(index, value)?;
                 self.insert(array, Variable::Array(elements))
+            }
+        }
+    }
+
+    /// Puts bytes behind the value of a scalar or an element, which is empty where it is absent, and
+    /// gives the new value. What is absent is made.
+    pub fn append(&mut self, name: &Name<'_>, more: &[u8], known: Known) -> Result<Text, VarFault>
+        requires { Holds known (longer self.old (name_seen name.now) more.now) }
+        ensures value { IfOk result (λ value. value ≡ longer self.old (name_seen name.now) more.now) }
+        ensures ok { OnOk result (self.new ≡ with_longer self.old (name_seen name.now) more.now) }
+        ensures refused { IsRefusedFor (no_write (found self.old (name_seen name.now))) result }
+        ensures err { OnErr result (self.new ≡ self.old) }
+    {
+        let refusal = self.find(name).no_write();
+        if let Some(fault) = refusal {
+            return Err(fault);
+        }
+        let value = match name {
+            Name::Whole(name) => self.append_whole(name, more, known)?,
+            Name::Element(array, index) => self.append_element(array, index, more, known)?,
+        };
+        Ok(value)
+    }
+
+    /// Puts bytes behind a scalar's value. An absent scalar is made.
+    fn append_whole(&mut self, name: &[u8], more: &[u8], known: Known) -> Result<Text, NoMemory>
+        requires open { no_write (found self.old (names.Whole name.now)) ≡ None }
+        requires holds { Holds known (longer self.old (names.Whole name.now) more.now) }
+        ensures value { IfOk result (λ value. value ≡ longer self.old (names.Whole name.now) more.now) }
+        ensures ok { OnOk result (self.new ≡ with_longer self.old (names.Whole name.now) more.now) }
+        ensures err { OnErr result (self.new ≡ self.old) }
+    {
+        let alloc = self.alloc;
+        match self.get_mut(name) {
+            Some(variable) => variable.append(alloc, more, known),
+            None => {
+                let mut text = Text::new(alloc, more)?.knowing(known);
+                let same = text.share(alloc)?;
+                self.insert(name, Variable::Scalar(text))?;
+                Ok(same)
+            }
+        }
+    }
+
+    /// Puts bytes behind an element's value, in an array that is made where the name has none.
+    fn append_element(
+        &mut self,
+        array: &[u8],
+        index: &[u8],
+        more: &[u8],
+        known: Known,
+    ) -> Result<Text, NoMemory>
+        requires open { no_write (found self.old (names.Element array.now index.now)) ≡ None }
+        requires holds { Holds known (longer self.old (names.Element array.now index.now) more.now) }
+        ensures value { IfOk result (λ value. value ≡ longer self.old (names.Element array.now index.now) more.now) }
+        ensures ok { OnOk result (self.new ≡ with_longer self.old (names.Element array.now index.now) more.now) }
+        ensures err { OnErr result (self.new ≡ self.old) }
+    {
+        let alloc = self.alloc;
+        match self.get_mut(array) {
+            Some(variable) => variable.append_at(alloc, index, more, known),
+            None => {
+                let mut elements = Elements::new(alloc);
+                let value = elements.append(index, more, known)?;
+                self.insert(array, Variable::Array(elements))?;
+                Ok(value)
             }
         }
     }

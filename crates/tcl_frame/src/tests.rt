@@ -2,7 +2,7 @@ use super::*;
 use VarFault::{Exists, IsArray, NoVariable, NotArray};
 use std::alloc::Global;
 use std::test::Fail;
-use txt_core::{Text, Words, write_int};
+use txt_core::{Known, Text, Words, write_int};
 
 /// A call on frames, or a question about them.
 #[derive(Clone, Copy)]
@@ -10,7 +10,9 @@ enum Act {
     Push,
     Pop,
     Read,
+    Value,
     Write,
+    Append,
     Remove,
     Link,
     WriteArray,
@@ -78,7 +80,9 @@ fn answer(
         Act::Pop if frames.depth() > 0 => frames.pop(),
         Act::Pop => {}
         Act::Read => return frames.read(&name),
+        Act::Value => return Ok(Text::new(alloc, frames.value(&name)?.bytes())?),
         Act::Write => frames.write(&name, Text::new(alloc, value.as_bytes())?)?,
+        Act::Append => return frames.append(&name, value.as_bytes(), Known::Nothing),
         Act::Remove => frames.remove(&name)?,
         Act::Link if !is_element_name(&name) => frames.link(&name)?,
         Act::Link => {}
@@ -184,6 +188,67 @@ fn scalars_and_arrays(rt: HostRuntime) -> Result<(), Fail> {
         (Act::IsArray, "a", "", Ok("yes")),
     ];
     assert_eq!(rt; first_wrong(rt.alloc(), rows)?, None);
+    Ok(())
+}
+
+#[test]
+fn values_that_grow(rt: HostRuntime) -> Result<(), Fail> {
+    let rows: &[Row] = &[
+        (Act::Value, "x", "", Err(NoVariable)),
+        (Act::Append, "x", "ab", Ok("ab")),
+        (Act::Append, "x", "", Ok("ab")),
+        (Act::Append, "x", "cd", Ok("abcd")),
+        (Act::Value, "x", "", Ok("abcd")),
+        (Act::Read, "x", "", Ok("abcd")),
+        (Act::Write, "x", "e", Ok("")),
+        (Act::Append, "x", "f", Ok("ef")),
+        (Act::Append, "x(k)", "g", Err(NotArray)),
+        (Act::Value, "x(k)", "", Err(NotArray)),
+        (Act::Value, "x", "", Ok("ef")),
+        (Act::Append, "n", "", Ok("")),
+        (Act::Has, "n", "", Ok("yes")),
+        (Act::Append, "a(k)", "1", Ok("1")),
+        (Act::Append, "a(j)", "2", Ok("2")),
+        (Act::Append, "a(k)", "3", Ok("13")),
+        (Act::Value, "a(k)", "", Ok("13")),
+        (Act::Elements, "a", "", Ok("j=2;k=13;")),
+        (Act::Append, "a", "4", Err(IsArray)),
+        (Act::Value, "a", "", Err(IsArray)),
+        (Act::Elements, "a", "", Ok("j=2;k=13;")),
+        (Act::Push, "", "", Ok("")),
+        (Act::Append, "x", "own", Ok("own")),
+        (Act::Link, "a", "", Ok("")),
+        (Act::Append, "a(k)", "5", Ok("135")),
+        (Act::Link, "g", "", Ok("")),
+        (Act::Append, "g", "h", Ok("h")),
+        (Act::Pop, "", "", Ok("")),
+        (Act::Value, "x", "", Ok("ef")),
+        (Act::Append, "g", "i", Ok("hi")),
+        (Act::Elements, "a", "", Ok("j=2;k=135;")),
+    ];
+    assert_eq!(rt; first_wrong(rt.alloc(), rows)?, None);
+    Ok(())
+}
+
+/// What was taken out of a variable stays as it was while the variable grows, and the other way
+/// round.
+#[test]
+fn values_grow_apart(rt: HostRuntime) -> Result<(), Fail> {
+    let alloc = rt.alloc();
+    let mut frames = Frames::new(alloc)?;
+    for name in ["x", "a(k)"] {
+        let name = Text::new(alloc, name.as_bytes())?;
+        let first = frames.append(&name, b"ab", Known::Nothing)?;
+        let mut read = frames.read(&name)?;
+        let second = frames.append(&name, b"cd", Known::Nothing)?;
+        read.append(b"-")?;
+        let third = frames.append(&name, b"ef", Known::Nothing)?;
+        assert_eq!(rt; first.bytes(), b"ab".as_slice());
+        assert_eq!(rt; read.bytes(), b"ab-".as_slice());
+        assert_eq!(rt; second.bytes(), b"abcd".as_slice());
+        assert_eq!(rt; third.bytes(), b"abcdef".as_slice());
+        assert_eq!(rt; frames.value(&name)?.bytes(), b"abcdef".as_slice());
+    }
     Ok(())
 }
 

@@ -1,0 +1,18 @@
+use Rattle.std.proofs.Common.{◌≡◌, false, refl, ap, sym, ◌∙◌, subst}
+use Rattle.std.specs.FinMap as map
+use Rattle.tcl_frame.specs.Names.{named, variable_name}
+use Rattle.tcl_frame.specs.Appending.{with_longer}
+use Rattle.tcl_frame.proofs.Tables.{on_ok}
+use Rattle.tcl_frame.proofs.Tops.{top_changed}
+use Rattle.tcl_frame.proofs.frames.Frames.append.Goals as goal
+
+pub returns-in-Some-clause-ok : goal.returns-in-Some-clause-ok
+returns-in-Some-clause-ok c =
+    let meant = c.new-name.ensures ∙ ap named c.bytes.ensures in
+    let name = c.variable.ensures ∙ ap variable_name meant in
+    on_ok c.append.result _ _ (λ is.
+    top_changed c.self.inside.global c.self.inside.above.items c.self.inside.above.len c.in-Some.frame.now c.args.self.now (variable_name (named c.args.name.now))
+    (λ table. with_longer table (named c.args.name.now) c.args.more.now) c.append.new.self
+    c.self.inside.above.ok.0 (c.in-Some.ensures.variant.0 refl) c.in-Some.ensures.value c.self.view_is
+    (subst (λ n. map.contains_key c.in-Some.frame.now.links n ≡ false) name (sym c.contains.ensures ∙ c.if-not-contains.true))
+    (is ∙ ap (λ n. with_longer c.in-Some.frame.now.variables n c.args.more.now) meant)) c.append.ensures.ok
