@@ -1,5 +1,5 @@
 -- How an answer follows from the answers of the checks before it.
-use Rattle.std.proofs.Common.{◌≡◌, ℕ, List, Option, Some, None, Result, Err, refl, sym, ap, ◌∙◌}
+use Rattle.std.proofs.Common.{◌≡◌, ℕ, List, Option, Some, None, Result, Err, refl, sym, ap, subst, ◌∙◌}
 use Rattle.tcl_frame.specs.Stack.{Stack}
 use Rattle.natives.specs.declared.fault.Fault.{Fault}
 use Rattle.natives.specs.declared.fault.Fault.TheVariants.{Error, NoMemory}
@@ -15,6 +15,11 @@ said text NoMemory s = tt
 pub tried_said : {A : Type 0} (P : A → Type 0) (error message : Option (List ℕ)) (x : Fault) → error ≡ message → Says message x → Tried error P (Err x)
 tried_said P error message (Error text) e s = e ∙ s
 tried_said P error message NoMemory e s = tt
+
+-- a check that goes on with another value
+pub tried_other : {A B : Type 0} (P : A → Type 0) (Q : B → Type 0) (error : Option (List ℕ)) (x : Fault) → Tried error P (Err x) → Tried error Q (Err x)
+tried_other P Q error (Error text) h = h
+tried_other P Q error NoMemory h = tt
 
 -- a change that says its error
 pub changes_said : (error message : Option (List ℕ)) (after before new : Stack) (x : Fault) → error ≡ message → Says message x → new ≡ before → Changes error after before (Err x) new
@@ -35,6 +40,10 @@ answers_exit P error stack new came NoMemory h same = tt
 pub answers_unchanged : (error : Option (List ℕ)) (stack after new : Stack) (came : Came) (x : Fault) → Changes error after stack (Err x) new → Answers (unless error stack came) (Err x) new
 answers_unchanged error stack after new came (Error text) h = rw h.0 (refl, h.1)
 answers_unchanged error stack after new came NoMemory h = tt
+
+-- a command that went on behind a check
+pub answers_past : (error : Option (List ℕ)) (stack new : Stack) (came : Came) (r : Result (List ℕ) Fault) → error ≡ None → Answers (unless error stack came) r new → Answers came r new
+answers_past error stack new came r none h = subst (λ e. Answers (unless e stack came) r new) none h
 
 -- a command that goes on behind a check
 pub answers_on : (error : Option (List ℕ)) (stack new : Stack) (came : Came) (r : Result (List ℕ) Fault) → error ≡ None → Answers came r new → Answers (unless error stack came) r new

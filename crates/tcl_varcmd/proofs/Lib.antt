@@ -3,3 +3,4 @@ mod Faults
 mod Values
 mod Counts
 mod Making
+mod Growing

@@ -1,21 +1,25 @@
 //! The commands that read or write one variable.
 
-ghost use Rattle.std.specs.Prelude.{◌≡◌, ◌<◌, length, OnOk};
+ghost use Rattle.std.specs.Prelude.{◌≡◌, ◌+◌, ◌++◌, [], length, nat_lt, IfOk};
 ghost use Rattle.std.specs.Option.{option_copied};
+ghost use Rattle.txt_core.specs.Knowing.{Holds};
+ghost use Rattle.tcl_frame.specs.Frames.{read_of};
 ghost use Rattle.natives.specs.Answers.{Tried};
 ghost use Rattle.tcl_varcmd.specs.Answers.{Answers, IfNoMemory};
+ghost use Rattle.tcl_varcmd.specs.Growing.{grown};
 ghost use Rattle.tcl_varcmd.specs.Scalars.{stored, set_to, set_came, step_error, step_of, incr_by, incr_came, joined, append_to, append_came, lappend_to, lappend_came};
 
 use crate::message::{check_count, check_least};
 use crate::value::{sum, with_elements};
-use crate::variable::{read, read_or_empty, write};
-use natives::{Fault, is_too_long, number_in, word_at};
+use crate::variable::{self, length_or_none, read, read_or_empty, write, written_list};
+use natives::{Fault, MOST_BYTES, is_too_long, number_in, word_at};
 use std::alloc::Global;
 use tcl_frame::Frames;
-use txt_core::{NoMemory, Text, Words, write_int};
+use tcl_list::elements_behind;
+use txt_core::{Known, NoMemory, Text, Words, write_int};
 
 /// Writes a value, which is the result.
-fn store(alloc: Global, frames: &mut Frames, name: &Text, value: Text) -> Result<Text, Fault>
+fn store(alloc: Global, frames: &mut Frames, name: &Text, mut value: Text) -> Result<Text, Fault>
     ensures came { Answers (stored frames.old name.now value) result frames.new }
     ensures kept { IfNoMemory result (frames.new ≡ frames.old) }
     ensures depth { length frames.new.above ≡ length frames.old.above }
@@ -23,8 +27,8 @@ fn store(alloc: Global, frames: &mut Frames, name: &Text, value: Text) -> Result
     if is_too_long(&value) {
         return Err(Fault::too_long(alloc));
     }
-    let copy = Text::new(alloc, value.bytes())?;
-    write(alloc, frames, name, copy)?;
+    let shared = value.share(alloc)?;
+    write(alloc, frames, name, shared)?;
     Ok(value)
 }
 
@@ -42,7 +46,7 @@ fn set_value(
     match value {
         None => read(alloc, frames, name),
         Some(value) => {
-            let value = Text::new(alloc, value.bytes())?;
+            let value = value.copy(alloc)?;
             store(alloc, frames, name, value)
         }
     }
@@ -92,14 +96,43 @@ pub(crate) fn incr(alloc: Global, frames: &mut Frames, words: &Words) -> Result<
     add(alloc, frames, word_at(words, 1), words.get(2))
 }
 
-/// Puts texts behind a text.
-fn append_all(text: &mut Text, values: &[Text]) -> Result<(), NoMemory>
-    ensures { OnOk result (text.new ≡ joined text.old values.now) }
+/// Texts as one.
+fn join(alloc: Global, values: &[Text]) -> Result<Text, NoMemory>
+    ensures { IfOk result (λ text. text ≡ joined [] values.now) }
 {
+    let mut text = Text::empty(alloc);
     'values: for value in values {
         text.append(value.bytes())?;
     }
-    Ok(())
+    Ok(text)
+}
+
+/// Whether so many bytes, with a text behind them, are over the limit of a value.
+fn are_too_many(front: usize, text: &Text) -> bool
+    ensures { result ≡ nat_lt 1048576 (front + length text.now) }
+{
+    front.saturating_add(text.len()) > MOST_BYTES
+}
+
+/// Puts a text behind a variable's own, and gives the new value. The condition is that what is known
+/// of it is true.
+fn grow(
+    alloc: Global,
+    frames: &mut Frames,
+    name: &Text,
+    more: &Text,
+    known: Known,
+) -> Result<Text, Fault>
+    requires { Holds known (read_of frames.old name.now ++ more.now) }
+    ensures came { Answers (grown frames.old name.now more.now) result frames.new }
+    ensures kept { IfNoMemory result (frames.new ≡ frames.old) }
+    ensures depth { length frames.new.above ≡ length frames.old.above }
+{
+    let front = length_or_none(alloc, frames, name)?;
+    if are_too_many(front, more) {
+        return Err(Fault::too_long(alloc));
+    }
+    variable::append(alloc, frames, name, more.bytes(), known)
 }
 
 /// Puts values behind a variable's own.
@@ -113,9 +146,8 @@ fn append_values(
     ensures kept { IfNoMemory result (frames.new ≡ frames.old) }
     ensures depth { length frames.new.above ≡ length frames.old.above }
 {
-    let mut value = read_or_empty(alloc, frames, name)?;
-    append_all(&mut value, values)?;
-    store(alloc, frames, name, value)
+    let more = join(alloc, values)?;
+    grow(alloc, frames, name, &more, Known::Nothing)
 }
 
 /// `append name value*`.
@@ -139,6 +171,10 @@ fn lappend_values(
     ensures kept { IfNoMemory result (frames.new ≡ frames.old) }
     ensures depth { length frames.new.above ≡ length frames.old.above }
 {
+    if let Some(old) = written_list(frames, name) {
+        let more = elements_behind(alloc, old, values)?;
+        return grow(alloc, frames, name, &more, Known::WrittenList);
+    }
     let old = read_or_empty(alloc, frames, name)?;
     let value = with_elements(alloc, old, values)?;
     store(alloc, frames, name, value)

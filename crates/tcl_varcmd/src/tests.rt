@@ -4,7 +4,7 @@ use std::alloc::Global;
 use std::test::Fail;
 use tcl_frame::Frames;
 use tcl_list::split;
-use txt_core::{NoMemory, Text, Words};
+use txt_core::{Known, NoMemory, Text, Words};
 
 /// What a command answers, whose words are the elements of a list: its result, or its error's text
 /// behind `error: `.
@@ -81,6 +81,32 @@ const SCALARS: [(&str, &str); 34] = [
     ("info exists", "error: wrong number of words for \"info\""),
 ];
 
+const GROWING: [(&str, &str); 20] = [
+    ("append grown a", "a"),
+    ("append grown b c", "abc"),
+    ("append grown", "abc"),
+    ("set grown", "abc"),
+    (
+        "append grown(x) d",
+        "error: variable \"grown(x)\" is no array",
+    ),
+    ("append k(x) 1", "1"),
+    ("append k(x) 2", "12"),
+    ("append k 3", "error: variable \"k\" is an array"),
+    ("array get k", "x 12"),
+    ("set list {a b}", "a b"),
+    ("lappend list c", "a b c"),
+    ("lappend list {d e} {}", "a b c {d e} {}"),
+    ("set other", "error: can't read \"other\": no such variable"),
+    ("lappend list f", "a b c {d e} {} f"),
+    ("lappend list", "a b c {d e} {} f"),
+    ("append list { \"}", "a b c {d e} {} f \""),
+    ("lappend list g", "error: bad list at 17"),
+    ("set list", "a b c {d e} {} f \""),
+    ("append list g\"", "a b c {d e} {} f \"g\""),
+    ("lappend list h", "a b c {d e} {} f g h"),
+];
+
 const ARRAYS: [(&str, &str); 43] = [
     ("array set a {y 2 x 1}", ""),
     ("array get a", "x 1 y 2"),
@@ -150,11 +176,17 @@ const LINKS: [(&str, &str); 14] = [
     ("append i 1", "1"),
 ];
 
-/// Does `append x` with so many bytes.
-fn append_bytes(alloc: Global, frames: &mut Frames, count: usize) -> Result<Text, Fault> {
+/// Does a command on a variable of the command's name with so many bytes.
+fn put_bytes(
+    alloc: Global,
+    frames: &mut Frames,
+    command: &str,
+    count: usize,
+) -> Result<Text, Fault> {
     let mut words = Words::new(alloc);
     let value = Text::from_vec(vec![in alloc; b'a'; count]?);
-    for word in [Text::new(alloc, b"append")?, Text::new(alloc, b"x")?, value] {
+    let name = Text::new(alloc, command.as_bytes())?;
+    for word in [Text::new(alloc, command.as_bytes())?, name, value] {
         if words.push(word).is_err() {
             return Err(Fault::NoMemory);
         }
@@ -169,8 +201,19 @@ fn append_bytes(alloc: Global, frames: &mut Frames, count: usize) -> Result<Text
 #[test]
 fn values_within_the_limit(rt: HostRuntime) -> Result<(), Fail> {
     let mut frames = Frames::new(rt.alloc())?;
-    for (count, want) in [(1_048_000, 1_048_000), (577, 0), (576, 1_048_576), (1, 0)] {
-        let length = match append_bytes(rt.alloc(), &mut frames, count) {
+    for (command, count, want) in [
+        ("append", 1_048_000, 1_048_000),
+        ("append", 577, 0),
+        ("append", 576, 1_048_576),
+        ("append", 1, 0),
+        ("append", 0, 1_048_576),
+        ("lappend", 1_047_000, 1_047_000),
+        ("lappend", 999, 1_048_000),
+        ("lappend", 576, 0),
+        ("lappend", 575, 1_048_576),
+        ("lappend", 1, 0),
+    ] {
+        let length = match put_bytes(rt.alloc(), &mut frames, command, count) {
             Ok(value) => value.len(),
             Err(Fault::Error(text)) => {
                 assert_eq!(rt; text.bytes(), b"value too long".as_slice());
@@ -183,11 +226,44 @@ fn values_within_the_limit(rt: HostRuntime) -> Result<(), Fail> {
     Ok(())
 }
 
+/// What is known of the value of a variable.
+fn known_of(alloc: Global, frames: &Frames, name: &str) -> Result<Option<Known>, NoMemory> {
+    let name = Text::new(alloc, name.as_bytes())?;
+    match frames.value(&name) {
+        Ok(value) => Ok(Some(value.known())),
+        Err(_) => Ok(None),
+    }
+}
+
+/// A value to which elements were appended is known to be a list as it is written, the result too.
+#[test]
+fn lists_stay_known(rt: HostRuntime) -> Result<(), Fail> {
+    let alloc = rt.alloc();
+    let mut frames = Frames::new(alloc)?;
+    for (command, name) in [
+        ("lappend l a", "l"),
+        ("lappend l {b c}", "l"),
+        ("lappend e(k) a", "e(k)"),
+        ("lappend e(k) b", "e(k)"),
+    ] {
+        let result = answer(alloc, &mut frames, command)?;
+        assert_eq!(rt; result.known(), Known::WrittenList);
+        let known = known_of(alloc, &frames, name)?;
+        assert_eq!(rt; known, Some(Known::WrittenList));
+    }
+    let result = answer(alloc, &mut frames, "append l x")?;
+    assert_eq!(rt; result.known(), Known::Nothing);
+    assert_eq!(rt; known_of(alloc, &frames, "l")?, Some(Known::Nothing));
+    assert_eq!(rt; known_of(alloc, &frames, "none")?, None);
+    Ok(())
+}
+
 #[test]
 fn commands_on_variables(rt: HostRuntime) -> Result<(), Fail> {
     let alloc = rt.alloc();
     let mut frames = Frames::new(alloc)?;
     assert_eq!(rt; wrong_rows(alloc, &mut frames, SCALARS.as_slice())?, 0);
+    assert_eq!(rt; wrong_rows(alloc, &mut frames, GROWING.as_slice())?, 0);
     assert_eq!(rt; wrong_rows(alloc, &mut frames, ARRAYS.as_slice())?, 0);
     assert_eq!(rt;
         answer(alloc, &mut frames, "set g 1")?.bytes(),

@@ -1,18 +1,20 @@
 //! Calls on variables, whose refusals are errors with their texts.
 
-ghost use Rattle.std.specs.Prelude.{◌≡◌, length, false};
+ghost use Rattle.std.specs.Prelude.{◌≡◌, ◌++◌, length, false, None, IfSome};
+ghost use Rattle.txt_core.specs.Knowing.{Holds, IsWrittenList};
 ghost use Rattle.tcl_frame.specs.Names.{named, is_element};
 ghost use Rattle.tcl_frame.specs.Frames.{read_of, link_fault, written, removed, pairs_written, linked};
 ghost use Rattle.natives.specs.Answers.{Tried};
-ghost use Rattle.tcl_varcmd.specs.Answers.{Changes};
+ghost use Rattle.tcl_varcmd.specs.Answers.{Answers, Changes, IfNoMemory};
 ghost use Rattle.tcl_varcmd.specs.Reading.{IsOrEmpty};
+ghost use Rattle.tcl_varcmd.specs.Growing.{put_behind};
 ghost use Rattle.tcl_varcmd.specs.Errors.{refused, read_error, write_error, remove_error, array_error};
 
 use crate::message::refusal;
 use natives::Fault;
 use std::alloc::Global;
 use tcl_frame::{Frames, VarFault};
-use txt_core::Text;
+use txt_core::{Known, Text};
 
 /// The value of a variable.
 pub(crate) fn read(alloc: Global, frames: &Frames, name: &Text) -> Result<Text, Fault>
@@ -44,6 +46,53 @@ pub(crate) fn read_or_empty(alloc: Global, frames: &Frames, name: &Text) -> Resu
     match frames.read(name) {
         Ok(value) => Ok(value),
         Err(fault) => or_empty(alloc, fault, name),
+    }
+}
+
+/// How many bytes the value of a variable that is to be written has, none where it is absent.
+pub(crate) fn length_or_none(alloc: Global, frames: &Frames, name: &Text) -> Result<usize, Fault>
+    ensures { Tried (write_error frames.now name.now) (λ count. count ≡ length (read_of frames.now name.now)) result }
+{
+    match frames.value(name) {
+        Ok(value) => Ok(value.len()),
+        Err(fault) => {
+            let empty = or_empty(alloc, fault, name)?;
+            Ok(empty.len())
+        }
+    }
+}
+
+/// The value of a variable, where it is known to be a list of at least one element, as a list is
+/// written.
+pub(crate) fn written_list<'a>(frames: &'a Frames, name: &Text) -> Option<&'a Text>
+    ensures value { IfSome result (λ list. (list.now ≡ read_of frames.now name.now) × (write_error frames.now name.now ≡ None)) }
+    ensures list { IfSome result (λ list. IsWrittenList list.now) }
+{
+    match frames.value(name) {
+        Ok(value) => match value.known() {
+            Known::WrittenList => Some(value),
+            Known::Nothing => None,
+        },
+        Err(_) => None,
+    }
+}
+
+/// Puts bytes behind a variable's value, and gives the new value.
+pub(crate) fn append(
+    alloc: Global,
+    frames: &mut Frames,
+    name: &Text,
+    more: &[u8],
+    known: Known,
+) -> Result<Text, Fault>
+    requires { Holds known (read_of frames.old name.now ++ more.now) }
+    ensures came { Answers (put_behind frames.old name.now more.now) result frames.new }
+    ensures kept { IfNoMemory result (frames.new ≡ frames.old) }
+    ensures depth { length frames.new.above ≡ length frames.old.above }
+{
+    match frames.append(name, more, known) {
+        Ok(value) => Ok(value),
+        Err(fault) => Err(refusal(alloc, fault, name)),
     }
 }
 

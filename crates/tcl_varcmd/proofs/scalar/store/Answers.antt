@@ -1,4 +1,4 @@
-use Rattle.std.proofs.Common.{◌≡◌, ◌∙◌, sym, refl, ap, Some, Ok, Err}
+use Rattle.std.proofs.Common.{◌∙◌, sym, refl, ap, Some, Ok, Err}
 use Rattle.std.proofs.lemmas.Result.{err_from_is_err_and}
 use Rattle.tcl_frame.specs.Frames.{written}
 use Rattle.natives.specs.Texts.{too_long}
@@ -20,13 +20,12 @@ returns-in_err-write-clause-came c =
     let p = err_from_is_err_and c.from_residual-in_err-write.result c.from_residual-in_err-write.ensures.1 in
     rw (p.1, p.2) (answers_on (long_error c.args.value) stack c.write.new.frames (unless (write_error stack c.args.name.now) stack (gives c.args.value (written stack c.args.name.now c.args.value))) (Err c.in_err-write.field-0.0)
     (is_short c.args.value (sym c.is_too_long.ensures ∙ c.if-is_too_long.false))
-    (answers_unchanged (write_error stack c.args.name.now) stack (written stack c.args.name.now c.in_ok-copy.copy) c.write.new.frames (gives c.args.value (written stack c.args.name.now c.args.value)) c.in_err-write.field-0.0 c.in_err-write.ensures.change))
+    (answers_unchanged (write_error stack c.args.name.now) stack (written stack c.args.name.now c.in_ok-shared.shared) c.write.new.frames (gives c.args.value (written stack c.args.name.now c.args.value)) c.in_err-write.field-0.0 c.in_err-write.ensures.change))
 
 pub returns-clause-came : goal.returns-clause-came
 returns-clause-came c =
     let stack = c.args.frames.now in
-    let copy : c.in_ok-copy.copy ≡ c.args.value = c.in_ok-copy.ensures ∙ c.bytes.ensures in
-    answers_on (long_error c.args.value) stack c.write.new.frames (unless (write_error stack c.args.name.now) stack (gives c.args.value (written stack c.args.name.now c.args.value))) (Ok c.args.value)
+    answers_on (long_error c.args.value) stack c.write.new.frames (unless (write_error stack c.args.name.now) stack (gives c.args.value (written stack c.args.name.now c.args.value))) (Ok c.share.new.self)
     (is_short c.args.value (sym c.is_too_long.ensures ∙ c.if-is_too_long.false))
-    (answers_on (write_error stack c.args.name.now) stack c.write.new.frames (gives c.args.value (written stack c.args.name.now c.args.value)) (Ok c.args.value)
-    c.in_ok-write.ensures.change.0 (refl, c.in_ok-write.ensures.change.1 ∙ ap (written stack c.args.name.now) copy))
+    (answers_on (write_error stack c.args.name.now) stack c.write.new.frames (gives c.args.value (written stack c.args.name.now c.args.value)) (Ok c.share.new.self)
+    c.in_ok-write.ensures.change.0 (c.share.ensures.kept, c.in_ok-write.ensures.change.1 ∙ ap (written stack c.args.name.now) c.in_ok-shared.ensures.value))
