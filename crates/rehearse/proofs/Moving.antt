@@ -10,7 +10,7 @@ use Rattle.rehearse.specs.Defining.{Objects, begun_block, Settles}
 use Rattle.rehearse.specs.Events.{Event, workers, clock, define, connect, step, run}
 use Rattle.rehearse.specs.Requests.{IsEarlyRequest}
 use Rattle.rehearse.specs.Steps.{Place, Step, Runs}
-use Rattle.rehearse.specs.World.{World, Worker, Now, idle, connected, opening, all_idle, with_moment, with_workers, as_started}
+use Rattle.rehearse.specs.World.{World, Worker, Now, no_pages, idle, connected, opening, all_idle, with_moment, with_workers, as_started}
 use Rattle.rehearse.specs.Plays.{Moves, objects_of, with_objects}
 use Rattle.rehearse.specs.Playing.{now_of, ShowsWorker, ShowsWorkers, Shows, Went, IsReady, AreReady, Settled, objects_at, Did, Played}
 
@@ -114,7 +114,7 @@ bad_count natives machine count listing bad = (λ world shows output next does. 
 -- ---- the clock
 
 pub sets : (natives : List (List ℕ)) (machine after : Machine) (moment : ℕ) (listing : List ℕ) → moment ≤ 253402300799
-    → after.started ≡ machine.started → now_of natives after.now ≡ record { natives = natives; moment = moment; blueprint = (now_of natives machine.now).blueprint } → after.arrays ≡ machine.arrays → after.workers ≡ machine.workers
+    → after.started ≡ machine.started → now_of natives after.now ≡ record { natives = natives; moment = moment; pages = no_pages; blueprint = (now_of natives machine.now).blueprint } → after.arrays ≡ machine.arrays → after.workers ≡ machine.workers
     → Did natives true (clock moment) machine listing after listing
 sets natives machine after moment listing in_time started now arrays same = λ world shows. (
   [],
@@ -122,7 +122,7 @@ sets natives machine after moment listing in_time started now arrays same = λ w
   record { in_time = in_time; output_is = refl; after_is = refl },
   record {
     started = shows.started ∙ sym started;
-    now = ap (λ (n : Now). let m : Now = record { natives = n.natives; moment = moment; blueprint = n.blueprint } in m) shows.now ∙ sym now;
+    now = ap (λ (n : Now). let m : Now = record { natives = n.natives; moment = moment; pages = n.pages; blueprint = n.blueprint } in m) shows.now ∙ sym now;
     arrays = shows.arrays ∙ sym arrays;
     workers = subst (λ (xs : List code_worker.Worker). ShowsWorkers natives xs world.workers) (ap (λ (v : _). v.items) (sym same)) shows.workers;
   },
@@ -144,7 +144,7 @@ defines natives machine after block script listing listed fits same settled star
     let goes : Settles natives (begun_block machine.now.moment machine.now.blueprint block) (objects_at machine.now.blueprint machine.arrays) settled.0 objects =
     subst (λ (b : List ℕ). Settles natives (begun_block machine.now.moment machine.now.blueprint b) (objects_at machine.now.blueprint machine.arrays) settled.0 objects) same settled.1 in
     let here : Settles world.now.natives (begun_block world.now.moment world.now.blueprint block) (objects_of world) settled.0 objects =
-    subst (λ (n : Now). Settles n.natives (begun_block n.moment n.blueprint block) (objects_at n.blueprint world.arrays) settled.0 objects) (sym shows.now)
+    subst (λ (n : Now). Settles n.natives (begun_block n.moment n.blueprint block) (record { blueprint = n.blueprint; pages = n.pages; arrays = world.arrays }) settled.0 objects) (sym shows.now)
     (subst (λ (a : Arrays). Settles natives (begun_block machine.now.moment machine.now.blueprint block) (objects_at machine.now.blueprint a) settled.0 objects) (sym shows.arrays) goes) in
     let moment_is : world.now.moment ≡ after.now.moment = ap (λ (n : Now). n.moment) shows.now ∙ sym moment in
     let natives_are : world.now.natives ≡ natives = ap (λ (n : Now). n.natives) shows.now in (
@@ -154,8 +154,8 @@ defines natives machine after block script listing listed fits same settled star
       record {
         started = shows.started ∙ sym started;
         now =
-            ap (λ (m : ℕ). let n : Now = record { natives = world.now.natives; moment = m; blueprint = after.now.blueprint } in n) moment_is
-            ∙ ap (λ (names : List (List ℕ)). let n : Now = record { natives = names; moment = after.now.moment; blueprint = after.now.blueprint } in n) natives_are;
+            ap (λ (m : ℕ). let n : Now = record { natives = world.now.natives; moment = m; pages = no_pages; blueprint = after.now.blueprint } in n) moment_is
+            ∙ ap (λ (names : List (List ℕ)). let n : Now = record { natives = names; moment = after.now.moment; pages = no_pages; blueprint = after.now.blueprint } in n) natives_are;
         arrays = refl;
         workers = subst (λ (xs : List code_worker.Worker). ShowsWorkers natives xs world.workers) (ap (λ (v : _). v.items) (sym workers_kept)) shows.workers;
       },

@@ -8,7 +8,7 @@ use Rattle.rehearse.specs.Events.{Event, workers, clock, define, connect, step, 
 use Rattle.rehearse.specs.Requests.{IsEarlyRequest, get_of}
 use Rattle.rehearse.specs.Serving.{Stand, asking, ready, over, stands_at, has_spent}
 use Rattle.rehearse.specs.Steps.{Place, with_worker, with_answer, Step, rests, answers, writes, ends, spends, begins, closes, Runs, last, more}
-use Rattle.rehearse.specs.World.{World, Worker, Now, Open, idle, connected, begun, as_written, as_started, response_output, closed_output, closed_spent_output}
+use Rattle.rehearse.specs.World.{World, Worker, Now, Pages, Open, idle, connected, begun, as_written, as_started, response_output, closed_output, closed_spent_output}
 use Rattle.rehearse.specs.Plays.{Moves, with_objects, Does, Plays, Listing, no_event, one_event}
 use Rattle.rehearse.proofs.EarlyRequests.{request_unique}
 
@@ -20,12 +20,12 @@ Closes number before left false output after = (output ≡ []) × (after ≡ wit
 Closes number before left true output after = (output ≡ closed_spent_output number) × (after ≡ with_worker before idle)
 
 -- what a step of a worker with a request under way gives, by where the request stands
-abbrev Gives : ℕ → Place → List ℕ → Open → Stand → List ℕ → Place → Type 0
-Gives number before left request (asking question) output after = (output ≡ []) × (after ≡ with_answer before left request question)
-Gives number before left request (ready response) output after =
+abbrev Gives : Pages → ℕ → Place → List ℕ → Open → Stand → List ℕ → Place → Type 0
+Gives pages number before left request (asking question) output after = (output ≡ []) × (after ≡ with_answer pages before left request question)
+Gives pages number before left request (ready response) output after =
     (output ≡ response_output number request.blueprint.epoch (response_bytes response request.moment false (has_spent request)))
     × (after ≡ with_worker before (connected left (Some (as_written request))))
-Gives number before left request over output after = Closes number before left (has_spent request) output after
+Gives pages number before left request over output after = Closes number before left (has_spent request) output after
 
 same_open : (l m : List ℕ) (r s : Open) → connected l (Some r) ≡ connected m (Some s) → (l ≡ m) × (r ≡ s)
 same_open l m r s e = (cc, cc)
@@ -33,13 +33,13 @@ same_open l m r s e = (cc, cc)
 same_input : (l m : List ℕ) → connected l None ≡ connected m None → l ≡ m
 same_input l m e = cc
 
-gives_moved : (natives : List (List ℕ)) (number : ℕ) (before : Place) (l m : List ℕ) (r s : Open) (t : Stand) (output : List ℕ) (after : Place)
-    → l ≡ m → r ≡ s → stands_at natives r ≡ t → Gives number before l r t output after → Gives number before m s (stands_at natives s) output after
-gives_moved natives number before l m r s t output after e f is h =
+gives_moved : (natives : List (List ℕ)) (pages : Pages) (number : ℕ) (before : Place) (l m : List ℕ) (r s : Open) (t : Stand) (output : List ℕ) (after : Place)
+    → l ≡ m → r ≡ s → stands_at natives r ≡ t → Gives pages number before l r t output after → Gives pages number before m s (stands_at natives s) output after
+gives_moved natives pages number before l m r s t output after e f is h =
     let at : stands_at natives s ≡ t = ap (stands_at natives) (sym f) ∙ is in
-    subst (λ (x : Stand). Gives number before m s x output after) (sym at)
-    (subst (λ (x : Open). Gives number before m x t output after) f
-    (subst (λ (x : List ℕ). Gives number before x r t output after) e h))
+    subst (λ (x : Stand). Gives pages number before m s x output after) (sym at)
+    (subst (λ (x : Open). Gives pages number before m x t output after) f
+    (subst (λ (x : List ℕ). Gives pages number before x r t output after) e h))
 
 of_idle : (number : ℕ) (now : Now) (before after : Place) (output : List ℕ) → before.worker ≡ idle → Step number now before output after → (output ≡ []) × (after ≡ before)
 of_idle number now before after output is (rests w x y) = (x, y)
@@ -51,20 +51,20 @@ of_idle number now before after output is (begins i r w f x y) = absurd (let g :
 of_idle number now before after output is (closes w x y) = absurd (let g : idle ≡ connected [] None = sym is ∙ w in cc)
 
 of_open : (number : ℕ) (now : Now) (before after : Place) (output left : List ℕ) (request : Open) → before.worker ≡ connected left (Some request)
-    → Step number now before output after → Gives number before left request (stands_at now.natives request) output after
+    → Step number now before output after → Gives now.pages number before left request (stands_at now.natives request) output after
 of_open number now before after output left request is (rests w x y) = absurd (let f : idle ≡ connected left (Some request) = sym w ∙ is in cc)
 of_open number now before after output left request is (answers l r q w s x y) =
     let same : (l ≡ left) × (r ≡ request) = same_open l left r request (sym w ∙ is) in
-    gives_moved now.natives number before l left r request (asking q) output after same.0 same.1 s (x, y)
+    gives_moved now.natives now.pages number before l left r request (asking q) output after same.0 same.1 s (x, y)
 of_open number now before after output left request is (writes l r q w s x y) =
     let same : (l ≡ left) × (r ≡ request) = same_open l left r request (sym w ∙ is) in
-    gives_moved now.natives number before l left r request (ready q) output after same.0 same.1 s (x, y)
+    gives_moved now.natives now.pages number before l left r request (ready q) output after same.0 same.1 s (x, y)
 of_open number now before after output left request is (ends l r w s k x y) =
     let same : (l ≡ left) × (r ≡ request) = same_open l left r request (sym w ∙ is) in
-    gives_moved now.natives number before l left r request over output after same.0 same.1 s (subst (λ (b : Bool). Closes number before l b output after) (sym k) (x, y))
+    gives_moved now.natives now.pages number before l left r request over output after same.0 same.1 s (subst (λ (b : Bool). Closes number before l b output after) (sym k) (x, y))
 of_open number now before after output left request is (spends l r w s k x y) =
     let same : (l ≡ left) × (r ≡ request) = same_open l left r request (sym w ∙ is) in
-    gives_moved now.natives number before l left r request over output after same.0 same.1 s (subst (λ (b : Bool). Closes number before l b output after) (sym k) (x, y))
+    gives_moved now.natives now.pages number before l left r request over output after same.0 same.1 s (subst (λ (b : Bool). Closes number before l b output after) (sym k) (x, y))
 of_open number now before after output left request is (begins i r w f x y) = absurd (let g : connected i None ≡ connected left (Some request) = sym w ∙ is in cc)
 of_open number now before after output left request is (closes w x y) = absurd (let g : connected [] None ≡ connected left (Some request) = sym w ∙ is in cc)
 
@@ -95,11 +95,11 @@ closes_same : (number : ℕ) (before a b : Place) (left : List ℕ) (spent : Boo
 closes_same number before a b left false o p h k = (h.0 ∙ sym k.0, h.1 ∙ sym k.1)
 closes_same number before a b left true o p h k = (h.0 ∙ sym k.0, h.1 ∙ sym k.1)
 
-gives_same : (number : ℕ) (before a b : Place) (left : List ℕ) (request : Open) (t : Stand) (o p : List ℕ)
-    → Gives number before left request t o a → Gives number before left request t p b → (o ≡ p) × (a ≡ b)
-gives_same number before a b left request (asking question) o p h k = (h.0 ∙ sym k.0, h.1 ∙ sym k.1)
-gives_same number before a b left request (ready response) o p h k = (h.0 ∙ sym k.0, h.1 ∙ sym k.1)
-gives_same number before a b left request over o p h k = closes_same number before a b left (has_spent request) o p h k
+gives_same : (pages : Pages) (number : ℕ) (before a b : Place) (left : List ℕ) (request : Open) (t : Stand) (o p : List ℕ)
+    → Gives pages number before left request t o a → Gives pages number before left request t p b → (o ≡ p) × (a ≡ b)
+gives_same pages number before a b left request (asking question) o p h k = (h.0 ∙ sym k.0, h.1 ∙ sym k.1)
+gives_same pages number before a b left request (ready response) o p h k = (h.0 ∙ sym k.0, h.1 ∙ sym k.1)
+gives_same pages number before a b left request over o p h k = closes_same number before a b left (has_spent request) o p h k
 
 takes_same : (number : ℕ) (now : Now) (before a b : Place) (input o p : List ℕ) → Takes number now before input o a → Takes number now before input p b → (o ≡ p) × (a ≡ b)
 takes_same number now before a b input o p (inl h) (inl k) = (h.1 ∙ sym k.1, h.2 ∙ sym k.2)
@@ -118,7 +118,7 @@ step_by idle number now before a b o p is s t =
 step_by (connected input None) number now before a b o p is s t =
     takes_same number now before a b input o p (of_input number now before a o input is s) (of_input number now before b p input is t)
 step_by (connected left (Some request)) number now before a b o p is s t =
-    gives_same number before a b left request (stands_at now.natives request) o p (of_open number now before a o left request is s) (of_open number now before b p left request is t)
+    gives_same now.pages number before a b left request (stands_at now.natives request) o p (of_open number now before a o left request is s) (of_open number now before b p left request is t)
 
 step_unique : (number : ℕ) (now : Now) (before a b : Place) (o p : List ℕ) → Step number now before o a → Step number now before p b → (o ≡ p) × (a ≡ b)
 step_unique number now before a b o p s t = step_by before.worker number now before a b o p refl s t

@@ -107,7 +107,7 @@ is_spent_as natives serving request spent serves is = is ∙ spent_same serving.
 -- the question is answered, and the interpreter goes on
 pub answers_step : (number : ℕ) (now : Now) (arrays arrays_after : Arrays) (listing : List ℕ) (serving after : Serving) (question : Question) (answer : Answer)
     → serving.next ≡ Asks question
-    → answer ≡ (reply_to question arrays).0 → arrays_after ≡ (reply_to question arrays).1
+    → answer ≡ (reply_to question now.pages arrays).0 → arrays_after ≡ (reply_to question now.pages arrays).1
     → after.moment ≡ serving.moment
     → ((bytes : ℕ) → Counts serving.answered bytes → Counts after.answered (bytes + answer_bytes answer))
     → blueprint_of after.interp ≡ blueprint_of serving.interp
@@ -128,9 +128,9 @@ answers_step number now arrays arrays_after listing serving after question answe
       «at» = at;
     } in
     let place : record { worker = connected [] (Some (as_answered request answer)); arrays = arrays_after }
-    ≡ record { worker = connected [] (Some (as_answered request (reply_to question arrays).0)); arrays = (reply_to question arrays).1 } =
+    ≡ record { worker = connected [] (Some (as_answered request (reply_to question now.pages arrays).0)); arrays = (reply_to question now.pages arrays).1 } =
     ap (λ (a : Answer). let p : Place = record { worker = connected [] (Some (as_answered request a)); arrays = arrays_after } in p) answer_is
-    ∙ ap (λ (a : Arrays). let p : Place = record { worker = connected [] (Some (as_answered request (reply_to question arrays).0)); arrays = a } in p) arrays_are in (
+    ∙ ap (λ (a : Arrays). let p : Place = record { worker = connected [] (Some (as_answered request (reply_to question now.pages arrays).0)); arrays = a } in p) arrays_are in (
       [],
       connected [] (Some (as_answered request answer)),
       answers [] request question shows.1 (stands_asking now.natives request question serving.interp stands) refl place,

@@ -14,7 +14,7 @@ use Rattle.ictl.specs.Main.{Blueprint, Progress, asks, ends, run_budget, first_d
 use Rattle.ictl.specs.Defines.{Define}
 use Rattle.rehearse.specs.Publishing.{publish}
 use Rattle.rehearse.specs.Serving.{reply_to}
-use Rattle.rehearse.specs.World.{defined_output, error_output, spent_output, deep_output}
+use Rattle.rehearse.specs.World.{Pages, defined_output, error_output, spent_output, deep_output}
 
 -- ---- a run under way
 
@@ -39,31 +39,34 @@ define_progress natives run answers = Define natives run.blueprint run.block run
 
 -- ---- its questions
 
--- What answers the questions: what was published, and the shared arrays.
+-- What answers the questions: what was published, the pages and the shared arrays.
 pub record Objects : Type 0 where
   pub blueprint : Blueprint
+  pub pages : Pages
   pub arrays : Arrays
 
--- the shared arrays answer, or no object does
-abbrev pub by_arrays : Question → Objects → Answer × Objects
-by_arrays question objects =
-    ((reply_to question objects.arrays).0, record { blueprint = objects.blueprint; arrays = (reply_to question objects.arrays).1 })
+-- the pages or the shared arrays answer; a question to another service is refused
+abbrev pub by_service : Question → Objects → Answer × Objects
+by_service question objects = (
+  (reply_to question objects.pages objects.arrays).0,
+  record { blueprint = objects.blueprint; pages = objects.pages; arrays = (reply_to question objects.pages objects.arrays).1 },
+)
 
 -- the blueprint answers
 abbrev pub by_blueprint : List (List ℕ) → List Def → Objects → Answer × Objects
 by_blueprint natives made objects =
-    ((publish natives objects.blueprint made).0, record { blueprint = (publish natives objects.blueprint made).1; arrays = objects.arrays })
+    ((publish natives objects.blueprint made).0, record { blueprint = (publish natives objects.blueprint made).1; pages = objects.pages; arrays = objects.arrays })
 
 -- Who answers a question of a run that made these definitions. Publication is asked of the blueprint. Its word is the script of
 -- what the run made, a line for each definition; since a blueprint is a list of definitions, it takes these themselves, which
 -- are what the lines of that script would be read as.
 abbrev pub answer_by : List (List ℕ) → Service → Question → List Def → Objects → Answer × Objects
 answer_by natives Publish question made objects = by_blueprint natives made objects
-answer_by natives Nsv question made objects = by_arrays question objects
-answer_by natives Page question made objects = by_arrays question objects
-answer_by natives Schedule question made objects = by_arrays question objects
-answer_by natives Save question made objects = by_arrays question objects
-answer_by natives Inner question made objects = by_arrays question objects
+answer_by natives Nsv question made objects = by_service question objects
+answer_by natives Page question made objects = by_service question objects
+answer_by natives Schedule question made objects = by_service question objects
+answer_by natives Save question made objects = by_service question objects
+answer_by natives Inner question made objects = by_service question objects
 
 abbrev pub answer_to : List (List ℕ) → Question → List Def → Objects → Answer × Objects
 answer_to natives question made objects = answer_by natives question.service question made objects

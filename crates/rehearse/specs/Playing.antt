@@ -25,13 +25,13 @@ use Rattle.rehearse.specs.Files.{End, whole, bad, ComesNext}
 use Rattle.rehearse.specs.Plays.{Does, Plays}
 use Rattle.rehearse.specs.Serving.{progress, answer_bytes, most_answered}
 use Rattle.rehearse.specs.Steps.{Place}
-use Rattle.rehearse.specs.World.{Open, Worker, idle, connected, Now, World}
+use Rattle.rehearse.specs.World.{no_pages, Open, Worker, idle, connected, Now, World}
 
 -- ---- the program's machine, and the world that it shows
 
--- what the program's workers see, with natives of these names
+-- What the program's workers see, with natives of these names. No page is there, since no event changes one yet.
 abbrev pub now_of : List (List ℕ) → code_now.Now → Now
-now_of natives now = record { natives = natives; moment = now.moment; blueprint = now.blueprint }
+now_of natives now = record { natives = natives; moment = now.moment; pages = no_pages; blueprint = now.blueprint }
 
 -- The bytes were counted; past the bound, it is known of the count alone that it passed the bound too.
 abbrev pub Counts : ℕ → ℕ → Type 0
@@ -126,8 +126,9 @@ HasBegun code_workers.AtEnd = Unit {0}
 
 -- ---- definition runs
 
+-- what was published and the shared arrays, and no page
 abbrev pub objects_at : Blueprint → Arrays → Objects
-objects_at blueprint arrays = record { blueprint = blueprint; arrays = arrays }
+objects_at blueprint arrays = record { blueprint = blueprint; pages = no_pages; arrays = arrays }
 
 -- A run of the program stands for this one and the answers that it has had, with natives of these names.
 pub record RunsAs (natives : List (List ℕ)) (next : Next) (run : Run) (seen : Defining) : Type 0 where

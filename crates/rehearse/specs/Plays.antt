@@ -29,12 +29,15 @@ pub record Sets (before : World) (moment : ℕ) (output : List ℕ) (after : Wor
   pub output_is : output ≡ []
   pub after_is : after ≡ with_moment before moment
 
--- what was published, and the shared arrays
+-- what was published, the pages and the shared arrays
 abbrev pub objects_of : World → Objects
-objects_of world = record { blueprint = world.now.blueprint; arrays = world.arrays }
+objects_of world = record { blueprint = world.now.blueprint; pages = world.now.pages; arrays = world.arrays }
 
 abbrev pub with_objects : World → Objects → World
-with_objects world objects = record world { now = record { natives = world.now.natives; moment = world.now.moment; blueprint = objects.blueprint }; arrays = objects.arrays }
+with_objects world objects = record world {
+  now = record { natives = world.now.natives; moment = world.now.moment; pages = objects.pages; blueprint = objects.blueprint };
+  arrays = objects.arrays;
+}
 
 -- A block is run on the blueprint and at the moment as they are, to its end, which is told.
 pub record Defines (before : World) (block : List ℕ) (output : List ℕ) (after : World) : Type 0 where

@@ -15,7 +15,7 @@ use Rattle.nsv_bucket.specs.Buckets.{bucket_of}
 use Rattle.nsv_bucket.specs.Questions.{is_bucket_number}
 use Rattle.nsv_bucket.specs.Steps.{array_step}
 use Rattle.ictl.specs.Main.{Blueprint, Progress, asks, writes, ends, Main, behind}
-use Rattle.rehearse.specs.World.{Open}
+use Rattle.rehearse.specs.World.{Open, Pages}
 
 -- where its response was written, it goes on with what comes behind the response
 abbrev pub progress_by : List (List ℕ) → Bool → Blueprint → Progress → Progress
@@ -103,16 +103,26 @@ abbrev pub bucket_step : Arrays → List (List ℕ) → NsvReply × Arrays
 bucket_step arrays words =
     if is_first (bucket_asked words) then array_step arrays words else ((array_step map.empty words).0, arrays)
 
--- What a service answers, and the arrays after it: the shared arrays by their step. No other service
--- is there yet: a question of one is refused, with an empty text.
-abbrev pub served_by : Service → Arrays → List (List ℕ) → Answer × Arrays
-served_by Nsv arrays words = (answer_of (bucket_step arrays words).0, (bucket_step arrays words).1)
-served_by Page arrays words = (answers.Failed [], arrays)
-served_by Schedule arrays words = (answers.Failed [], arrays)
-served_by Publish arrays words = (answers.Failed [], arrays)
-served_by Save arrays words = (answers.Failed [], arrays)
-served_by Inner arrays words = (answers.Failed [], arrays)
+-- the path that is asked for: the one word; the empty text where there is no word
+abbrev pub path_asked : List (List ℕ) → List ℕ
+path_asked (path ∷ more) = path
+path_asked [] = []
 
--- what the objects answer a question, and the arrays after it
-abbrev pub reply_to : Question → Arrays → Answer × Arrays
-reply_to question arrays = served_by question.service arrays question.words
+-- the page that was found, or that there is none
+abbrev pub page_answer : Option (List ℕ) → Answer
+page_answer (Some page) = answers.Page page
+page_answer None = answers.NoPage
+
+-- What a service answers, and the arrays after it: the shared arrays by their step, the pages with the page of the path. A
+-- question to any other service is refused, with an empty text; publications are answered where blocks are run (Defining).
+abbrev pub served_by : Service → Pages → Arrays → List (List ℕ) → Answer × Arrays
+served_by Nsv pages arrays words = (answer_of (bucket_step arrays words).0, (bucket_step arrays words).1)
+served_by Page pages arrays words = (page_answer (map.get pages (path_asked words)), arrays)
+served_by Schedule pages arrays words = (answers.Failed [], arrays)
+served_by Publish pages arrays words = (answers.Failed [], arrays)
+served_by Save pages arrays words = (answers.Failed [], arrays)
+served_by Inner pages arrays words = (answers.Failed [], arrays)
+
+-- what the pages or the shared arrays answer a question, and the arrays after it
+abbrev pub reply_to : Question → Pages → Arrays → Answer × Arrays
+reply_to question pages arrays = served_by question.service pages arrays question.words

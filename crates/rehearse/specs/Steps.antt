@@ -7,7 +7,7 @@ use Rattle.http_resp.specs.ResponseBytes.{response_bytes}
 use Rattle.nsv_bucket.specs.Arrays.{Arrays}
 use Rattle.rehearse.specs.Requests.{IsEarlyRequest}
 use Rattle.rehearse.specs.Serving.{asking, ready, over, stands_at, has_spent, reply_to}
-use Rattle.rehearse.specs.World.{Open, Worker, idle, connected, Now, begun, as_answered, as_written, response_output, closed_output, closed_spent_output}
+use Rattle.rehearse.specs.World.{Pages, Open, Worker, idle, connected, Now, begun, as_answered, as_written, response_output, closed_output, closed_spent_output}
 
 -- A worker, and the shared arrays.
 pub record Place : Type 0 where
@@ -18,11 +18,11 @@ pub record Place : Type 0 where
 abbrev pub with_worker : Place → Worker → Place
 with_worker place worker = record { worker = worker; arrays = place.arrays }
 
--- the request that the worker serves has its question answered, by the objects as they are now
-abbrev pub with_answer : Place → List ℕ → Open → Question → Place
-with_answer place left request question = record {
-  worker = connected left (Some (as_answered request (reply_to question place.arrays).0));
-  arrays = (reply_to question place.arrays).1;
+-- the request that the worker serves has its question answered, by the pages or the shared arrays as they are now
+abbrev pub with_answer : Pages → Place → List ℕ → Open → Question → Place
+with_answer pages place left request question = record {
+  worker = connected left (Some (as_answered request (reply_to question pages place.arrays).0));
+  arrays = (reply_to question pages place.arrays).1;
 }
 
 -- A step of the worker of this number, with some output: the first of these that fits.
@@ -34,7 +34,7 @@ pub data Step (number : ℕ) (now : Now) (before : Place) (output : List ℕ) (a
       → before.worker ≡ connected left (Some request)
       → stands_at now.natives request ≡ asking question
       → output ≡ []
-      → after ≡ with_answer before left request question
+      → after ≡ with_answer now.pages before left request question
       → Step number now before output after
   -- it writes the response that stands ready (of a GET), which says whether the connection closes behind it
   writes : (left : List ℕ) (request : Open) (response : Response)

@@ -1,9 +1,10 @@
 -- The machine of one thread: its workers, and what they share.
 use Rattle.std.specs.Prelude.{ℕ, List, [], ◌∷◌, ◌++◌, length, replicate, Bool, true, false, decimal, codes, Option}
 use Rattle.std.specs.FinMap as map
+use Rattle.std.specs.FinMap.{FinMap}
 use Rattle.outside.specs.declared.question.Answer.{Answer}
 use Rattle.http_req.specs.declared.request.Request.{Request}
-use Rattle.nsv_bucket.specs.Arrays.{Arrays}
+use Rattle.nsv_bucket.specs.Arrays.{text_cmp, Arrays}
 use Rattle.ictl.specs.Main.{Blueprint}
 use Rattle.rehearse.specs.Events.{newline}
 
@@ -24,11 +25,20 @@ pub data Worker : Type 0 where
   -- it has a connection, with the input that is left and the request under way, if any
   connected : (input : List ℕ) (request : Option Open) → Worker
 
--- What workers see of the world when they take a step: the names of the natives, which stay the same; what the clock
--- shows, in seconds since 1970; and what was published.
+-- texts by their paths: at most one for each
+abbrev pub Pages : Type 0
+Pages = FinMap text_cmp (List ℕ)
+
+-- no page is there
+abbrev pub no_pages : Pages
+no_pages = map.empty
+
+-- What workers see of the world when they take a step, and don't change by it: the names of the natives, which stay the
+-- same; what the clock shows, in seconds since 1970; the pages, which no event changes yet; and what was published.
 pub record Now : Type 0 where
   pub natives : List (List ℕ)
   pub moment : ℕ
+  pub pages : Pages
   pub blueprint : Blueprint
 
 pub record World : Type 0 where
@@ -44,18 +54,18 @@ pub record World : Type 0 where
 abbrev pub all_idle : ℕ → List Worker
 all_idle count = replicate count idle
 
--- the world before the first event, with natives of these names: the clock shows 0, nothing was published, no array is
--- there, and one worker is idle
+-- the world before the first event, with natives of these names: the clock shows 0, nothing was published, no page and
+-- no array is there, and one worker is idle
 abbrev pub opening : List (List ℕ) → World
 opening natives = record {
   started = false;
-  now = record { natives = natives; moment = 0; blueprint = record { epoch = 0; definitions = [] } };
+  now = record { natives = natives; moment = 0; pages = no_pages; blueprint = record { epoch = 0; definitions = [] } };
   arrays = map.empty;
   workers = idle ∷ [];
 }
 
 abbrev pub with_moment : World → ℕ → World
-with_moment world moment = record world { now = record { natives = world.now.natives; moment = moment; blueprint = world.now.blueprint } }
+with_moment world moment = record world { now = record { natives = world.now.natives; moment = moment; pages = world.now.pages; blueprint = world.now.blueprint } }
 
 abbrev pub with_workers : World → List Worker → World
 with_workers world workers = record world { workers = workers }

@@ -3,6 +3,7 @@
 ghost use Rattle.std.specs.Prelude.{◌≡◌, IfOk};
 ghost use Rattle.nsv_bucket.specs.Steps.{array_step};
 ghost use Rattle.rehearse.specs.Serving.{bucket_named, bucket_asked, bucket_step, answer_of, reply_to};
+ghost use Rattle.rehearse.specs.World.{no_pages};
 
 use nsv_bucket::{Bucket, NsvReply, bucket_of};
 use outside::{Answer, Question, Service};
@@ -65,14 +66,15 @@ fn ask_arrays(alloc: Global, arrays: &mut Bucket, words: Words) -> Result<Answer
     ask(&mut empty, words)
 }
 
-/// Answers a question from the objects. Only the shared arrays are there yet: any other service refuses
-/// with an empty text.
+/// Answers a question to the shared arrays from them, and one for a page with `NoPage`, since no page is
+/// there yet. A question to any other service is refused with an empty text.
 pub fn reply(alloc: Global, question: Question, arrays: &mut Bucket) -> Result<Answer, NoMemory>
-    ensures { IfOk result (λ answer. (answer ≡ (reply_to question arrays.old).0) × (arrays.new ≡ (reply_to question arrays.old).1)) }
+    ensures { IfOk result (λ answer. (answer ≡ (reply_to question no_pages arrays.old).0) × (arrays.new ≡ (reply_to question no_pages arrays.old).1)) }
 {
     let Question { service, words } = question;
     match service {
         Service::Nsv => ask_arrays(alloc, arrays, words),
+        Service::Page => Ok(Answer::NoPage),
         _ => Ok(Answer::Failed(Text::empty(alloc))),
     }
 }

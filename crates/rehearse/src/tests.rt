@@ -372,7 +372,7 @@ const MANY_CALLS: &[u8] =
     b"proc a {} {b; b; b; b}\nproc b {} {c; c; c; c}\nproc c {} {d; d; d; d}\nproc d {} {e; e; e; e}\nproc e {} {f; f; f; f}\nproc f {} {g; g; g; g}\nproc g {} {h; h; h; h}\nproc h {} {i; i; i; i}\nproc i {} {j; j; j; j}\nproc j {} {}\na";
 
 /// Blocks, one after the other, and what is listed of them.
-const ENDS: [(&[&[u8]], &[u8]); 13] = [
+const ENDS: [(&[&[u8]], &[u8]); 14] = [
     (&[b""], b"defined 0\n"),
     (&[b"return x"], b"defined 0\n"),
     (&[b"proc p {} {}; return x"], b"defined 1\n"),
@@ -391,6 +391,7 @@ const ENDS: [(&[&[u8]], &[u8]); 13] = [
         b"define error 33\ninvoked \"break\" outside of a loop\ndefine error 36\ninvoked \"continue\" outside of a loop\n",
     ),
     (&[b"proc p {"], b"define error 19\nunclosed brace at 7\n"),
+    (&[b" set x {"], b"define error 19\nunclosed brace at 7\n"),
     (
         &[b"ns_return 200 text/plain x"],
         b"define error 13\nno connection\n",

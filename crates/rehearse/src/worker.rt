@@ -8,7 +8,7 @@ ghost use Rattle.ictl.specs.Main.{Blueprint as SeenBlueprint};
 ghost use Rattle.natives.specs.Names.{names_of};
 ghost use Rattle.rehearse.specs.Requests.{IsEarlyRequest};
 ghost use Rattle.rehearse.specs.Steps.{Step, Runs};
-ghost use Rattle.rehearse.specs.World.{Now as SeenNow, begun, response_output};
+ghost use Rattle.rehearse.specs.World.{Now as SeenNow, begun, no_pages, response_output};
 ghost use Rattle.nsv_bucket.specs.Arrays.{Arrays as SeenArrays};
 ghost use Rattle.rehearse.specs.Playing.{now_of, Went, Serves, IsReady, IsBusy, HasBegun, HasNone, steps_left};
 ghost use Rattle.rehearse.specs.declared.worker.Worker.TheVariants.{Idle as is_idle, Serving as is_serving, AtEnd as is_at_end};
@@ -109,7 +109,7 @@ fn serve<L: Ledger>(
     steps: &mut Steps<L>,
 ) -> Result<Worker, NoMemory>
     requires { StandsAt serving.next serving.interp }
-    ensures went { (moment : ℕ) (blueprint : SeenBlueprint) → IfOk result (λ after. Went Step number (record { natives = names_of natives.now; moment = moment; blueprint = blueprint }) (is_serving serving) arrays.old listing.old after arrays.new listing.new) }
+    ensures went { (moment : ℕ) (blueprint : SeenBlueprint) → IfOk result (λ after. Went Step number (record { natives = names_of natives.now; moment = moment; pages = no_pages; blueprint = blueprint }) (is_serving serving) arrays.old listing.old after arrays.new listing.new) }
     ensures ready { IfOk result IsReady }
     ensures begun { IfOk result HasBegun }
     ensures falls { IfOk result (λ after. steps_left after < steps_left (is_serving serving)) }
