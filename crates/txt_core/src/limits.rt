@@ -1,0 +1,47 @@
+//! The limits that several parts of the server have in common.
+
+ghost use Rattle.std.specs.Prelude.{◌≡◌, nat_lt};
+ghost use Rattle.txt_core.specs.Limits.{is_long, most_bytes, most_nested, moment_of};
+
+use crate::text::Text;
+
+/// How many bytes a value may have: a word, a variable, an element, a result, the text of an error,
+/// a page.
+pub const MOST_BYTES: usize = 1_048_576;
+
+/// How deep scripts, brackets and indexes, or parentheses, may stand in one another.
+pub const MOST_NESTED: u32 = 200;
+
+/// The last moment: the last second of the year 9999, in seconds since the beginning of 1970.
+pub const LAST_MOMENT: u64 = 253_402_300_799;
+
+/// In how many buckets the shared arrays stand.
+pub const BUCKET_COUNT: u8 = 8;
+
+/// Whether so many bytes are over the limit of a value.
+pub fn is_over_limit(bytes: usize) -> bool
+    ensures { result ≡ nat_lt most_bytes bytes }
+{
+    bytes > MOST_BYTES
+}
+
+/// Whether a text is over the limit of a value.
+pub fn is_too_long(text: &Text) -> bool
+    ensures { result ≡ is_long text.now }
+{
+    is_over_limit(text.len())
+}
+
+/// Whether nothing may stand at this depth any more.
+pub fn is_too_deep(depth: u32) -> bool
+    ensures { result ≡ nat_lt most_nested depth }
+{
+    depth > MOST_NESTED
+}
+
+/// A moment, in seconds since the beginning of 1970; a later one than the last counts as the last.
+pub fn moment_of(moment: u64) -> u64
+    ensures { result ≡ moment_of moment }
+{
+    moment.min(LAST_MOMENT)
+}
