@@ -10,7 +10,9 @@ use Rattle.natives.specs.Answers.{Reply}
 use Rattle.natives.specs.Indexes.{place_of, index_error, index}
 use Rattle.natives.specs.Checks.{integer_error, integer}
 use Rattle.natives.specs.Lists.{lindex_in, lrange_in, linsert_in, lreplace_in}
-use Rattle.natives.specs.Sorting.{lsort_in, numbers_error, last_is, sort_options}
+use Rattle.natives.specs.Sorting.{lsort_in, lsort_list, lsort_reply, sort_options, numbers_error}
+use Rattle.natives.specs.Searching.{lsearch_list, lsearch_reply}
+use Rattle.natives.specs.Options.{last_is}
 use Rattle.natives.specs.Parts.{form_at, parts_behind}
 use Rattle.natives.specs.Formatting.{filled, form_error, form_text, written}
 use Rattle.natives.specs.Strings.{subcommand_reply}
@@ -122,17 +124,19 @@ lsort_no_option : Pure (codes "lsort" ∷ codes "-integer" ∷ codes "-foo" ∷ 
 unfolding reply_of
 lsort_no_option = refl
 
-lsort_no_list : Pure (codes "lsort" ∷ codes "-integer" ∷ []) ≡ Err (codes "wrong number of words for \"lsort\"")
-unfolding reply_of
-lsort_no_list = refl
+lsort_last_is_the_list : lsort_reply (codes "lsort" ∷ codes "-integer" ∷ []) ≡ lsort_list [] (codes "-integer")
+lsort_last_is_the_list = refl
 
 lsearch_no_option : Pure (codes "lsearch" ∷ codes "-foo" ∷ codes "a" ∷ codes "b" ∷ []) ≡ Err (codes "bad value \"-foo\" for \"lsearch\"")
 unfolding reply_of
 lsearch_no_option = refl
 
-lsearch_no_pattern : Pure (codes "lsearch" ∷ codes "-exact" ∷ codes "a" ∷ []) ≡ Err (codes "wrong number of words for \"lsearch\"")
-unfolding reply_of
-lsearch_no_pattern = refl
+lsearch_last_are_list_and_pattern : lsearch_reply (codes "lsearch" ∷ codes "-exact" ∷ codes "x" ∷ []) ≡ lsearch_list [] (codes "-exact") (codes "x")
+lsearch_last_are_list_and_pattern = refl
+
+lsearch_option_in_its_place :
+    lsearch_reply (codes "lsearch" ∷ codes "-exact" ∷ codes "-exact" ∷ codes "-exact" ∷ []) ≡ lsearch_list (codes "-exact" ∷ []) (codes "-exact") (codes "-exact")
+lsearch_option_in_its_place = refl
 
 -- ---- split
 

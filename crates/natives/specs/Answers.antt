@@ -1,8 +1,9 @@
 -- What a command comes to, and what the program answers for it.
-use Rattle.std.specs.Prelude.{◌≡◌, ℕ, nat_lt, Bool, List, length, Option, None, Some, Result, Ok, Err, if◌then◌else◌}
+use Rattle.std.specs.Prelude.{◌≡◌, ℕ, List, Option, None, Some, Result, Ok, Err, if◌then◌else◌}
 use Rattle.std.specs.Coded.{Coded-set, coded_list, coded_ℕ, Unit-prop}
 use mathlib.Core.HLevel.{⊥_prop}
-use Rattle.natives.specs.Texts.{too_long}
+use Rattle.txt_core.specs.ErrorTexts.{too_long}
+use Rattle.txt_core.specs.Limits.{is_long}
 use Rattle.natives.specs.declared.fault.Fault.{Fault}
 use Rattle.natives.specs.declared.fault.Fault.TheVariants.{Error, NoMemory}
 
@@ -14,10 +15,6 @@ Reply = Result (List ℕ) (List ℕ)
 abbrev pub unless : Option (List ℕ) → Reply → Reply
 unless None reply = reply
 unless (Some text) reply = Err text
-
--- whether a text is over the limit of 1,048,576 bytes
-abbrev pub is_long : List ℕ → Bool
-is_long text = nat_lt 1048576 (length text)
 
 -- a result or an error's text over the limit is an error of its own
 abbrev pub limited : Reply → Reply

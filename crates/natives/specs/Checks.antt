@@ -4,7 +4,7 @@ use Rattle.std.proofs.Common.{ap}
 use Rattle.txt_core.specs.Number.{number}
 use Rattle.txt_core.specs.Lists.{Listing, elements, bad_at}
 use Rattle.txt_core.specs.Listing.{listing}
-use Rattle.natives.specs.Texts.{no_integer, no_list}
+use Rattle.txt_core.specs.ErrorTexts.{no_integer, no_list}
 
 -- a text that must be a number
 abbrev pub no_number : List ℕ → Option ℤ → Option (List ℕ)

@@ -2,7 +2,7 @@
 use Rattle.std.specs.Prelude.{ℕ, ◌-◌, ◌^◌, List, [], ◌∷◌, ◌++◌, drop, length, replicate, unsigned_abs, ℤ, pos, negsuc, Bool, false, ◌==◌, ◌&&◌, ◌||◌, not, nat_lt, nat_le, count_by, Option, None, Some, if◌then◌else◌, codes, decimal, encode_utf8, Ok, Err}
 use Rattle.std.specs.Fmt.{digits}
 use Rattle.natives.specs.Answers.{Reply, unless}
-use Rattle.natives.specs.Texts.{wrong_words, bad_value}
+use Rattle.txt_core.specs.ErrorTexts.{wrong_words, bad_value}
 use Rattle.natives.specs.Words.{arg}
 use Rattle.natives.specs.Checks.{integer_error, integer}
 use Rattle.natives.specs.Parts.{Form, Part, itself, form, parts}

@@ -3,7 +3,7 @@ use Rattle.std.specs.Prelude.{◌≡◌, refl, true, false, ℕ, List, take, dro
 use Rattle.std.specs.List.{starts_with}
 use Rattle.std.proofs.Common.{ap}
 use Rattle.txt_core.specs.Number.{number}
-use Rattle.natives.specs.Texts.{bad_value}
+use Rattle.txt_core.specs.ErrorTexts.{bad_value}
 
 -- the place that stands so many places before the last
 abbrev pub place_before : ℤ → Option ℤ → Option ℤ

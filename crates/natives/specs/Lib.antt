@@ -1,9 +1,9 @@
 pub mod Answers
-pub mod Texts
 pub mod Words
 pub mod Checks
 pub mod Indexes
 pub mod Lists
+pub mod Options
 pub mod Sorting
 pub mod Searching
 pub mod Cutting

@@ -1,7 +1,7 @@
 -- The table of the commands that look at their words alone.
 use Rattle.std.specs.Prelude.{ℕ, List, if◌then◌else◌, codes, bytes_eq, Err, ◌≡◌, refl}
 use Rattle.natives.specs.Answers.{Reply, limited}
-use Rattle.natives.specs.Texts.{no_command}
+use Rattle.txt_core.specs.ErrorTexts.{unknown_command}
 use Rattle.natives.specs.Words.{arg}
 use Rattle.natives.specs.Lists.{list_reply, llength_reply, lindex_reply, lrange_reply, linsert_reply, lreplace_reply, concat_reply}
 use Rattle.natives.specs.Sorting.{lsort_reply}
@@ -26,7 +26,7 @@ reply_of name words =
     else if bytes_eq name (codes "join") then join_reply words
     else if bytes_eq name (codes "format") then format_reply words
     else if bytes_eq name (codes "string") then string_reply words
-    else Err (no_command name)
+    else Err (unknown_command name)
 
 -- What the command of a name comes to on a list of words, for each list in the name's range: a
 -- result, or the text of an error. Either is the error `value too long` where it is over the limit.

@@ -1,10 +1,10 @@
 -- `lsearch`.
-use Rattle.std.specs.Prelude.{ℕ, List, [], ◌∷◌, drop, length, take_while, position, Bool, false, ◌||◌, Option, None, Some, if◌then◌else◌, codes, decimal, bytes_eq, Err, Ok}
+use Rattle.std.specs.Prelude.{ℕ, ◌-◌, List, drop, take, length, position, Bool, false, not, ◌||◌, Option, None, Some, if◌then◌else◌, codes, decimal, bytes_eq, Ok}
 use Rattle.txt_core.specs.PatternLaws.{matches}
 use Rattle.natives.specs.Answers.{Reply, unless}
-use Rattle.natives.specs.Texts.{wrong_words, bad_value}
 use Rattle.natives.specs.Checks.{list_error, items}
-use Rattle.natives.specs.Sorting.{last_is}
+use Rattle.natives.specs.Options.{last_is, options_error}
+use Rattle.natives.specs.Words.{arg}
 
 -- a place, or -1 where there is none
 abbrev pub place_text : Option ℕ → List ℕ
@@ -18,22 +18,20 @@ is_found exact pattern element = if exact then bytes_eq element pattern else mat
 abbrev pub is_search_option : List ℕ → Bool
 is_search_option word = bytes_eq word (codes "-exact") || bytes_eq word (codes "-glob")
 
+abbrev pub is_no_search_option : List ℕ → Bool
+is_no_search_option word = not (is_search_option word)
+
 abbrev pub lsearch_list : List (List ℕ) → List ℕ → List ℕ → Reply
 lsearch_list options list pattern =
     unless (list_error list) (Ok (place_text (position (is_found (last_is (codes "-exact") (codes "-glob") false options) pattern) (items list))))
 
--- what stands behind the options: the list and the pattern. A word more means that the first is no option
-abbrev pub lsearch_behind : List (List ℕ) → List (List ℕ) → Reply
-lsearch_behind options [] = Err (wrong_words (codes "lsearch"))
-lsearch_behind options (list ∷ []) = Err (wrong_words (codes "lsearch"))
-lsearch_behind options (list ∷ pattern ∷ []) = lsearch_list options list pattern
-lsearch_behind options (word ∷ next ∷ last ∷ more) = Err (bad_value word (codes "lsearch"))
-
 -- `lsearch ?-exact? ?-glob? list pattern`: the place of the first element that is the text or, by
--- default, that the pattern matches; -1 where there is none. Words that are options are read as
--- options from the left as long as they come.
+-- default, that the pattern matches; -1 where there is none. The last two words are the list and the
+-- pattern, whatever they spell, and each word before them must be an option.
 abbrev pub search_options : List (List ℕ) → List (List ℕ)
-search_options words = take_while is_search_option (drop 1 words)
+search_options words = take (length words - 3) (drop 1 words)
 
 abbrev pub lsearch_reply : List (List ℕ) → Reply
-lsearch_reply words = lsearch_behind (search_options words) (drop (length (search_options words)) (drop 1 words))
+lsearch_reply words =
+    unless (options_error is_no_search_option (codes "lsearch") (search_options words))
+    (lsearch_list (search_options words) (arg words (length words - 2)) (arg words (length words - 1)))

@@ -1,11 +1,12 @@
 -- Sorting: the order that `lsort` is asked for, and the list in that order.
-use Rattle.std.specs.Prelude.{ℕ, List, [], ◌∷◌, drop, length, take_while, Bool, true, false, ◌||◌, Option, None, Some, if◌then◌else◌, codes, bytes_eq, Err, Ok}
+use Rattle.std.specs.Prelude.{ℕ, ◌-◌, List, [], ◌∷◌, drop, take, length, Bool, false, not, ◌||◌, Option, None, Some, if◌then◌else◌, codes, bytes_eq, Ok}
 use Rattle.std.specs.declared.cmp.Ordering.{Ordering}
 use Rattle.std.specs.Ordering.{nat_cmp, int_cmp, is_lt}
 use Rattle.std.specs.Cmp.Lexicographic.{slice_cmp}
 use Rattle.txt_core.specs.Quoting.{quoting}
 use Rattle.natives.specs.Answers.{Reply, unless}
-use Rattle.natives.specs.Texts.{wrong_words, bad_value}
+use Rattle.natives.specs.Words.{arg}
+use Rattle.natives.specs.Options.{last_is, options_error}
 use Rattle.natives.specs.Checks.{list_error, items, integer_error, integer}
 
 -- an element put before the first that isn't before it
@@ -22,10 +23,8 @@ in_order before (x ∷ xs) = placed before x (in_order before xs)
 abbrev pub is_sort_option : List ℕ → Bool
 is_sort_option word = bytes_eq word (codes "-ascii") || bytes_eq word (codes "-integer") || bytes_eq word (codes "-increasing") || bytes_eq word (codes "-decreasing")
 
--- whether the last of two contrary options that stands among the options is this one; neither means the other
-abbrev pub last_is : List ℕ → List ℕ → Bool → List (List ℕ) → Bool
-last_is this other so [] = so
-last_is this other so (word ∷ words) = last_is this other (if bytes_eq word this then true else if bytes_eq word other then false else so) words
+abbrev pub is_no_sort_option : List ℕ → Bool
+is_no_sort_option word = not (is_sort_option word)
 
 -- the order of two elements by their numbers, or by their bytes, where a front is before the whole
 abbrev pub order_of : Bool → List ℕ → List ℕ → Ordering
@@ -54,17 +53,12 @@ abbrev pub lsort_list : List (List ℕ) → List ℕ → Reply
 lsort_list options list =
     unless (list_error list) (lsort_in (last_is (codes "-integer") (codes "-ascii") false options) (last_is (codes "-decreasing") (codes "-increasing") false options) (items list))
 
--- what stands behind the options: the list alone. A word more means that the first is no option
-abbrev pub lsort_behind : List (List ℕ) → List (List ℕ) → Reply
-lsort_behind options [] = Err (wrong_words (codes "lsort"))
-lsort_behind options (list ∷ []) = lsort_list options list
-lsort_behind options (word ∷ next ∷ more) = Err (bad_value word (codes "lsort"))
-
 -- `lsort ?-ascii? ?-integer? ?-increasing? ?-decreasing? list`: the list in order, by bytes or by
--- number, rising or falling; elements that tie stay in their order. Words that are options are read
--- as options from the left as long as they come.
+-- number, rising or falling; elements that tie stay in their order. The last word is the list, whatever
+-- it spells, and each word before it must be an option.
 abbrev pub sort_options : List (List ℕ) → List (List ℕ)
-sort_options words = take_while is_sort_option (drop 1 words)
+sort_options words = take (length words - 2) (drop 1 words)
 
 abbrev pub lsort_reply : List (List ℕ) → Reply
-lsort_reply words = lsort_behind (sort_options words) (drop (length (sort_options words)) (drop 1 words))
+lsort_reply words =
+    unless (options_error is_no_sort_option (codes "lsort") (sort_options words)) (lsort_list (sort_options words) (arg words (length words - 1)))

@@ -8,7 +8,7 @@ use Rattle.std.specs.Ordering.{nat_cmp}
 use Rattle.std.specs.Cmp.Lexicographic.{slice_cmp}
 use Rattle.txt_core.specs.PatternLaws.{matches}
 use Rattle.natives.specs.Answers.{Reply, unless}
-use Rattle.natives.specs.Texts.{wrong_words, unknown_subcommand, bad_value}
+use Rattle.txt_core.specs.ErrorTexts.{wrong_words, unknown_subcommand, bad_value}
 use Rattle.natives.specs.Words.{arg, arg_or, truth_text, usual_chars}
 use Rattle.natives.specs.Checks.{integer_error, integer}
 use Rattle.natives.specs.Indexes.{index_error, index, last_of, at_place, part_between}

@@ -1,11 +1,11 @@
 //! Why a command has no result.
 
-ghost use Rattle.std.specs.Prelude.{◌≡◌, ◌++◌, IfOk, codes};
+ghost use Rattle.std.specs.Prelude.{◌≡◌, ℕ, List, IfOk};
 ghost use Rattle.natives.specs.Answers.{Says};
-ghost use Rattle.natives.specs.Texts.{naming, wrong_words, unknown_subcommand, bad_value, no_integer, no_list, too_long};
+ghost use Rattle.txt_core.specs.ErrorTexts.{wrong_words, unknown_subcommand, bad_value, no_integer, no_list, too_long, overflow};
 
 use std::alloc::{AllocError, Global};
-use txt_core::{NoMemory, Text};
+use txt_core::{NoMemory, Text, error_text};
 
 /// Why a command has no result.
 #[derive(Debug, Drop)]
@@ -36,87 +36,67 @@ impl From<AllocError> for Fault {
     }
 }
 
-/// Three texts as one. Its only error is want of memory.
-fn joined(alloc: Global, front: &[u8], middle: &[u8], back: &[u8]) -> Result<Text, NoMemory>
-    ensures { IfOk result (λ text. text ≡ naming front.now middle.now back.now) }
-{
-    let mut text = Text::new(alloc, front)?;
-    text.append(middle)?;
-    text.append(back)?;
-    Ok(text)
-}
-
-/// An error whose text names something between two parts.
-fn naming(alloc: Global, front: &str, name: &[u8], back: &[u8]) -> Fault
-    ensures { Says (naming front.now name.now back.now) result }
-{
-    match joined(alloc, front.as_bytes(), name, back) {
-        Ok(text) => Fault::Error(text),
-        Err(NoMemory) => Fault::NoMemory,
-    }
-}
-
-/// An error that names a word and the command that it is for.
-fn about(alloc: Global, front: &str, word: &[u8], between: &str, command: &str) -> Fault
-    ensures { Says (naming front.now word.now (between.now ++ command.now ++ codes "\"")) result }
-{
-    match joined(alloc, between.as_bytes(), command.as_bytes(), b"\"") {
-        Ok(back) => naming(alloc, front, word, back.bytes()),
-        Err(NoMemory) => Fault::NoMemory,
-    }
-}
-
 impl Fault {
+    /// The error of this text, or want of memory where there is no text for want of it.
+    pub fn saying(text: Result<Text, NoMemory>) -> Fault
+        ensures { (said : List ℕ) → IfOk text (λ t. t ≡ said) → Says said result }
+    {
+        match text {
+            Ok(text) => Fault::Error(text),
+            Err(NoMemory) => Fault::NoMemory,
+        }
+    }
+
     /// The error of too few or too many words for a command, or want of memory.
     pub fn wrong_words(alloc: Global, command: &str) -> Fault
         ensures { Says (wrong_words command.now) result }
     {
-        naming(
-            alloc,
-            "wrong number of words for \"",
-            command.as_bytes(),
-            b"\"",
-        )
+        Fault::saying(error_text::wrong_words(alloc, command.as_bytes()))
     }
 
     /// The error of a second word that is no subcommand of a command, or want of memory.
     pub fn unknown_subcommand(alloc: Global, word: &[u8], command: &str) -> Fault
         ensures { Says (unknown_subcommand word.now command.now) result }
     {
-        about(alloc, "unknown subcommand \"", word, "\" of \"", command)
+        Fault::saying(error_text::unknown_subcommand(
+            alloc,
+            word,
+            command.as_bytes(),
+        ))
     }
 
     /// The error of a word that a command can't take, or want of memory.
     pub fn bad_value(alloc: Global, word: &[u8], command: &str) -> Fault
         ensures { Says (bad_value word.now command.now) result }
     {
-        about(alloc, "bad value \"", word, "\" for \"", command)
+        Fault::saying(error_text::bad_value(alloc, word, command.as_bytes()))
     }
 
     /// The error of a word that must be a number and is none, or want of memory.
     pub fn no_integer(alloc: Global, word: &[u8]) -> Fault
         ensures { Says (no_integer word.now) result }
     {
-        naming(alloc, "expected integer but got \"", word, b"\"")
+        Fault::saying(error_text::no_integer(alloc, word))
     }
 
     /// The error of a word that must be a list and is bad at a place, or want of memory.
     pub fn no_list(alloc: Global, place: u64) -> Fault
         ensures { Says (no_list place) result }
     {
-        match format!(in alloc; "bad list at {place}") {
-            Ok(text) => Fault::Error(Text::from_vec(text.into_bytes())),
-            Err(_) => Fault::NoMemory,
-        }
+        Fault::saying(error_text::no_list(alloc, place))
     }
 
     /// The error of a value that is over the limit, or want of memory.
     pub fn too_long(alloc: Global) -> Fault
         ensures { Says too_long result }
     {
-        match Text::new(alloc, b"value too long") {
-            Ok(text) => Fault::Error(text),
-            Err(NoMemory) => Fault::NoMemory,
-        }
+        Fault::saying(error_text::too_long(alloc))
+    }
+
+    /// The error of a sum that isn't a number of 64 bits with a sign, or want of memory.
+    pub fn overflow(alloc: Global) -> Fault
+        ensures { Says overflow result }
+    {
+        Fault::saying(error_text::overflow(alloc))
     }
 }

@@ -15,4 +15,4 @@ pub use index::{cut_place, index_in, read_index};
 pub use law::{elements_have_an_order, sorting_is_stable};
 pub use native::{Call, Native};
 pub use natives::Natives;
-pub use word::{MOST_BYTES, is_too_long, number_in, within_limit, word_at};
+pub use word::{number_in, within_limit, word_at};

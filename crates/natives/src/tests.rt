@@ -5,12 +5,12 @@ ghost use Rattle.natives.specs.Pure.{pure_of};
 ghost use Rattle.natives.specs.Ranges.{InRange};
 
 use super::{
-    Fault, MOST_BYTES, Native, Natives, cut_place, index_in, read_index, within_limit, word_at,
+    Fault, Native, Natives, cut_place, index_in, read_index, within_limit, word_at,
 };
 use std::alloc::Global;
 use std::process::Abort;
 use std::test::Fail;
-use txt_core::{NoMemory, Text, Words, trim};
+use txt_core::{MOST_BYTES, NoMemory, Text, Words, trim};
 
 /// `concat` of one word; it gives up on others.
 fn concat_one(alloc: Global, words: &Words) -> Result<Text, Fault>

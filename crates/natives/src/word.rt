@@ -1,16 +1,13 @@
-//! Words of a command, and the length of what it comes to.
+//! Words of a command, and the limit of what it comes to.
 
 ghost use Rattle.std.specs.Prelude.{◌≡◌, ◌<◌, length};
-ghost use Rattle.natives.specs.Answers.{Reply, Answers, Tried, limited, is_long};
+ghost use Rattle.natives.specs.Answers.{Reply, Answers, Tried, limited};
 ghost use Rattle.natives.specs.Checks.{integer_error, integer};
 ghost use Rattle.natives.specs.Words.{arg};
 
 use crate::fault::Fault;
 use std::alloc::Global;
-use txt_core::{Text, Words, read_int};
-
-/// How many bytes a value may have.
-pub const MOST_BYTES: usize = 1_048_576;
+use txt_core::{Text, Words, is_too_long, read_int};
 
 /// The word at a place, counted from the command's name at 0.
 pub fn word_at(words: &Words, at: usize) -> &Text
@@ -33,13 +30,6 @@ pub fn number_in(alloc: Global, word: &Text) -> Result<i64, Fault>
         Some(number) => Ok(number),
         None => Err(Fault::no_integer(alloc, word.bytes())),
     }
-}
-
-/// Whether a text is over the limit of a value.
-pub fn is_too_long(text: &Text) -> bool
-    ensures { result ≡ is_long text.now }
-{
-    text.len() > MOST_BYTES
 }
 
 /// What a command answers, or the error `value too long` where its result or its error's text is

@@ -25,7 +25,7 @@ use crate::value::{
 use crate::verb::{Verb, find_verb};
 use crate::words::{BYTES_FOR_ONE, behind_name, copy_word, joined, push_word, with_name, word_at};
 use cmd_table::{Cmd, Def, Renamed, Steps};
-use natives::{Fault, MOST_BYTES, Native, Natives};
+use natives::{Fault, Native, Natives};
 use outside::{Answer, Question, Service};
 use std::alloc::Global;
 use std::rc::Rc;
@@ -33,7 +33,7 @@ use std::sync::ledger::Ledger;
 use tcl_frame::VarFault;
 use tcl_parse::{ParseFault, parse};
 use tcl_varcmd::{is_var_command, var_command};
-use txt_core::{NoMemory, Pairs, Text, Words};
+use txt_core::{MOST_BYTES, NoMemory, Pairs, Text, Words};
 
 /// How deep scripts may stand in one another.
 pub const MOST_LEVELS: u32 = 200;

@@ -21,11 +21,10 @@ use crate::place::alone;
 use crate::stack::{Acted, Ended, Frame, Step};
 use crate::value::{OK, done, error, too_long, wrong_words};
 use crate::words::{behind_name, joined};
-use natives::MOST_BYTES;
 use std::boxed::Box;
 use tcl_expr::{Expr, ExprText, Op, expression_value, parse_expr};
 use tcl_parse::Piece;
-use txt_core::{NoMemory, Text, Words, read_truth};
+use txt_core::{MOST_BYTES, NoMemory, Text, Words, read_truth};
 
 /// What an evaluation of an expression costs.
 const EVALUATION_COST: u128 = 1;

@@ -15,11 +15,10 @@ use crate::place::{Place, Seen, has_command, has_word};
 use crate::stack::{Ended, Frame, Ready, Settled, Step};
 use crate::value::{OK, done, error, returned, too_long};
 use crate::words::{BYTES_FOR_ONE, push_word};
-use natives::MOST_BYTES;
 use std::rc::Rc;
 use tcl_frame::VarFault;
 use tcl_parse::Script;
-use txt_core::{NoMemory, Text, Words};
+use txt_core::{MOST_BYTES, NoMemory, Text, Words};
 
 #[tactic(auto, using(crate::proofs::Stacks::frees_push))]
 impl<H: Host> Engine<H> {

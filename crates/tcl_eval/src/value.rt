@@ -7,9 +7,8 @@ ghost use Rattle.tcl_eval.specs.Eval.{ended, error_of, wrong_words, return_of, r
 use crate::message::{outside_loop, wrong_count};
 use crate::stack::Ended;
 use crate::words::{copy_word, word_at};
-use natives::MOST_BYTES;
 use std::alloc::Global;
-use txt_core::{NoMemory, Text, Words};
+use txt_core::{MOST_BYTES, NoMemory, Text, Words};
 
 /// The code of a good end.
 pub const OK: u8 = 0;

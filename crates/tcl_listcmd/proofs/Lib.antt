@@ -1,5 +1,4 @@
 pub mod Joining
-pub mod Leading
 pub mod Numbers
 pub mod Parts
 pub mod Saying

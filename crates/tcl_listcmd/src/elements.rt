@@ -1,6 +1,6 @@
 //! A word as a list, a list as a text, and copies of elements.
 
-ghost use Rattle.std.specs.Prelude.{◌≡◌, ◌∷◌, ◌++◌, [], IfOk, OnOk, length, min, pos, ◌+ℤ◌, Ok};
+ghost use Rattle.std.specs.Prelude.{◌≡◌, ◌++◌, length, min, pos, ◌+ℤ◌, Ok};
 ghost use Rattle.txt_core.specs.Quoting.{quoting};
 ghost use Rattle.natives.specs.Answers.{Answers, Tried};
 ghost use Rattle.natives.specs.Checks.{items, list_error};
@@ -55,35 +55,6 @@ pub fn cut_behind(place: i128, most: usize) -> usize
     if at < most { at + 1 } else { most }
 }
 
-/// Puts a copy of an element at the end of a list.
-fn push_copy(alloc: Global, list: &mut Words, element: &Text) -> Result<(), NoMemory>
-    ensures { OnOk result (list.new ≡ list.old ++ element.now ∷ []) }
-{
-    match list.push(Text::new(alloc, element.bytes())?) {
-        Ok(()) => Ok(()),
-        Err(_) => Err(NoMemory),
-    }
-}
-
-/// Puts copies of elements at the end of a list.
-pub fn push_copies(alloc: Global, list: &mut Words, elements: &[Text]) -> Result<(), NoMemory>
-    ensures { OnOk result (list.new ≡ list.old ++ elements.now) }
-{
-    'elements: for element in elements {
-        push_copy(alloc, list, element)?;
-    }
-    Ok(())
-}
-
-/// A list of copies of elements.
-pub fn copies(alloc: Global, elements: &[Text]) -> Result<Words, NoMemory>
-    ensures { IfOk result (λ list. list ≡ elements.now) }
-{
-    let mut list = Words::new(alloc);
-    push_copies(alloc, &mut list, elements)?;
-    Ok(list)
-}
-
 /// The text of a list of three parts. Its only error is want of memory.
 pub fn text_of_parts(
     alloc: Global,
@@ -93,8 +64,8 @@ pub fn text_of_parts(
 ) -> Result<Text, Fault>
     ensures { Answers (Ok (quoting (front.now ++ middle.now ++ back.now))) result }
 {
-    let mut list = copies(alloc, front)?;
-    push_copies(alloc, &mut list, middle)?;
-    push_copies(alloc, &mut list, back)?;
+    let mut list = Words::of_copies(alloc, front)?;
+    list.append_copies(alloc, middle)?;
+    list.append_copies(alloc, back)?;
     text_of(alloc, &list)
 }

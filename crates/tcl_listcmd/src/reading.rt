@@ -9,7 +9,7 @@ ghost use Rattle.natives.specs.Lists.{list_reply, llength_reply, lindex_reply, l
 ghost use Rattle.natives.specs.Pure.{pure_of};
 ghost use Rattle.natives.specs.Ranges.{InRange};
 
-use crate::elements::{copies, cut_behind, last_of, list_in, text_of};
+use crate::elements::{cut_behind, last_of, list_in, text_of};
 use natives::{Fault, cut_place, index_in, within_limit, word_at};
 use std::alloc::Global;
 use txt_core::{Text, Words};
@@ -19,7 +19,7 @@ fn list(alloc: Global, words: &Words) -> Result<Text, Fault>
     requires { 0 < length words.now }
     ensures { Answers (list_reply words.now) result }
 {
-    let list = copies(alloc, &words.as_slice()[1..])?;
+    let list = Words::of_copies(alloc, &words.as_slice()[1..])?;
     text_of(alloc, &list)
 }
 
@@ -135,7 +135,7 @@ fn part_between(list: &Words, first: i128, last: i128) -> &[Text]
 fn part_text(alloc: Global, list: &Words, first: i128, last: i128) -> Result<Text, Fault>
     ensures { Answers (Ok (quoting (part_between list.now first last))) result }
 {
-    let part = copies(alloc, part_between(list, first, last))?;
+    let part = Words::of_copies(alloc, part_between(list, first, last))?;
     text_of(alloc, &part)
 }
 

@@ -1,15 +1,14 @@
 //! `lsearch`.
 
 ghost use Rattle.std.specs.Prelude.{◌≡◌, ◌<◌, length, position, codes, Ok};
-ghost use Rattle.std.specs.List.{prefix_len};
 ghost use Rattle.natives.specs.Answers.{Answers};
-ghost use Rattle.natives.specs.Searching.{is_found, is_search_option, place_text, lsearch_list, lsearch_behind, lsearch_reply};
+ghost use Rattle.natives.specs.Searching.{is_found, is_search_option, is_no_search_option, place_text, lsearch_list, lsearch_reply};
 ghost use Rattle.natives.specs.Pure.{pure_of};
 ghost use Rattle.natives.specs.Ranges.{InRange};
 
 use crate::elements::list_in;
-use crate::options::{is_word, last_is};
-use natives::{Fault, within_limit};
+use crate::options::{check_options, is_word, last_is};
+use natives::{Fault, within_limit, word_at};
 use std::alloc::Global;
 use txt_core::{Text, Words, glob};
 
@@ -20,18 +19,11 @@ fn is_option(word: &Text) -> bool
     is_word(word, b"-exact") || is_word(word, b"-glob")
 }
 
-/// How many options stand at the front.
-fn count_options(words: &[Text]) -> usize
-    ensures { result ≡ prefix_len is_search_option words.now }
+/// Where the first word stands that is no option of `lsearch`.
+fn other_word(options: &[Text]) -> Option<usize>
+    ensures { result ≡ position is_no_search_option options.now }
 {
-    let mut count = 0;
-    'options: for word in words {
-        if !is_option(word) {
-            break;
-        }
-        count += 1;
-    }
-    count
+    options.iter().position(|word| !is_option(word))
 }
 
 /// Whether an element is the one that is looked for.
@@ -73,36 +65,25 @@ fn searched(alloc: Global, options: &[Text], list: &Text, pattern: &Text) -> Res
     place_text(alloc, place_of(&list, exact, pattern))
 }
 
-/// What stands behind the options: the list and the pattern.
-fn behind(alloc: Global, options: &[Text], words: &[Text]) -> Result<Text, Fault>
-    ensures { Answers (lsearch_behind options.now words.now) result }
-{
-    match words {
-        [] | [_] => Err(Fault::wrong_words(alloc, "lsearch")),
-        [list, pattern] => searched(alloc, options, list, pattern),
-        [word, _, _, ..] => Err(Fault::bad_value(alloc, word.bytes(), "lsearch")),
-    }
-}
-
-/// Reads the options, and searches.
+/// Looks at the options, and searches the word before the last.
 fn lsearch(alloc: Global, words: &Words) -> Result<Text, Fault>
-    requires { 0 < length words.now }
+    requires { 2 < length words.now }
     ensures { Answers (lsearch_reply words.now) result }
 {
-    let words = &words.as_slice()[1..];
-    let (options, others) = words.split_at(count_options(words));
-    behind(alloc, options, others)
+    let list = words.len() - 2;
+    let options = &words.as_slice()[1..list];
+    check_options(alloc, options, other_word(options), "lsearch")?;
+    searched(alloc, options, word_at(words, list), word_at(words, list + 1))
 }
 
 /// `lsearch ?-exact? ?-glob? list pattern`: the place of the first element that the pattern matches
-/// or, behind `-exact`, that is the text itself; -1 where there is none. Words that are options are
-/// read as options from the left as long as they come.
+/// or, behind `-exact`, that is the text itself; -1 where there is none. The last two words are the
+/// list and the pattern, whatever they spell, and each word before them must be an option.
 ///
 /// # Errors
 ///
-/// In this order: `wrong number of words for "lsearch"` where fewer than two words stand behind the
-/// options, `bad value "WORD" for "lsearch"` where more do, of the first of them; `bad list at
-/// PLACE` where the list is none. `NoMemory` for want of memory alone.
+/// In this order: `bad value "WORD" for "lsearch"` of the first word before the last two that is no
+/// option; `bad list at PLACE` where the list is none. `NoMemory` for want of memory alone.
 #[tactic(auto, unfolding(natives::specs::Ranges::range_of))]
 pub fn lsearch_command(alloc: Global, words: &Words) -> Result<Text, Fault>
     requires { InRange (codes "lsearch") words.now }

@@ -1,17 +1,16 @@
 //! `lsort`.
 
-ghost use Rattle.std.specs.Prelude.{◌≡◌, ◌<◌, length, codes, Ok, IfOk};
+ghost use Rattle.std.specs.Prelude.{◌≡◌, ◌<◌, length, position, codes, Ok, IfOk};
 ghost use Rattle.std.specs.Ordering.{is_lt};
-ghost use Rattle.std.specs.List.{prefix_len};
 ghost use Rattle.natives.specs.Answers.{Answers, Tried};
 ghost use Rattle.natives.specs.Checks.{integer};
-ghost use Rattle.natives.specs.Sorting.{in_order, order_of, sorts_before, is_sort_option, numbers_error, elements_error, lsort_in, lsort_list, lsort_behind, lsort_reply};
+ghost use Rattle.natives.specs.Sorting.{in_order, order_of, sorts_before, is_sort_option, is_no_sort_option, numbers_error, elements_error, lsort_in, lsort_list, lsort_reply};
 ghost use Rattle.natives.specs.Pure.{pure_of};
 ghost use Rattle.natives.specs.Ranges.{InRange};
 
 use crate::elements::{list_in, text_of};
-use crate::options::{is_word, last_is};
-use natives::{Fault, number_in, within_limit};
+use crate::options::{check_options, is_word, last_is};
+use natives::{Fault, number_in, within_limit, word_at};
 use std::alloc::Global;
 use std::cmp::Ordering;
 use txt_core::{NoMemory, Text, Words, read_int};
@@ -26,18 +25,11 @@ fn is_option(word: &Text) -> bool
         || is_word(word, b"-decreasing")
 }
 
-/// How many options stand at the front.
-fn count_options(words: &[Text]) -> usize
-    ensures { result ≡ prefix_len is_sort_option words.now }
+/// Where the first word stands that is no option of `lsort`.
+fn other_word(options: &[Text]) -> Option<usize>
+    ensures { result ≡ position is_no_sort_option options.now }
 {
-    let mut count = 0;
-    'options: for word in words {
-        if !is_option(word) {
-            break;
-        }
-        count += 1;
-    }
-    count
+    options.iter().position(|word| !is_option(word))
 }
 
 /// The number that an element is, or 0 where it is none.
@@ -89,9 +81,7 @@ fn as_list(alloc: Global, elements: Vec<Text>) -> Result<Words, NoMemory>
 {
     let mut list = Words::new(alloc);
     'elements: for element in elements {
-        if let Err(_element) = list.push(element) {
-            return Err(NoMemory);
-        }
+        list.add(element)?;
     }
     Ok(list)
 }
@@ -146,37 +136,26 @@ fn sorted(alloc: Global, options: &[Text], list: &Text) -> Result<Text, Fault>
     sorted_text(alloc, numbers, falls, &list)
 }
 
-/// What stands behind the options: the list alone.
-fn behind(alloc: Global, options: &[Text], words: &[Text]) -> Result<Text, Fault>
-    ensures { Answers (lsort_behind options.now words.now) result }
-{
-    match words {
-        [] => Err(Fault::wrong_words(alloc, "lsort")),
-        [list] => sorted(alloc, options, list),
-        [word, _, ..] => Err(Fault::bad_value(alloc, word.bytes(), "lsort")),
-    }
-}
-
-/// Reads the options, and sorts.
+/// Looks at the options, and sorts the last word.
 fn lsort(alloc: Global, words: &Words) -> Result<Text, Fault>
-    requires { 0 < length words.now }
+    requires { 1 < length words.now }
     ensures { Answers (lsort_reply words.now) result }
 {
-    let words = &words.as_slice()[1..];
-    let (options, others) = words.split_at(count_options(words));
-    behind(alloc, options, others)
+    let last = words.len() - 1;
+    let options = &words.as_slice()[1..last];
+    check_options(alloc, options, other_word(options), "lsort")?;
+    sorted(alloc, options, word_at(words, last))
 }
 
 /// `lsort ?-ascii? ?-integer? ?-increasing? ?-decreasing? list`: the list in order, by bytes or by
 /// number, rising or falling; elements that tie stay in their order. By default by bytes, rising; of
-/// contrary options the last counts. Words that are options are read as options from the left as
-/// long as they come.
+/// contrary options the last counts. The last word is the list, whatever it spells, and each word
+/// before it must be an option.
 ///
 /// # Errors
 ///
-/// In this order: `wrong number of words for "lsort"` where no word stands behind the options, `bad
-/// value "WORD" for "lsort"` where more than one does, of the first of them; `bad list at PLACE`
-/// where the list is none; by number, `expected integer but got "ELEMENT"` of the first element that
+/// In this order: `bad value "WORD" for "lsort"` of the first word before the last that is no
+/// option; `bad list at PLACE` where the list is none; by number, `expected integer but got "ELEMENT"` of the first element that
 /// is none; `value too long` where the list is over the limit. `NoMemory` for want of memory alone.
 #[tactic(auto, unfolding(natives::specs::Ranges::range_of))]
 pub fn lsort_command(alloc: Global, words: &Words) -> Result<Text, Fault>

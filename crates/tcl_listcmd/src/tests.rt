@@ -81,11 +81,8 @@ fn commands_on_lists(rt: HostRuntime) -> Result<(), Fail> {
         (6, b"lsearch|-exact|a b* d|b*|", b"1"),
         (6, b"lsearch|-exact|a bc d|b*|", b"-1"),
         (6, b"lsearch|-glob|a bc d|?|", b"0"),
-        (
-            6,
-            b"lsearch|-glob|a|",
-            b"wrong number of words for \"lsearch\"",
-        ),
+        (6, b"lsearch|-exact|x|", b"-1"),
+        (6, b"lsearch|-exact|-exact|-exact|", b"0"),
         (
             6,
             b"lsearch|-all|a|b|",
@@ -105,7 +102,8 @@ fn commands_on_lists(rt: HostRuntime) -> Result<(), Fail> {
             b"lsort|-integer|3 x y|",
             b"expected integer but got \"x\"",
         ),
-        (7, b"lsort|-ascii|", b"wrong number of words for \"lsort\""),
+        (7, b"lsort|-integer|", b"-integer"),
+        (7, b"lsort|-integer|-ascii|", b"-ascii"),
         (7, b"lsort|x|a b|", b"bad value \"x\" for \"lsort\""),
         (8, b"concat| a b\n||c|  |", b"a b c"),
         (8, b"concat|", b""),

@@ -4,7 +4,7 @@ use Rattle.std.specs.Fmt.{digits}
 use Rattle.std.specs.Prelude.{replicate, ◌==◌, if◌then◌else◌, codes, decimal, unsigned_abs, encode_utf8, ℤ}
 use Rattle.natives.specs.Answers.{Reply, unless, Answers, Tried}
 use Rattle.natives.specs.Checks.{integer, integer_error}
-use Rattle.natives.specs.Texts.{bad_value}
+use Rattle.txt_core.specs.ErrorTexts.{bad_value}
 use Rattle.natives.specs.Words.{arg}
 use Rattle.natives.specs.Parts.{Form, Part, itself, form, taken_by}
 use Rattle.natives.specs.Formatting.{filled, form_error, form_text, takes_word, put_front, written, sign_of, in_64_bits, is_character}

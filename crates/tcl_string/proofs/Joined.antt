@@ -5,7 +5,7 @@ use Rattle.std.proofs.lemmas.Bool.{ltb-true, lt-ltb}
 use Rattle.std.proofs.lemmas.Bool.Decides.{nat_tests}
 use Rattle.std.proofs.lemmas.List.{take_more}
 use Rattle.tcl_string.specs.Joins.{with_next}
-use Rattle.natives.specs.Answers.{is_long}
+use Rattle.txt_core.specs.Limits.{is_long}
 use Rattle.natives.specs.Lists.{joined}
 
 -- one more behind others

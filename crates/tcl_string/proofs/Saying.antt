@@ -1,7 +1,8 @@
 -- What a command answers, by what its checks found.
 use Rattle.std.proofs.Common.{◌≡◌, ◌∙◌, ap, sym, refl, subst, inl, inr, Bool, true, false, List, ℕ, ℤ, Option, Some, Result, Ok, Err}
-use Rattle.natives.specs.Answers.{Reply, unless, Answers, Says, Tried, limited, is_long}
-use Rattle.natives.specs.Texts.{too_long}
+use Rattle.natives.specs.Answers.{Reply, unless, Answers, Says, Tried, limited}
+use Rattle.txt_core.specs.Limits.{is_long}
+use Rattle.txt_core.specs.ErrorTexts.{too_long}
 use Rattle.natives.specs.Indexes.{index, index_error}
 use Rattle.natives.specs.declared.fault.Fault.{Fault}
 use Rattle.natives.specs.declared.fault.Fault.TheVariants.{Error, NoMemory}

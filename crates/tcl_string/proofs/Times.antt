@@ -2,7 +2,7 @@
 use Rattle.std.proofs.Common.{◌≡◌, ◌∙◌, ap, ℕ, zero, suc, ◌+◌, ◌*◌, List, length, arith, length-append, true}
 use Rattle.std.specs.Prelude.{nat_lt}
 use Rattle.std.specs.List.{repeat}
-use Rattle.natives.specs.Answers.{is_long}
+use Rattle.txt_core.specs.Limits.{is_long}
 
 -- how many bytes it has
 length-repeat : (n : ℕ) (xs : List ℕ) → length (repeat n xs) ≡ n * length xs

@@ -1,7 +1,7 @@
 -- The subcommands of `string`.
 use Rattle.std.specs.Prelude.{ℕ, List, Option, None, Some, codes, bytes_eq, if◌then◌else◌, Err}
 use Rattle.natives.specs.Answers.{Reply}
-use Rattle.natives.specs.Texts.{unknown_subcommand}
+use Rattle.txt_core.specs.ErrorTexts.{unknown_subcommand}
 use Rattle.natives.specs.Strings.{counted, length_reply, index_reply, range_reply, compare_reply, equal_reply, first_reply, last_reply, match_reply, tolower_reply, toupper_reply, trim_reply, trimleft_reply, trimright_reply, repeat_reply}
 use Rattle.tcl_string.specs.declared.subcommand.Subcommand.{Subcommand}
 use Rattle.tcl_string.specs.declared.subcommand.Subcommand.TheVariants.{Length, Index, Range, Compare, Equal, First, Last, Match, Tolower, Toupper, Trim, Trimleft, Trimright, Repeat}

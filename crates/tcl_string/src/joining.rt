@@ -12,10 +12,10 @@ ghost use Rattle.tcl_string.specs.Early.{Comes};
 ghost use Rattle.tcl_string.specs.Joins.{with_next};
 
 use crate::argument::word_or;
-use natives::{Fault, is_too_long, within_limit, word_at};
+use natives::{Fault, within_limit, word_at};
 use std::alloc::Global;
 use tcl_list::{ListFault, split};
-use txt_core::{NoMemory, Text, Words};
+use txt_core::{NoMemory, Text, Words, is_too_long};
 
 /// The elements of a word that is a list.
 fn items_of(alloc: Global, word: &Text) -> Result<Words, Fault>

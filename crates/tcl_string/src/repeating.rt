@@ -2,19 +2,20 @@
 
 ghost use Rattle.std.specs.Prelude.{◌≡◌, ◌≤◌, ◌*◌, length, nat_lt, Ok};
 ghost use Rattle.std.specs.List.{repeat};
+ghost use Rattle.txt_core.specs.Limits.{most_bytes};
 ghost use Rattle.natives.specs.Strings.{repeat_by, repeat_reply};
 ghost use Rattle.tcl_string.specs.Early.{Comes};
 
-use natives::{Fault, MOST_BYTES, number_in, word_at};
+use natives::{Fault, number_in, word_at};
 use std::alloc::Global;
-use txt_core::{Text, Words};
+use txt_core::{Text, Words, is_over_limit};
 
 /// Whether so many times so many bytes are over the limit of a value.
 fn is_too_much(len: usize, count: usize) -> bool
-    ensures { result ≡ nat_lt 1048576 (count * len) }
+    ensures { result ≡ nat_lt most_bytes (count * len) }
 {
     match len.checked_mul(count) {
-        Some(all) => all > MOST_BYTES,
+        Some(all) => is_over_limit(all),
         None => true,
     }
 }

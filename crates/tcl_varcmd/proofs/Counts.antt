@@ -6,8 +6,8 @@ use Rattle.tcl_frame.specs.Stack.{Stack}
 use Rattle.tcl_frame.specs.Names.{named, is_element}
 use Rattle.tcl_frame.specs.Frames.{link_fault}
 use Rattle.std.proofs.lemmas.Bool.Decides.{nat_tests}
-use Rattle.natives.specs.Texts.{wrong_words, too_long, bad_value}
-use Rattle.natives.specs.Answers.{is_long}
+use Rattle.txt_core.specs.ErrorTexts.{wrong_words, too_long, bad_value}
+use Rattle.txt_core.specs.Limits.{is_long}
 use Rattle.tcl_varcmd.specs.Errors.{refused, global_error, count_error, least_error, long_error}
 
 pub too_few : (least most : ℕ) (words : List (List ℕ)) (command : List ℕ) → nat_lt (length words) least ≡ true → count_error least most words command ≡ Some (wrong_words command)

@@ -5,7 +5,7 @@ use Rattle.std.proofs.lemmas.List.{length-append, append_assoc, append-nil}
 use Rattle.txt_core.specs.Quoting.{quoting}
 use Rattle.tcl_list.specs.Answers.{AppendsTo}
 use Rattle.natives.specs.declared.fault.Fault.{Fault}
-use Rattle.natives.specs.Texts.{too_long}
+use Rattle.txt_core.specs.ErrorTexts.{too_long}
 use Rattle.natives.specs.Checks.{list_error, items}
 use Rattle.tcl_frame.specs.Stack.{Stack}
 use Rattle.tcl_frame.specs.Frames.{read_of}

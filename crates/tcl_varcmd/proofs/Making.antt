@@ -15,7 +15,7 @@ use Rattle.tcl_frame.specs.Frames.{table_of, found_in, has, is_array}
 use Rattle.tcl_frame.specs.Names.{variable_name}
 use Rattle.natives.specs.declared.fault.Fault.{Fault}
 use Rattle.natives.specs.declared.fault.Fault.TheVariants.{Error, NoMemory}
-use Rattle.natives.specs.Texts.{naming, bad_value}
+use Rattle.txt_core.specs.ErrorTexts.{naming, bad_value}
 use Rattle.natives.specs.Checks.{list_error, items}
 use Rattle.tcl_varcmd.specs.Errors.{refused, array_error, remove_error}
 use Rattle.natives.specs.Answers.{Tried}

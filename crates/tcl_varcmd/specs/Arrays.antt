@@ -9,7 +9,7 @@ use Rattle.tcl_frame.specs.Stack.{Stack}
 use Rattle.tcl_frame.specs.Frames.{has, is_array, elements_of, removed, pairs_written}
 use Rattle.tcl_varcmd.specs.declared.part.Part.{Part}
 use Rattle.tcl_varcmd.specs.declared.part.Part.TheVariants.{Exists, Size, Unset, Get, Names, Set}
-use Rattle.natives.specs.Texts.{unknown_subcommand, bad_value, no_list}
+use Rattle.txt_core.specs.ErrorTexts.{unknown_subcommand, bad_value, no_list}
 use Rattle.tcl_varcmd.specs.Answers.{Came, gives, fails, unless}
 use Rattle.natives.specs.Checks.{items}
 use Rattle.tcl_varcmd.specs.Errors.{array_error, count_error}

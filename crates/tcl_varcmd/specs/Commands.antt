@@ -3,9 +3,9 @@ use Rattle.std.specs.Prelude.{ℕ, Bool, true, false, List, Option, Some, None, 
 use Rattle.tcl_frame.specs.Stack.{Stack}
 use Rattle.tcl_varcmd.specs.declared.command.Command.{Command}
 use Rattle.tcl_varcmd.specs.declared.command.Command.TheVariants.{Set, Unset, Incr, Append, Lappend, Global, Array, Info}
-use Rattle.natives.specs.Texts.{too_long}
+use Rattle.txt_core.specs.ErrorTexts.{too_long}
 use Rattle.tcl_varcmd.specs.Answers.{Came, gives, fails}
-use Rattle.natives.specs.Answers.{is_long}
+use Rattle.txt_core.specs.Limits.{is_long}
 use Rattle.natives.specs.Words.{arg}
 use Rattle.tcl_varcmd.specs.Scalars.{set_came, unset_came, incr_came, append_came, lappend_came, global_came}
 use Rattle.tcl_varcmd.specs.Arrays.{array_came, info_came}

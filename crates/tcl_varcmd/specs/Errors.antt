@@ -4,8 +4,8 @@ use Rattle.tcl_frame.specs.declared.fault.VarFault.{VarFault}
 use Rattle.tcl_frame.specs.Names.{named, is_element}
 use Rattle.tcl_frame.specs.Stack.{Stack}
 use Rattle.tcl_frame.specs.Frames.{read_fault, write_fault, remove_fault, array_fault, link_fault}
-use Rattle.natives.specs.Answers.{is_long}
-use Rattle.natives.specs.Texts.{wrong_words, bad_value, too_long}
+use Rattle.txt_core.specs.Limits.{is_long}
+use Rattle.txt_core.specs.ErrorTexts.{wrong_words, bad_value, too_long}
 use Rattle.tcl_varcmd.specs.Texts.{fault_text, overflow}
 
 -- the text of a fault of a variable, where there is one

@@ -5,7 +5,7 @@ use Rattle.tcl_frame.specs.declared.fault.VarFault.TheVariants.{NoVariable, IsAr
 use Rattle.tcl_list.specs.declared.fault.ListFault.{ListFault}
 use Rattle.tcl_list.specs.declared.fault.ListFault.TheVariants as list_faults
 use Rattle.natives.specs.declared.fault.Fault.{Fault}
-use Rattle.natives.specs.Texts.{no_list}
+use Rattle.txt_core.specs.ErrorTexts.{no_list}
 use Rattle.tcl_varcmd.specs.Texts.{fault_text}
 use Rattle.tcl_varcmd.specs.Answers.{Says}
 

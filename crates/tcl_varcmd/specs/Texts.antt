@@ -1,6 +1,6 @@
 -- The texts of errors.
 use Rattle.std.specs.Prelude.{ℕ, List, codes, Option, Some, None}
-use Rattle.natives.specs.Texts.{naming}
+use Rattle.txt_core.specs.ErrorTexts.{naming}
 use Rattle.tcl_frame.specs.declared.fault.VarFault.{VarFault}
 use Rattle.tcl_frame.specs.declared.fault.VarFault.TheVariants.{NoVariable, IsArray, NotArray, Exists, NoMemory}
 

@@ -4,17 +4,17 @@ ghost use Rattle.std.specs.Prelude.{◌≡◌, length, Some, false, IsTrue};
 ghost use Rattle.tcl_frame.specs.Stack.{Stack};
 ghost use Rattle.tcl_varcmd.specs.Answers.{Came, Answers, IfNoMemory};
 ghost use Rattle.natives.specs.Words.{arg};
-ghost use Rattle.natives.specs.Texts.{too_long};
+ghost use Rattle.txt_core.specs.ErrorTexts.{too_long};
 ghost use Rattle.tcl_varcmd.specs.Commands.{command_came, command_named, goes_in_turn, bounded, var_came, begins_var_command};
 
 use crate::array::{array, info};
 use crate::command::{Command, command_in};
 use crate::names::{global, unset};
 use crate::scalar::{append, incr, lappend, set};
-use natives::{Fault, is_too_long};
+use natives::Fault;
 use std::alloc::Global;
 use tcl_frame::Frames;
-use txt_core::{Text, Words};
+use txt_core::{Text, Words, is_too_long};
 
 /// What a command answers, before its length is judged.
 fn answer(

@@ -2,7 +2,7 @@
 
 ghost use Rattle.std.specs.Prelude.{◌≡◌, ◌↔◌, ◌<◌, ◌≤◌, nat_lt, length, IfOk, IsTrue, Some};
 ghost use Rattle.natives.specs.Answers.{Tried};
-ghost use Rattle.natives.specs.Texts.{naming, wrong_words};
+ghost use Rattle.txt_core.specs.ErrorTexts.{naming, wrong_words};
 ghost use Rattle.tcl_varcmd.specs.Answers.{Says};
 ghost use Rattle.tcl_varcmd.specs.Texts.{fault_text};
 ghost use Rattle.tcl_varcmd.specs.Errors.{count_error, least_error};

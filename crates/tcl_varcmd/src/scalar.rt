@@ -4,6 +4,7 @@ ghost use Rattle.std.specs.Prelude.{◌≡◌, ◌+◌, ◌++◌, [], length, na
 ghost use Rattle.std.specs.Option.{option_copied};
 ghost use Rattle.txt_core.specs.Knowing.{Holds};
 ghost use Rattle.tcl_frame.specs.Frames.{read_of};
+ghost use Rattle.txt_core.specs.Limits.{most_bytes};
 ghost use Rattle.natives.specs.Answers.{Tried};
 ghost use Rattle.tcl_varcmd.specs.Answers.{Answers, IfNoMemory};
 ghost use Rattle.tcl_varcmd.specs.Growing.{grown};
@@ -12,11 +13,11 @@ ghost use Rattle.tcl_varcmd.specs.Scalars.{stored, set_to, set_came, step_error,
 use crate::message::{check_count, check_least};
 use crate::value::{sum, with_elements};
 use crate::variable::{self, length_or_none, read, read_or_empty, write, written_list};
-use natives::{Fault, MOST_BYTES, is_too_long, number_in, word_at};
+use natives::{Fault, number_in, word_at};
 use std::alloc::Global;
 use tcl_frame::Frames;
 use tcl_list::elements_behind;
-use txt_core::{Known, NoMemory, Text, Words, write_int};
+use txt_core::{Known, NoMemory, Text, Words, is_over_limit, is_too_long, write_int};
 
 /// Writes a value, which is the result.
 fn store(alloc: Global, frames: &mut Frames, name: &Text, mut value: Text) -> Result<Text, Fault>
@@ -109,9 +110,9 @@ fn join(alloc: Global, values: &[Text]) -> Result<Text, NoMemory>
 
 /// Whether so many bytes, with a text behind them, are over the limit of a value.
 fn are_too_many(front: usize, text: &Text) -> bool
-    ensures { result ≡ nat_lt 1048576 (front + length text.now) }
+    ensures { result ≡ nat_lt most_bytes (front + length text.now) }
 {
-    front.saturating_add(text.len()) > MOST_BYTES
+    is_over_limit(front.saturating_add(text.len()))
 }
 
 /// Puts a text behind a variable's own, and gives the new value. The condition is that what is known

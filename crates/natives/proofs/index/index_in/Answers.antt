@@ -2,7 +2,7 @@ use Rattle.std.proofs.Common.{◌≡◌, ◌∙◌, sym, ap, subst, None, Some, 
 use mir.Syntax.{w128, w64}
 use Rattle.std.proofs.lemmas.Int.{to_z-of_z}
 use Rattle.natives.specs.Answers.{Says}
-use Rattle.natives.specs.Texts.{bad_value}
+use Rattle.txt_core.specs.ErrorTexts.{bad_value}
 use Rattle.natives.specs.Indexes.{index, index_error, place_of, place_found, no_place_found}
 use Rattle.natives.proofs.Saying.{tried_said}
 use Rattle.natives.proofs.index.index_in.Goals as goal

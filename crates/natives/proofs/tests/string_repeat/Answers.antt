@@ -2,7 +2,7 @@ use Rattle.std.proofs.Common.{◌≡◌, ◌∙◌, ap, sym, refl, rules, ℕ, L
 use Rattle.std.specs.Prelude.{codes, bytes_eq, not}
 use Rattle.std.proofs.lemmas.Slice.Eq.{bytes_eq-Decides}
 use Rattle.natives.specs.Answers.{Answers, Says, limited}
-use Rattle.natives.specs.Texts.{wrong_words}
+use Rattle.txt_core.specs.ErrorTexts.{wrong_words}
 use Rattle.natives.specs.Words.{arg}
 use Rattle.natives.specs.Strings.{subcommand_reply}
 use Rattle.natives.specs.Pure.{pure_of, pure_string}

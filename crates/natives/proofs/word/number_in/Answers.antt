@@ -3,7 +3,7 @@ use Rattle.std.specs.Int.{w64}
 use Rattle.std.specs.Int.RustNames.{FitsSigned}
 use Rattle.std.proofs.lemmas.Int.{to_z-of_z}
 use Rattle.natives.specs.Answers.{Says}
-use Rattle.natives.specs.Texts.{no_integer}
+use Rattle.txt_core.specs.ErrorTexts.{no_integer}
 use Rattle.natives.specs.Checks.{integer, integer_error, number_found, no_number_found}
 use Rattle.natives.proofs.Saying.{tried_said}
 use Rattle.natives.proofs.word.number_in.Goals as goal

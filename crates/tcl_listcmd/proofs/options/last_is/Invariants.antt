@@ -1,5 +1,5 @@
 use Rattle.std.proofs.Common.{◌≡◌, drop, false}
-use Rattle.natives.specs.Sorting.{last_is}
+use Rattle.natives.specs.Options.{last_is}
 use Rattle.tcl_listcmd.proofs.options.last_is.Given as goal
 
 -- what the options so far and those that are left say

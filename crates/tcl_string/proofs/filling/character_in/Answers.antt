@@ -5,7 +5,7 @@ use Rattle.std.proofs.lemmas.Result.{err_from_is_err_and}
 use Rattle.std.specs.Prelude.{codes, unsigned_abs}
 use Rattle.natives.specs.Checks.{integer}
 use Rattle.natives.specs.Formatting.{form_error}
-use Rattle.natives.specs.Texts.{bad_value}
+use Rattle.txt_core.specs.ErrorTexts.{bad_value}
 use Rattle.tcl_string.proofs.Filled.{no_number_here, character_found, no_character_found}
 use Rattle.tcl_string.proofs.Saying.{tried_said}
 use Rattle.tcl_string.proofs.filling.character_in.Goals as goal

@@ -1,6 +1,6 @@
 use Rattle.std.proofs.Common.{◌≡◌, sym, List, ℕ}
 use Rattle.natives.specs.Checks.{items, list_error, list_found, no_list_found}
-use Rattle.natives.specs.Texts.{no_list}
+use Rattle.txt_core.specs.ErrorTexts.{no_list}
 use Rattle.tcl_string.proofs.Saying.{tried_said}
 use Rattle.tcl_string.proofs.joining.items_of.Goals as goal
 

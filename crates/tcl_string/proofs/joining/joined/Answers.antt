@@ -1,5 +1,5 @@
 use Rattle.std.proofs.Common.{◌≡◌, ◌∙◌, sym, true, take, ◌+◌, [], get_or, arith}
-use Rattle.natives.specs.Answers.{is_long}
+use Rattle.txt_core.specs.Limits.{is_long}
 use Rattle.natives.specs.Lists.{joined}
 use Rattle.tcl_string.proofs.Joined.{next_joined, joined_long}
 use Rattle.tcl_string.proofs.Saying.{comes_long}

@@ -1,7 +1,7 @@
 use Rattle.std.proofs.Common.{◌≡◌, ◌∙◌, ap, sym, subst, List, ℕ, Option, Some, None, Err}
 use Rattle.std.specs.Prelude.{codes}
 use Rattle.natives.specs.Answers.{Reply, Says}
-use Rattle.natives.specs.Texts.{unknown_subcommand}
+use Rattle.txt_core.specs.ErrorTexts.{unknown_subcommand}
 use Rattle.natives.specs.Words.{arg}
 use Rattle.natives.specs.Strings.{string_reply}
 use Rattle.tcl_string.specs.Early.{Comes}

@@ -1,6 +1,6 @@
 use Rattle.std.proofs.Common.{◌∙◌, sym, Some}
 use Rattle.std.specs.Prelude.{codes}
-use Rattle.natives.specs.Texts.{naming}
+use Rattle.txt_core.specs.ErrorTexts.{naming}
 use Rattle.tcl_varcmd.specs.Errors.{array_error}
 use Rattle.tcl_varcmd.proofs.Exits.{tried_said}
 use Rattle.tcl_varcmd.proofs.Making.{element_making, array_making, scalar_making, absent_making}

@@ -3,7 +3,7 @@ use Rattle.std.specs.Prelude.{codes, ◌==◌}
 use Rattle.std.proofs.lemmas.Result.{err_from_is_err_and}
 use Rattle.tcl_varcmd.specs.Answers.{Says}
 use Rattle.natives.specs.Answers.{Says as SaysText}
-use Rattle.natives.specs.Texts.{bad_value}
+use Rattle.txt_core.specs.ErrorTexts.{bad_value}
 use Rattle.natives.specs.Checks.{items}
 use Rattle.tcl_varcmd.specs.Arrays.{pairs_error}
 use Rattle.tcl_varcmd.proofs.Exits.{said, tried_said}

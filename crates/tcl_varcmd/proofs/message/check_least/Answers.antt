@@ -1,5 +1,5 @@
 use Rattle.std.proofs.Common.{◌≤◌, ◌∙◌, sym, Some, length}
-use Rattle.natives.specs.Texts.{wrong_words}
+use Rattle.txt_core.specs.ErrorTexts.{wrong_words}
 use Rattle.tcl_varcmd.specs.Errors.{least_error}
 use Rattle.tcl_varcmd.proofs.Exits.{said, tried_said}
 use Rattle.tcl_varcmd.proofs.Counts.{too_few_least, enough, not_less}

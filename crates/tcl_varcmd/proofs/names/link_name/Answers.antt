@@ -3,7 +3,7 @@ use Rattle.std.specs.Prelude.{codes}
 use Rattle.tcl_frame.specs.Frames.{linked}
 use Rattle.tcl_varcmd.specs.Answers.{Says, Changes}
 use Rattle.natives.specs.Answers.{Says as SaysText}
-use Rattle.natives.specs.Texts.{bad_value}
+use Rattle.txt_core.specs.ErrorTexts.{bad_value}
 use Rattle.tcl_varcmd.specs.Errors.{global_error}
 use Rattle.tcl_varcmd.proofs.Exits.{said, changes_said}
 use Rattle.tcl_varcmd.proofs.Counts.{no_global, plain_global}

@@ -1,6 +1,6 @@
 use Rattle.std.proofs.Common.{◌++◌, ◌∙◌, sym, refl, subst, Some, Err}
 use Rattle.tcl_frame.specs.Frames.{read_of, written}
-use Rattle.natives.specs.Texts.{too_long}
+use Rattle.txt_core.specs.ErrorTexts.{too_long}
 use Rattle.tcl_varcmd.specs.Errors.{long_error, write_error}
 use Rattle.tcl_varcmd.specs.Answers.{Answers, gives, unless}
 use Rattle.tcl_varcmd.specs.Scalars.{stored}

@@ -1,7 +1,7 @@
 use Rattle.std.proofs.Common.{◌∙◌, sym, refl, ap, Some, Ok, Err}
 use Rattle.std.proofs.lemmas.Result.{err_from_is_err_and}
 use Rattle.tcl_frame.specs.Frames.{written}
-use Rattle.natives.specs.Texts.{too_long}
+use Rattle.txt_core.specs.ErrorTexts.{too_long}
 use Rattle.tcl_varcmd.specs.Errors.{long_error, write_error}
 use Rattle.tcl_varcmd.specs.Answers.{gives, unless}
 use Rattle.tcl_varcmd.proofs.Exits.{said, answers_said, answers_on, answers_unchanged}
