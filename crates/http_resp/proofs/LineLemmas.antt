@@ -16,7 +16,8 @@ use Rattle.httpdate.specs.Valid.{IsValid}
 use Rattle.httpdate.specs.Text.{two_digits, four_digits, day_name, month_name, time_of_day, imf_fixdate}
 use Rattle.httpdate.specs.declared.parts.Parts.{Parts}
 use Rattle.http_header.proofs.TokenLemmas.{token_byte_range}
-use Rattle.http_resp.specs.Moment.{fixdate, parts_at, last_moment}
+use Rattle.http_resp.specs.Moment.{fixdate, parts_at}
+use Rattle.txt_core.specs.Limits.{last_moment}
 use Rattle.http_resp.proofs.MomentLemmas.{parts_hold}
 use Rattle.http_resp.specs.Lines.{holds_no_line_end, with_ends, field_text, content_texts, head_lines, IsInLines}
 use Rattle.http_resp.specs.declared.response.Response.{Response}

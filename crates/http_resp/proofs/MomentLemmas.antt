@@ -8,7 +8,8 @@ use Rattle.httpdate.specs.declared.date.HttpDate.{HttpDate}
 use Rattle.httpdate.proofs.CalendarLemmas.{days_of_years_closed, days_of_months_all}
 use Rattle.httpdate.proofs.ValidLemmas.{is_valid_complete}
 use Rattle.httpdate.proofs.Theorems.{date_text_is}
-use Rattle.http_resp.specs.Moment.{last_moment, year_and_day, month_and_day, parts_at, fixdate}
+use Rattle.http_resp.specs.Moment.{year_and_day, month_and_day, parts_at, fixdate}
+use Rattle.txt_core.specs.Limits.{last_moment}
 
 long_year : (year : ℕ) → 365 ≤ days_in_year year
 long_year year = grind (arith, nat_tests)

@@ -1,13 +1,9 @@
 -- The date of a moment, as a Date field shows it.
-use Rattle.std.specs.Prelude.{ℕ, zero, suc, ◌+◌, ◌-◌, ◌/◌, ◌%◌, min, nat_lt, true, false, List}
+use Rattle.std.specs.Prelude.{ℕ, zero, suc, ◌+◌, ◌-◌, ◌/◌, ◌%◌, nat_lt, true, false, List}
+use Rattle.txt_core.specs.Limits.{moment_of}
 use Rattle.httpdate.specs.Calendar.{days_in_year, days_in_month, weekday}
 use Rattle.httpdate.specs.Text.{imf_fixdate}
 use Rattle.httpdate.specs.declared.parts.Parts.{Parts}
-
--- A moment is told in seconds since 1970. This is the last second of the year 9999; a later moment
--- counts as this one.
-abbrev pub last_moment : ℕ
-last_moment = 253402300799
 
 -- The year and the day of the year on which a day falls, told as years after 1970 and days after the
 -- first of January: whole years are taken off the days. There are no more years than days, and so
@@ -45,4 +41,4 @@ parts_at second =
 
 -- `Sun, 06 Nov 1994 08:49:37 GMT`, the one form in which a date is sent (RFC 9110, section 5.6.7)
 unfoldable pub fixdate : ℕ → List ℕ
-fixdate moment = imf_fixdate (parts_at (min moment last_moment))
+fixdate moment = imf_fixdate (parts_at (moment_of moment))

@@ -18,5 +18,5 @@ pub use delivery::{Wrote, write_response};
 pub use head::response_bytes;
 pub use lines::head_is_in_lines;
 pub use outside::Sent;
-pub use replies::{plain, reply_busy, reply_no_memory};
+pub use replies::{plain, reply_busy, reply_no_memory, text_reply};
 pub use response::Response;

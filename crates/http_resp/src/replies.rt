@@ -1,7 +1,7 @@
 //! The replies that the server makes itself.
 
 ghost use Rattle.std.specs.Prelude.{◌≡◌, IfOk};
-ghost use Rattle.http_resp.specs.Replies.{plain_reply, no_memory_bytes, busy_bytes};
+ghost use Rattle.http_resp.specs.Replies.{plain_reply, text_reply, no_memory_bytes, busy_bytes};
 ghost use Rattle.outside.specs.Sending.{Sends};
 
 use crate::date::fixdate;
@@ -37,12 +37,12 @@ const DATE_START: usize = 40;
 /// Where it ends.
 const DATE_END: usize = 69;
 
-/// The plain reply of a status: the code and its reason phrase as a line of plain text.
-pub fn plain(alloc: Global, status: u16) -> Result<Response, NoMemory>
-    ensures { IfOk result (λ response. response ≡ plain_reply status) }
+/// The reply of plain text with this status and this line as its body. Its only error is want of
+/// memory.
+pub fn text_reply(alloc: Global, status: u16, line: &[u8]) -> Result<Response, NoMemory>
+    ensures { IfOk result (λ response. response ≡ text_reply status line.now) }
 {
-    let mut body = Text::empty(alloc);
-    push_status(&mut body, status)?;
+    let mut body = Text::new(alloc, line)?;
     body.append(b"\n")?;
     Ok(Response {
         status,
@@ -50,6 +50,15 @@ pub fn plain(alloc: Global, status: u16) -> Result<Response, NoMemory>
         kind: Text::new(alloc, b"text/plain")?,
         body,
     })
+}
+
+/// The plain reply of a status: the code and its reason phrase as a line of plain text.
+pub fn plain(alloc: Global, status: u16) -> Result<Response, NoMemory>
+    ensures { IfOk result (λ response. response ≡ plain_reply status) }
+{
+    let mut line = Text::empty(alloc);
+    push_status(&mut line, status)?;
+    text_reply(alloc, status, line.bytes())
 }
 
 /// Writes the reply for want of memory: 503, `out of memory` and `Connection: close`. It takes no

@@ -7,7 +7,8 @@ use Rattle.sched_core.specs.declared.call.SchedReply.TheVariants as replies
 use Rattle.sched_core.specs.Entries.{Entry, State, due_of, id_of}
 use Rattle.sched_core.specs.Due.{is_due, listed, IsMoved, IsAfterDue}
 use Rattle.sched_core.specs.Allowed.{Allowed}
-use Rattle.sched_core.specs.Steps.{IsFull, Adds, Cancels, Runs, Stops, moment_of, entry_of, StepsAreDetermined}
+use Rattle.sched_core.specs.Steps.{IsFull, Adds, Cancels, Runs, Stops, entry_of, StepsAreDetermined}
+use Rattle.txt_core.specs.Limits.{moment_of}
 use Rattle.sched_core.proofs.Keys.{same_entries}
 
 same_state : (t u : State) → t.next ≡ u.next → t.entries ≡ u.entries → t.stopped ≡ u.stopped → t ≡ u

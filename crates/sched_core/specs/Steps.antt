@@ -1,5 +1,6 @@
 -- What each call does: the reply, and the schedule after it.
 use Rattle.std.specs.Prelude.{◌≡◌, ◌≢◌, ◌⊎◌, ◌↔◌, ℕ, ◌+◌, min, max, Bool, true, false, List, map, filter, length, Contains}
+use Rattle.txt_core.specs.Limits.{moment_of}
 use Rattle.sched_core.specs.declared.call.SchedCall.{SchedCall}
 use Rattle.sched_core.specs.declared.call.SchedCall.TheVariants.{Add, Cancel, Due, Stop}
 use Rattle.sched_core.specs.declared.call.SchedReply.{SchedReply}
@@ -7,10 +8,6 @@ use Rattle.sched_core.specs.declared.call.SchedReply.TheVariants as replies
 use Rattle.sched_core.specs.Entries.{Entry, State, id_of}
 use Rattle.sched_core.specs.Due.{is_due, listed, IsAfterDue}
 use Rattle.sched_core.specs.Allowed.{Allowed}
-
--- a moment after the year 9999 counts as its last second
-abbrev pub moment_of : ℕ → ℕ
-moment_of moment = min moment 253402300799
 
 -- no seconds count as one, and more than a year's as a year's
 abbrev pub seconds_of : ℕ → ℕ

@@ -6,6 +6,7 @@ ghost use Rattle.std.specs.BTreeMap.{get, keys};
 ghost use Rattle.sched_core.specs.Entries.{Entry, due_of, key_cmp, AreInOrder};
 ghost use Rattle.sched_core.specs.Due.{is_due, is_later, listed, IsNext, IsMoved, IsAfterDue};
 ghost use Rattle.sched_core.specs.Allowed.{AreSound, HaveOwnIds};
+ghost use Rattle.txt_core.specs.Limits.{last_moment};
 
 use crate::call::{DueList, DueScript};
 use crate::plan::{Key, Plan, Plans};
@@ -16,7 +17,7 @@ use txt_core::{NoMemory, Text};
 /// The least moment after `now` that is `due` and a whole number of times `seconds`.
 fn next_moment(due: u64, seconds: u64, now: u64) -> u64
     requires due { due ≤ now }
-    requires now { now ≤ 253402300799 }
+    requires now { now ≤ last_moment }
     requires seconds { (1 ≤ seconds) × (seconds ≤ 31536000) }
     ensures next { IsNext now due seconds result }
     ensures bound { result ≤ now + seconds }
@@ -26,7 +27,7 @@ fn next_moment(due: u64, seconds: u64, now: u64) -> u64
 
 /// The scripts that are due, with their ids, copied.
 fn due_scripts(alloc: Global, plans: &Plans, now: u64) -> Result<DueList, NoMemory>
-    requires { now ≤ 253402300799 }
+    requires { now ≤ last_moment }
     ensures { IfOk result (λ list. list ≡ map listed (filter (is_due now) plans.now.entries)) }
 {
     let mut list = DueList::new(alloc);
@@ -41,7 +42,7 @@ fn due_scripts(alloc: Global, plans: &Plans, now: u64) -> Result<DueList, NoMemo
 
 /// The entries that are due and don't run once, each at its next moment.
 fn moved(alloc: Global, plans: &Plans, now: u64) -> Result<Plans, NoMemory>
-    requires now { now ≤ 253402300799 }
+    requires now { now ≤ last_moment }
     requires ordered { AreInOrder plans.now.entries }
     requires sound { AreSound plans.now.entries }
     requires ids { HaveOwnIds plans.now.entries }
@@ -123,7 +124,7 @@ fn drop_due(plans: &mut Plans, now: u64)
 /// What is due at this moment. The entries that run once are taken out, and the others moved on.
 /// All memory is taken before the first entry is: where it wants, the entries are as they were.
 pub(crate) fn take_due(alloc: Global, plans: &mut Plans, now: u64) -> Result<DueList, NoMemory>
-    requires now { now ≤ 253402300799 }
+    requires now { now ≤ last_moment }
     requires ordered { AreInOrder plans.old.entries }
     requires sound { AreSound plans.old.entries }
     requires ids { HaveOwnIds plans.old.entries }

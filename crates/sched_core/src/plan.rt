@@ -1,13 +1,10 @@
 //! What a schedule keeps of an entry.
 
 ghost use Rattle.std.specs.Prelude.{◌≡◌};
-ghost use Rattle.sched_core.specs.Steps.{moment_of, seconds_of};
+ghost use Rattle.sched_core.specs.Steps.{seconds_of};
 
 use std::collections::BTreeMap;
 use txt_core::Text;
-
-/// The last second of the year 9999. A later moment counts as this one.
-pub(crate) const LAST_MOMENT: u64 = 253_402_300_799;
 
 /// A year of 365 days. A longer time between two runs counts as this one.
 pub(crate) const MOST_SECONDS: u64 = 31_536_000;
@@ -28,13 +25,6 @@ pub struct Plan {
 
 /// The entries by due moment and then by id.
 pub(crate) type Plans = BTreeMap<Key, Plan>;
-
-/// The moment that this one counts as.
-pub(crate) fn clamp_moment(moment: u64) -> u64
-    ensures { result ≡ moment_of moment }
-{
-    moment.min(LAST_MOMENT)
-}
 
 /// The seconds that these count as.
 pub(crate) fn clamp_seconds(seconds: u64) -> u64

@@ -2,16 +2,17 @@
 ghost use Rattle.std.specs.Prelude.{◌≡◌, ◌≢◌, [], false, IfSome, IfNone, Contains};
 ghost use Rattle.sched_core.specs.Entries.{Entry, id_of};
 ghost use Rattle.sched_core.specs.Allowed.{Allowed};
-ghost use Rattle.sched_core.specs.Steps.{Adds, Cancels, Runs, entry_of, moment_of};
+ghost use Rattle.sched_core.specs.Steps.{Adds, Cancels, Runs, entry_of};
+ghost use Rattle.txt_core.specs.Limits.{moment_of};
 
 use crate::call::{SchedCall, SchedReply};
 use crate::due::take_due;
-use crate::plan::{Key, MOST_ENTRIES, Plan, Plans, clamp_moment, clamp_seconds};
+use crate::plan::{Key, MOST_ENTRIES, Plan, Plans, clamp_seconds};
 use std::alloc::Global;
 use std::collections::BTreeMap;
 use std::marker::Model;
 use turn_cell::Obj;
-use txt_core::Text;
+use txt_core::{Text, moment_of};
 
 /// Scripts that are due at moments. Contracts see the id that the next entry gets, the entries by
 /// due moment and then by id, and whether the schedule was stopped.
@@ -56,7 +57,7 @@ impl Schedule {
             return SchedReply::Full;
         }
         let seconds = clamp_seconds(seconds);
-        let due = clamp_moment(moment) + seconds;
+        let due = moment_of(moment) + seconds;
         let plan = Plan {
             seconds,
             once,
@@ -91,7 +92,7 @@ impl Schedule {
         if self.stopped {
             return SchedReply::Stopped;
         }
-        match take_due(self.alloc, &mut self.plans, clamp_moment(now)) {
+        match take_due(self.alloc, &mut self.plans, moment_of(now)) {
             Ok(list) => SchedReply::Due(list),
             Err(_) => SchedReply::NoMemory,
         }

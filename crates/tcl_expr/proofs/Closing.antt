@@ -12,7 +12,8 @@ use Rattle.tcl_expr.specs.Runs.{names_value}
 use Rattle.tcl_expr.specs.Grammar.{ExpressionBy, InParens, closed, Enclosed, word_operand, OperandBy, start_by}
 use Rattle.tcl_parse.specs.Tree.{Word}
 use Rattle.tcl_parse.specs.Outcome as script_outcome
-use Rattle.tcl_parse.specs.Grammar.{opening, bare, most_nested}
+use Rattle.tcl_parse.specs.Grammar.{opening, bare}
+use Rattle.txt_core.specs.Limits.{most_nested}
 use Rattle.tcl_parse.specs.Laws.Inside.{enclosed_some}
 use Rattle.tcl_expr.specs.Answers.{ClosedGives, WordGives, BareGives, OperandGives}
 use Rattle.tcl_expr.specs.Stack.{limit, IsStack, IsLoose, AtLeast, FromOperand}

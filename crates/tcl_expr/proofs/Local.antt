@@ -16,7 +16,8 @@ use Rattle.tcl_expr.specs.Trees.{Tree, value, binary}
 use Rattle.tcl_expr.specs.Outcome.{Outcome, done, bad, signed, chosen, bad_from}
 use Rattle.tcl_expr.specs.Tokens.{is_half, loosest, next_operator, next_sign, next_question, next_colon, stuck}
 use Rattle.tcl_expr.specs.Runs.{is_word, run_at, names_value, value_front}
-use Rattle.tcl_expr.specs.Grammar.{run_operand, closed, Start, enclosed, substituted, run, parenthesis, nothing, start, start_by, OperandBy, SignedAt, no_sign, one_sign, of_level, ChainAt, chain_ends, chain_bad, chain_goes, Then, LevelAt, ChoiceAt, bad_test, no_choice, bad_middle, no_last, one_choice, ExpressionBy, InParens, most_parentheses, most_operators, whole, Reads}
+use Rattle.tcl_expr.specs.Grammar.{run_operand, closed, Start, enclosed, substituted, run, parenthesis, nothing, start, start_by, OperandBy, SignedAt, no_sign, one_sign, of_level, ChainAt, chain_ends, chain_bad, chain_goes, Then, LevelAt, ChoiceAt, bad_test, no_choice, bad_middle, no_last, one_choice, ExpressionBy, InParens, most_operators, whole, Reads}
+use Rattle.txt_core.specs.Limits.{most_nested}
 use Rattle.tcl_expr.specs.Answers.{WordGives, PartGives}
 use Rattle.tcl_expr.specs.Laws.Fits.{Fits, NextFits, trimmed_within, of_level_fits, signed_at_fits, chain_fits, level_fits, choice_fits, parens_fits, expression_fits}
 use Rattle.tcl_expr.specs.Laws.Some.{IsFit}
@@ -478,8 +479,8 @@ module _ (u v : List ℕ) (Fine : List ℕ → Type 0) (fine_tail : (b : ℕ) (g
     -- a text that is bad in the front is bad at the same place with any other bytes behind the front
     pub bad_stays : (g : List ℕ) (left : ℕ) → Fine g → length u < left → Reads (g ++ u) (bad_from left) → (c : ℕ) × (left + length v ≡ c + length u) × Reads (g ++ v) (bad_from c)
     bad_stays g left f lt h =
-        let P = InParens most_parentheses in
+        let P = InParens most_nested in
         let E = ExpressionBy P in
         let early = whole_early left h.0 (expression_ended P most_operators (trimmed_front (g ++ u)) h.0 h.1) lt h.2 in
-        let m = trimmed_local E (expression_local P (parens_local most_parentheses) (parens_fits most_parentheses) (parens_ended most_parentheses)) (expression_fits P (parens_fits most_parentheses)) most_operators g h.0 h.1 f early in
+        let m = trimmed_local E (expression_local P (parens_local most_nested) (parens_fits most_nested) (parens_ended most_nested)) (expression_fits P (parens_fits most_nested)) most_operators g h.0 h.1 f early in
         whole_moves left (E most_operators (trimmed_front (g ++ v))) h.0 h.2 early m

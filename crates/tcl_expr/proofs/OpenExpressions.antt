@@ -4,7 +4,8 @@ use Rattle.txt_core.specs.Number.{trimmed_front}
 use Rattle.tcl_expr.specs.Trees.{Tree, choice}
 use Rattle.tcl_expr.specs.Outcome.{Outcome, done, bad, chosen, bad_from}
 use Rattle.tcl_expr.specs.Tokens.{loosest, single, is_half, next_question, next_colon, stuck}
-use Rattle.tcl_expr.specs.Grammar.{SignedAt, LevelAt, ChoiceAt, bad_test, no_choice, bad_middle, no_last, one_choice, ExpressionBy, InParens, most_parentheses, most_operators, whole, Reads}
+use Rattle.tcl_expr.specs.Grammar.{SignedAt, LevelAt, ChoiceAt, bad_test, no_choice, bad_middle, no_last, one_choice, ExpressionBy, InParens, most_operators, whole, Reads}
+use Rattle.txt_core.specs.Limits.{most_nested}
 use Rattle.tcl_expr.specs.Laws.Fits.{Fits, signed_at_fits, level_fits, parens_fits}
 use Rattle.tcl_expr.specs.Laws.One.{IsOne, one_signed, one_parens}
 use Rattle.tcl_expr.specs.Laws.Some.{IsTotal, IsFit, some_signed, some_parens}
@@ -157,8 +158,8 @@ whole_end (done x m (b ∷ r)) e = let q : 0 ≡ stuck m (b ∷ r) = cc in sym q
 -- Some expression begins with a text that is bad at its end and ends in no backslash; what is added is bytes.
 pub end_reached : (t : List ℕ) → Plain t → Reads t (bad_from 0) → (more : List ℕ) × (all_bytes more ≡ true) × (x : Tree) × IsTree x (t ++ more)
 end_reached t p h =
-    let P = InParens most_parentheses in
-    let k = expression_ends P (λ v. parens_at v most_parentheses) (parens_fits most_parentheses) (local.parens_ended most_parentheses) (some_parens most_parentheses) (one_parens most_parentheses) (parens_ends most_parentheses) (pairs.parens_apart most_parentheses)
+    let P = InParens most_nested in
+    let k = expression_ends P (λ v. parens_at v most_nested) (parens_fits most_nested) (local.parens_ended most_nested) (some_parens most_nested) (one_parens most_nested) (parens_ends most_nested) (pairs.parens_apart most_nested)
     most_operators (trimmed_front t) h.0 h.1 (whole_end h.0 h.2) (plain_end t (trimmed_front t) (trim_suffix t) p) in
     let y = k.2 [] tt in
     let v = k.0 [] in

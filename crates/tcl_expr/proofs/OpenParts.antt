@@ -15,7 +15,8 @@ use Rattle.tcl_parse.specs.Tree.{Part, Word}
 use Rattle.tcl_parse.specs.Names.{name_at, up_to, named_part}
 use Rattle.tcl_parse.specs.Outcome.{done, fault}
 use Rattle.tcl_parse.specs.Steps.{Substitution, named, indexed, opened, unnamed, Step, ends, bytes, substituted, behind_dollar, between_braces, behind_name, by_name, step_at}
-use Rattle.tcl_parse.specs.Grammar.{PartIs, InBracket, InIndex, most_nested}
+use Rattle.tcl_parse.specs.Grammar.{PartIs, InBracket, InIndex}
+use Rattle.txt_core.specs.Limits.{most_nested}
 use Rattle.tcl_parse.specs.Laws.Within.{bracket_within, index_within}
 use Rattle.tcl_expr.specs.declared.operator.Op.{Op}
 use Rattle.tcl_expr.specs.declared.operator.Op.TheVariants.{EqNumber, NeNumber, EqText, NeText}

@@ -10,14 +10,15 @@ use Rattle.tcl_parse.specs.Bytes.{begins_with, newline, backslash}
 use Rattle.tcl_parse.specs.declared.fault.Kind.{Kind}
 use Rattle.tcl_parse.specs.Tree.{Part, Word}
 use Rattle.tcl_parse.specs.Outcome as script_outcome
-use Rattle.tcl_parse.specs.Grammar.{Opening, by_brace, by_quote, bare, opening, InBracket, InIndex, most_nested}
+use Rattle.tcl_parse.specs.Grammar.{Opening, by_brace, by_quote, bare, opening, InBracket, InIndex}
+use Rattle.txt_core.specs.Limits.{most_nested}
 use Rattle.tcl_parse.specs.Laws.Within.{bracket_within, index_within}
 use Rattle.tcl_expr.specs.declared.operator.Op.{Op}
 use Rattle.tcl_expr.specs.Trees.{Tree, value}
 use Rattle.tcl_expr.specs.Outcome.{Outcome, done, bad, signed, chosen, bad_from}
 use Rattle.tcl_expr.specs.Tokens.{loosest, next_question, is_half, stuck}
 use Rattle.tcl_expr.specs.Runs.{is_word, names_value, value_front}
-use Rattle.tcl_expr.specs.Grammar.{fault_place, bad_place, word_operand, part_operand, closed, Start, enclosed, substituted, run, parenthesis, nothing, start, start_by, Enclosed, Substituted, OperandBy, SignedAt, no_sign, one_sign, LevelAt, ChoiceAt, bad_test, no_choice, bad_middle, no_last, one_choice, ExpressionBy, InParens, most_parentheses, most_operators, whole, Reads}
+use Rattle.tcl_expr.specs.Grammar.{fault_place, bad_place, word_operand, part_operand, closed, Start, enclosed, substituted, run, parenthesis, nothing, start, start_by, Enclosed, Substituted, OperandBy, SignedAt, no_sign, one_sign, LevelAt, ChoiceAt, bad_test, no_choice, bad_middle, no_last, one_choice, ExpressionBy, InParens, most_operators, whole, Reads}
 use Rattle.tcl_expr.specs.Laws.Fits.{Fits, signed_at_fits, level_fits, choice_fits, expression_fits, parens_fits}
 use Rattle.tcl_expr.specs.Laws.One.{IsOne, one_signed, one_parens}
 use Rattle.tcl_expr.specs.Laws.Some.{IsTotal, IsFit, some_signed, some_parens}
@@ -279,7 +280,7 @@ whole_pair t left (done x m (c ∷ r)) h e = subst (NotPair t) (sym (same_left l
 -- The bad place of a text never stands between a backslash and a newline.
 pub never_between : (t : List ℕ) (left : ℕ) → Reads t (bad_from left) → NotPair t left
 never_between t left h =
-    let P = InParens most_parentheses in
-    let a = expression_apart P (parens_fits most_parentheses) (parens_apart most_parentheses) (some_parens most_parentheses) (one_parens most_parentheses) most_operators (trimmed_front t) h.0 h.1 in
-    let f = expression_fits P (parens_fits most_parentheses) most_operators (trimmed_front t) h.0 h.1 in
+    let P = InParens most_nested in
+    let a = expression_apart P (parens_fits most_nested) (parens_apart most_nested) (some_parens most_nested) (one_parens most_nested) most_operators (trimmed_front t) h.0 h.1 in
+    let f = expression_fits P (parens_fits most_nested) most_operators (trimmed_front t) h.0 h.1 in
     whole_pair t left h.0 (apart_more most_operators t (trimmed_front t) h.0 (trim_suffix t) (trim_clean t) f a) h.2

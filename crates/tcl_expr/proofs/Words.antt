@@ -19,7 +19,8 @@ use Rattle.tcl_parse.specs.Tree.{Part, Word, Command, Script}
 use Rattle.tcl_parse.specs.Names.{name_at, up_to, named_part}
 use Rattle.tcl_parse.specs.Outcome.{Outcome, done, fault, put, put_text}
 use Rattle.tcl_parse.specs.Steps.{Mode, quotes, index, bare_word, Substitution, named, indexed, opened, unnamed, Step, ends, bytes, substituted, behind_dollar, between_braces, behind_name, by_name, step_at, next, stops}
-use Rattle.tcl_parse.specs.Grammar.{PartIs, PartsAt, no_part, some_bytes, bad_part, one_part, SubstitutedAt, EnclosedAt, in_braces, in_quotes, WordAt, enclosed, in_nothing, WordsAt, no_word, bad_word, one_word, ScriptAt, no_command, bad_command, one_command, InBracket, InIndex, close_bracket, close_index, close_brace, close_quote, followed, most_nested, by_brace, by_quote, bare, opening}
+use Rattle.tcl_parse.specs.Grammar.{PartIs, PartsAt, no_part, some_bytes, bad_part, one_part, SubstitutedAt, EnclosedAt, in_braces, in_quotes, WordAt, enclosed, in_nothing, WordsAt, no_word, bad_word, one_word, ScriptAt, no_command, bad_command, one_command, InBracket, InIndex, close_bracket, close_index, close_brace, close_quote, followed, by_brace, by_quote, bare, opening}
+use Rattle.txt_core.specs.Limits.{most_nested}
 use Rattle.tcl_parse.specs.Braces.{BracedAt}
 use Rattle.tcl_parse.specs.Laws.Braces.{Inside, braced, in_front, passes, is_escaped, braced_is, reads_matched}
 use Rattle.tcl_parse.specs.Laws.Braces as braces

@@ -6,7 +6,8 @@ use Rattle.tcl_parse.specs.declared.fault.Kind.TheVariants.{Quote, Brace, Bracke
 use Rattle.tcl_parse.specs.Bytes.{dollar, left_bracket, left_parenthesis, right_parenthesis, backslash, begins_with}
 use Rattle.tcl_parse.specs.Tree.{Part, Word}
 use Rattle.tcl_parse.specs.Outcome as script_outcome
-use Rattle.tcl_parse.specs.Grammar.{InBracket, InIndex, EnclosedAt, SubstitutedAt, Opening, by_brace, by_quote, bare, opening, most_nested}
+use Rattle.tcl_parse.specs.Grammar.{InBracket, InIndex, EnclosedAt, SubstitutedAt, Opening, by_brace, by_quote, bare, opening}
+use Rattle.txt_core.specs.Limits.{most_nested}
 use Rattle.tcl_expr.specs.declared.operator.Op.{Op}
 use Rattle.tcl_expr.specs.Trees.{Tree, value, word, binary}
 use Rattle.tcl_expr.specs.Outcome.{Outcome, done, bad, signed, chosen, Answer, tree, bad_from}
@@ -145,10 +146,7 @@ unfoldable pub InParens : ℕ → ℕ → List ℕ → Outcome → Type 0
 InParens zero n t o = o ≡ bad (length t + 1)
 InParens (suc room) n t o = ExpressionBy (InParens room) n (trimmed_front t) o
 
--- how many parentheses may stand in one another, and how many operators an expression may have
-abbrev pub most_parentheses : ℕ
-most_parentheses = 200
-
+-- how many operators an expression may have
 abbrev pub most_operators : ℕ
 most_operators = 1000
 
@@ -160,4 +158,4 @@ whole (done x n (b ∷ t)) = bad_from (stuck n (b ∷ t))
 
 -- What a text is: an expression, or bad from a place on.
 abbrev pub Reads : List ℕ → Answer → Type 0
-Reads t a = (o : Outcome) × ExpressionBy (InParens most_parentheses) most_operators (trimmed_front t) o × (a ≡ whole o)
+Reads t a = (o : Outcome) × ExpressionBy (InParens most_nested) most_operators (trimmed_front t) o × (a ≡ whole o)

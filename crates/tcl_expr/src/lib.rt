@@ -18,7 +18,7 @@ pub use expr::Expr;
 pub use fault::ExprText;
 pub use law::{division, least_place, one_answer, one_reading};
 pub use operator::{ExprFault, Op};
-pub use reading::{MOST_OPERATORS, MOST_PARENTHESES, parse_expr};
+pub use reading::{MOST_OPERATORS, parse_expr};
 
 #[cfg(test)]
 mod tests;

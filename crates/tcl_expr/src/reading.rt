@@ -17,11 +17,8 @@ use crate::run::{is_word, names_value, split_run, value_front};
 use crate::token::{level, next_colon, next_operator, next_question, next_sign, skip, stuck};
 use std::alloc::Global;
 use std::boxed::Box;
-use tcl_parse::{Kind, MOST_NESTED, Word, read_enclosed, read_substitution};
-use txt_core::{NoMemory, Text};
-
-/// How many parentheses may stand in one another.
-pub const MOST_PARENTHESES: u32 = 200;
+use tcl_parse::{Kind, Word, read_enclosed, read_substitution};
+use txt_core::{MOST_NESTED, NoMemory, Text};
 
 /// How many operators an expression may have, with its question marks.
 pub const MOST_OPERATORS: u32 = 1000;
@@ -345,7 +342,7 @@ fn settle(alloc: Global, asked: &mut Vec<Asked>, tree: Expr) -> Result<Settled, 
 /// `ExprText::Bad` exactly where the text is none, with the place of the first byte with which no
 /// expression can go on, or the text's length where one could. So behind a word in braces or quotes
 /// a backslash, which a newline could follow, isn't bad, but the byte behind it. A parenthesis
-/// inside [`MOST_PARENTHESES`] others and an operator after [`MOST_OPERATORS`] others are bad at
+/// inside [`MOST_NESTED`] others and an operator after [`MOST_OPERATORS`] others are bad at
 /// their place.
 /// `ExprText::NoMemory` where memory ran out.
 pub fn parse_expr(alloc: Global, text: &Text) -> Result<Expr, ExprText>
@@ -354,7 +351,7 @@ pub fn parse_expr(alloc: Global, text: &Text) -> Result<Expr, ExprText>
     ensures reached { AnswersReached text.now result }
 {
     let bytes = text.bytes();
-    match choice(alloc, MOST_PARENTHESES, MOST_OPERATORS, skip(bytes)) {
+    match choice(alloc, MOST_NESTED, MOST_OPERATORS, skip(bytes)) {
         Err(Stop::NoMemory) => Err(ExprText::NoMemory),
         Err(Stop::Bad(left)) => Err(ExprText::Bad {
             at: (bytes.len() - left) as u64,

@@ -1,13 +1,9 @@
 //! Operands that are a run of digits and letters.
 
 ghost use Rattle.std.specs.Prelude.{◌≡◌, ◌+◌, ◌≤◌, length};
-ghost use Rattle.txt_core.specs.Digits.{digit_of};
 ghost use Rattle.tcl_expr.specs.Runs.{is_word, run_at, names_value, next_value, digits_front, shared, word_front, zero_front, value_front};
 
-use txt_core::{read_int_bytes, truth_word};
-
-/// What `digit` answers for a byte that is no digit.
-const NO_DIGIT: u8 = 16;
+use txt_core::{digit, read_int_bytes, truth_word};
 
 /// Whether a byte is an ASCII letter or digit.
 pub fn is_word(b: u8) -> bool
@@ -34,18 +30,6 @@ pub fn names_value(run: &[u8]) -> bool
     ensures { result ≡ names_value run.now }
 {
     read_int_bytes(run).is_some() || truth_word(run).is_some()
-}
-
-/// The value of a hexadecimal digit in either case, and of another byte `NO_DIGIT`.
-fn digit(byte: u8) -> u8
-    ensures { result ≡ digit_of byte }
-{
-    match byte {
-        b'0'..=b'9' => byte - b'0',
-        b'a'..=b'f' => byte - b'a' + 10,
-        b'A'..=b'F' => byte - b'A' + 10,
-        _ => NO_DIGIT,
-    }
 }
 
 /// A number with one more digit, where it is below 2 ^ 63.

@@ -2,17 +2,11 @@
 
 ghost use Rattle.std.specs.Prelude.{◌≡◌, ◌<◌, ◌≤◌, length, IfSome};
 ghost use Rattle.std.specs.Option.{option_map};
-ghost use Rattle.txt_core.specs.Number.{is_space, trimmed_front};
+ghost use Rattle.txt_core.specs.Number.{trimmed_front};
 ghost use Rattle.tcl_expr.specs.Tokens.{double, single, sign, level, Binds, operator_at, next_operator, next_sign, next_question, next_colon, stuck};
 
 use crate::operator::Op;
-
-/// Whether a byte is a blank (space, tab, vertical tab, form feed, carriage return) or a newline.
-fn space(byte: u8) -> bool
-    ensures { result ≡ is_space byte }
-{
-    byte == b' ' || (byte >= b'\t' && byte <= b'\r')
-}
+use txt_core::is_space;
 
 /// Passes over blanks and newlines.
 pub fn skip(bytes: &[u8]) -> &[u8]
@@ -21,7 +15,7 @@ pub fn skip(bytes: &[u8]) -> &[u8]
 {
     let mut rest = bytes;
     'front: while let Some((byte, tail)) = rest.split_first() {
-        if !space(*byte) {
+        if !is_space(*byte) {
             break;
         }
         rest = tail;

@@ -135,24 +135,12 @@ fn is_as_written(list: &Text) -> bool
     }
 }
 
-/// Puts copies of texts at the end of a list.
-fn push_copies(alloc: Global, list: &mut Words, words: &[Text]) -> Result<(), NoMemory>
-    ensures { OnOk result (list.new ≡ list.old ++ words.now) }
-{
-    'words: for word in words {
-        if list.push(Text::new(alloc, word.bytes())?).is_err() {
-            return Err(NoMemory);
-        }
-    }
-    Ok(())
-}
-
 /// Puts elements behind those of a list, and writes them all.
 fn quoted_anew(alloc: Global, list: &Text, words: &[Text]) -> Result<Text, ListFault>
     ensures { AppendsTo list.now words.now result }
 {
     let mut elements = split(alloc, list)?;
-    push_copies(alloc, &mut elements, words)?;
+    elements.append_copies(alloc, words)?;
     Ok(quote(alloc, &elements)?)
 }
 

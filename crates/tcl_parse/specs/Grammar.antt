@@ -11,6 +11,7 @@ use Rattle.tcl_parse.specs.Names.{named_part}
 use Rattle.tcl_parse.specs.Tree.{Part, element, bracket, Word, Command, Script, parts, commands, literal}
 use Rattle.tcl_parse.specs.Outcome.{Outcome, done, fault, put, put_text}
 use Rattle.tcl_parse.specs.Steps.{Mode, bare_word, quotes, index, Substitution, named, indexed, opened, unnamed, ends, bytes, substituted, step_at, next}
+use Rattle.txt_core.specs.Limits.{most_nested}
 
 -- An element of the array x, from what reading its index gives: the index ends at the closing parenthesis before which reading stops.
 -- Where the text ends before it, the fault `Variable` stands at the element's dollar, from which on left bytes are left.
@@ -122,10 +123,7 @@ unfoldable mutual
   InIndex zero t o = o ≡ fault Deep (length t + 1)
   InIndex (suc room) t o = PartsAt (InBracket room) (InIndex room) index t o
 
--- How many brackets and indexes may stand in one another, both counted together.
-abbrev pub most_nested : ℕ
-most_nested = 200
-
--- A whole text: a script that stands in no bracket.
+-- A whole text: a script that stands in no bracket. At most 200 brackets and indexes may stand in one another, both counted
+-- together.
 abbrev pub Reads : List ℕ → Outcome Script → Type 0
 Reads t o = ScriptAt (InBracket most_nested) (InIndex most_nested) false (skip between t) o

@@ -19,7 +19,7 @@ pub enum Kind {
     /// A closing brace or quote is followed by a byte that doesn't end the word; the place is that
     /// of this byte.
     Extra,
-    /// A `[` or the `(` of a `$name(` stands inside [`MOST_NESTED`](crate::MOST_NESTED) others.
+    /// A `[` or the `(` of a `$name(` stands inside [`MOST_NESTED`](txt_core::MOST_NESTED) others.
     Deep,
 }
 

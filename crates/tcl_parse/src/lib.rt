@@ -13,7 +13,7 @@ mod tree;
 
 pub use fault::{Kind, ParseFault, Stop};
 pub use law::{canonical_tree, one_answer, one_reading, passed_over};
-pub use reading::{MOST_NESTED, parse, read_enclosed, read_substitution};
+pub use reading::{parse, read_enclosed, read_substitution};
 pub use tree::{Command, Piece, Script, Word};
 
 #[cfg(test)]

@@ -15,10 +15,7 @@ use crate::piece::{add_piece, bracket_piece, element_piece, named_piece, word_of
 use crate::step::{Mode, Step, Substitution, first, next};
 use crate::tree::{Command, Piece, Script, Word};
 use std::alloc::Global;
-use txt_core::Text;
-
-/// How many brackets and indexes may stand in one another, both counted together.
-pub const MOST_NESTED: u32 = 200;
+use txt_core::{MOST_NESTED, Text};
 
 fn command_of_words(words: Vec<Word>) -> Command
     ensures { command_of result ≡ map word_of words.items }

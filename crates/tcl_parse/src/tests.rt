@@ -4,7 +4,7 @@ use super::*;
 use std::alloc::{AllocError, Global};
 use std::process::Abort;
 use std::test::Fail;
-use txt_core::Text;
+use txt_core::{MOST_NESTED, Text};
 
 /// One text a line, an arrow, and its script or fault. In the lines `~` is a newline and `^` a tab.
 /// A script is written with `;` between commands, a space between words, a word in parentheses,

@@ -1,6 +1,6 @@
-//! Words that may be left out, and numbers and truth as texts.
+//! Words that may be left out, and truth as a text.
 
-ghost use Rattle.std.specs.Prelude.{◌≡◌, IfOk, decimal};
+ghost use Rattle.std.specs.Prelude.{◌≡◌, IfOk};
 ghost use Rattle.natives.specs.Words.{arg_or, truth_text};
 
 use std::alloc::Global;
@@ -17,13 +17,6 @@ pub fn word_or<'a>(words: &'a Words, at: usize, bytes: &'a [u8]) -> &'a [u8]
         Some(word) => word.bytes(),
         None => bytes,
     }
-}
-
-/// A number in decimal. Its only error is want of memory.
-pub fn decimal_text(alloc: Global, n: usize) -> Result<Text, NoMemory>
-    ensures { IfOk result (λ text. text ≡ decimal n) }
-{
-    Ok(Text::from_vec(format!(in alloc; "{n}")?.into_bytes()))
 }
 
 /// `1` or `0`. Its only error is want of memory.

@@ -4,18 +4,18 @@ ghost use Rattle.std.specs.Prelude.{◌≡◌, ◌≤◌, length, IfOk};
 ghost use Rattle.natives.specs.Answers.{Answers};
 ghost use Rattle.natives.specs.Strings.{length_reply, compare_reply, equal_reply, match_reply, order_text};
 
-use crate::argument::{decimal_text, truth_text};
+use crate::argument::truth_text;
 use natives::{Fault, word_at};
 use std::alloc::Global;
 use std::cmp::Ordering;
-use txt_core::{NoMemory, Text, Words, glob};
+use txt_core::{NoMemory, Text, Words, glob, write_natural};
 
 /// `string length s`.
 pub fn length(alloc: Global, words: &Words) -> Result<Text, Fault>
     requires { 3 ≤ length words.now }
     ensures { Answers (length_reply words.now) result }
 {
-    Ok(decimal_text(alloc, word_at(words, 2).len())?)
+    Ok(write_natural(alloc, word_at(words, 2).len() as u64)?)
 }
 
 /// The order of two texts as a number.

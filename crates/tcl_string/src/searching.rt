@@ -5,11 +5,10 @@ ghost use Rattle.natives.specs.Answers.{Answers};
 ghost use Rattle.natives.specs.Searching.{place_text};
 ghost use Rattle.natives.specs.Strings.{first_place, last_place, first_reply, last_reply};
 
-use crate::argument::decimal_text;
 use memchr::memmem;
 use natives::{Fault, word_at};
 use std::alloc::Global;
-use txt_core::{NoMemory, Text, Words};
+use txt_core::{NoMemory, Text, Words, write_natural};
 
 /// The first place at which a text stands in another; an empty one stands nowhere.
 fn first_place(text: &[u8], within: &[u8]) -> Option<usize>
@@ -36,7 +35,7 @@ fn place_text(alloc: Global, place: Option<usize>) -> Result<Text, NoMemory>
     ensures { IfOk result (λ text. text ≡ place_text place) }
 {
     match place {
-        Some(place) => decimal_text(alloc, place),
+        Some(place) => write_natural(alloc, place as u64),
         None => Text::new(alloc, b"-1"),
     }
 }

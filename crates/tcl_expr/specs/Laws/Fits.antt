@@ -9,7 +9,8 @@ use Rattle.tcl_parse.specs.declared.fault.Kind.TheVariants.{Quote, Brace, Bracke
 use Rattle.tcl_parse.specs.Bytes.{begins_with, backslash}
 use Rattle.tcl_parse.specs.Tree.{Part, Word}
 use Rattle.tcl_parse.specs.Outcome as script_outcome
-use Rattle.tcl_parse.specs.Grammar.{InBracket, InIndex, most_nested}
+use Rattle.tcl_parse.specs.Grammar.{InBracket, InIndex}
+use Rattle.txt_core.specs.Limits.{most_nested}
 use Rattle.tcl_parse.specs.Laws.Within as script_within
 use Rattle.tcl_expr.specs.declared.operator.Op.{Op}
 use Rattle.tcl_expr.specs.Trees.{Tree, value}

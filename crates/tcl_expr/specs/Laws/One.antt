@@ -1,7 +1,7 @@
 -- Each text has one reading.
 use Rattle.std.proofs.Common.{◌≡◌, ℕ, zero, suc, List, drop, Option, None, Some, refl, ap, sym, ◌∙◌, subst, inl, inr}
 use Rattle.txt_core.specs.Number.{trimmed_front}
-use Rattle.tcl_parse.specs.Grammar.{most_nested}
+use Rattle.txt_core.specs.Limits.{most_nested}
 use Rattle.tcl_parse.specs.Laws.Inside.{enclosed_is, substituted_is}
 use Rattle.tcl_expr.specs.declared.operator.Op.{Op}
 use Rattle.tcl_expr.specs.Trees.{Tree, binary}

@@ -5,7 +5,8 @@ use Rattle.txt_core.specs.Number.{trimmed_front}
 use Rattle.tcl_expr.specs.Runs.{is_word}
 use Rattle.tcl_parse.specs.Outcome as script_outcome
 use Rattle.tcl_parse.specs.Tree.{Word, Part}
-use Rattle.tcl_parse.specs.Grammar.{Opening, by_brace, by_quote, bare, opening, most_nested}
+use Rattle.tcl_parse.specs.Grammar.{Opening, by_brace, by_quote, bare, opening}
+use Rattle.txt_core.specs.Limits.{most_nested}
 use Rattle.tcl_parse.specs.Laws.Inside.{enclosed_some, substituted_some}
 use Rattle.tcl_expr.specs.declared.operator.Op.{Op}
 use Rattle.tcl_expr.specs.Trees.{Tree, binary}
