@@ -1,2 +1,3 @@
+-- What a reader believes.
 pub mod Lines
 pub mod Chans

@@ -1,3 +1,4 @@
+-- What a reader believes.
 pub mod Answers
 pub mod Words
 pub mod Checks
@@ -13,4 +14,5 @@ pub mod Strings
 pub mod Pure
 pub mod Ranges
 pub mod Names
+-- What only proofs use.
 pub mod SortingLaws

@@ -58,11 +58,7 @@ impl Fault {
     pub fn unknown_subcommand(alloc: Global, word: &[u8], command: &str) -> Fault
         ensures { Says (unknown_subcommand word.now command.now) result }
     {
-        Fault::saying(error_text::unknown_subcommand(
-            alloc,
-            word,
-            command.as_bytes(),
-        ))
+        Fault::saying(error_text::unknown_subcommand(alloc, word, command.as_bytes()))
     }
 
     /// The error of a word that a command can't take, or want of memory.

@@ -4,9 +4,7 @@ ghost use Rattle.natives.specs.Names.{name_of, names_of, has_name};
 ghost use Rattle.natives.specs.Pure.{pure_of};
 ghost use Rattle.natives.specs.Ranges.{InRange};
 
-use super::{
-    Fault, Native, Natives, cut_place, index_in, read_index, within_limit, word_at,
-};
+use super::{Fault, Native, Natives, cut_place, index_in, read_index, within_limit, word_at};
 use std::alloc::Global;
 use std::process::Abort;
 use std::test::Fail;

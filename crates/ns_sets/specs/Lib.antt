@@ -1,3 +1,4 @@
+-- What a reader believes.
 pub mod Fields
 pub mod Matching
 pub mod Merging

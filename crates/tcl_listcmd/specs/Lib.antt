@@ -1,1 +1,2 @@
+-- What only proofs use.
 pub mod Joining

@@ -73,7 +73,12 @@ fn lsearch(alloc: Global, words: &Words) -> Result<Text, Fault>
     let list = words.len() - 2;
     let options = &words.as_slice()[1..list];
     check_options(alloc, options, other_word(options), "lsearch")?;
-    searched(alloc, options, word_at(words, list), word_at(words, list + 1))
+    searched(
+        alloc,
+        options,
+        word_at(words, list),
+        word_at(words, list + 1),
+    )
 }
 
 /// `lsearch ?-exact? ?-glob? list pattern`: the place of the first element that the pattern matches

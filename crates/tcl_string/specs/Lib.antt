@@ -1,3 +1,4 @@
+-- What only proofs use.
 pub mod Early
 pub mod Filling
 pub mod Joins

@@ -1,3 +1,4 @@
+-- What a reader believes.
 pub mod Members
 pub mod History
 pub mod Passes
