@@ -7,8 +7,6 @@ ghost use Rattle.natives.specs.Names.{name_of, names_of, has_name};
 ghost use Rattle.ns_server.specs.Natives.{native_names};
 ghost use Rattle.ns_server.specs.Running.{Ends};
 
-// Both macros stand above the modules, so that the tests see them.
-
 /// Makes the command of a name and adds it to natives, which have those of the places before.
 macro_rules! add_native {
     ($alloc:expr, $natives:ident, $failed:expr, $place:literal, $name:literal, $least:literal, $most:literal, $call:path) => {
@@ -49,8 +47,6 @@ macro_rules! add_natives {
 
 mod command_line;
 mod program;
-#[cfg(test)]
-mod rows;
 mod status;
 mod streams;
 #[cfg(test)]
