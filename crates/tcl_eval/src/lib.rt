@@ -4,8 +4,6 @@
 mod act;
 mod branch;
 mod condition;
-#[cfg(test)]
-mod core_tests;
 mod engine;
 mod expression;
 mod host;

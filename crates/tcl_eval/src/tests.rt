@@ -1,4 +1,11 @@
-ghost use Rattle.std.specs.Prelude.{◌≡◌, ◌<◌, IfOk, OnOk};
+//! Runs of the engine over a host that echoes. The calls of the crate are made by small functions that say
+//! no more of them than what the next call asks for.
+
+ghost use Rattle.std.specs.Prelude.{◌≡◌, ◌<◌, ◌∷◌, ◌++◌, [], false, codes, IfOk, OnOk};
+ghost use Rattle.natives.specs.Answers.{Answers};
+ghost use Rattle.natives.specs.Names.{name_of, names_of, has_name};
+ghost use Rattle.natives.specs.Pure.{pure_of};
+ghost use Rattle.natives.specs.Ranges.{InRange};
 ghost use Rattle.tcl_eval.specs.Words.{word_at};
 ghost use Rattle.tcl_eval.specs.Answers.{Replies};
 ghost use Rattle.tcl_eval.specs.Echo.{calls};
@@ -10,7 +17,7 @@ ghost use Rattle.outside.specs.declared.question.Service.{Service};
 use super::*;
 use crate::words::{copy_word, push_all, push_word, word_at};
 use cmd_table::{Cmd, CmdTable, Def, Steps};
-use natives::Natives;
+use natives::{Fault, Native, Natives};
 use outside::{Answer, Question, Service};
 use std::alloc::Global;
 use std::marker::Brand;
@@ -23,8 +30,8 @@ use txt_core::{NoMemory, Text, Words};
 /// A host without a state: `ask ..` asks, and its answer is its result; `keep name value` writes a
 /// variable; `note script` is a definition.
 #[derive(Drop)]
-pub(crate) struct Echo {
-    pub(crate) alloc: Global,
+struct Echo {
+    alloc: Global,
 }
 
 fn copy_words(alloc: Global, words: &Words) -> Result<Words, NoMemory>
@@ -114,38 +121,136 @@ impl Host for Echo {
     }
 }
 
+/// `list` of no word; it gives up on others.
+fn list_none(alloc: Global, words: &Words) -> Result<Text, Fault>
+    requires { InRange (codes "list") words.now }
+    ensures { Answers (pure_of (codes "list") words.now) result }
+{
+    if words.len() != 1 {
+        return Err(Fault::NoMemory);
+    }
+    Ok(Text::empty(alloc))
+}
+
+/// `string repeat` with a word too few; it gives up on others.
+fn string_repeat(alloc: Global, words: &Words) -> Result<Text, Fault>
+    requires { InRange (codes "string") words.now }
+    ensures { Answers (pure_of (codes "string") words.now) result }
+{
+    if words.len() != 3 {
+        return Err(Fault::NoMemory);
+    }
+    if word_at(words, 1) != b"repeat".as_slice() {
+        return Err(Fault::NoMemory);
+    }
+    Err(Fault::wrong_words(alloc, "string"))
+}
+
+/// Adds a native.
+fn add(natives: &mut Natives, native: Native) -> Result<(), NoMemory>
+    requires { has_name (names_of natives.old) (name_of native) ≡ false }
+    ensures { OnOk result (names_of natives.new ≡ names_of natives.old ++ name_of native ∷ []) }
+{
+    match natives.add(native) {
+        Ok(()) => Ok(()),
+        Err(_) => Err(NoMemory),
+    }
+}
+
 /// The commands of the host.
 const ECHOES: [&str; 3] = ["ask", "keep", "note"];
 
-/// An engine with the built-ins, these natives and the host's commands, where `error` has the name
-/// `wrong`.
-pub(crate) fn engine<L: Ledger>(
+/// Puts a command of the host into a table.
+fn put_echo<L: Ledger>(
+    alloc: Global,
+    table: &mut CmdTable,
+    name: &str,
+    steps: &mut Steps<L>,
+) -> Result<(), NoMemory> {
+    let built = Cmd::Built(Text::new(alloc, name.as_bytes())?);
+    table.put(Text::new(alloc, name.as_bytes())?, built, steps)?;
+    Ok(())
+}
+
+/// The built-ins, these natives and the host's commands, where `error` has the name `wrong`.
+fn commands<L: Ledger>(
+    alloc: Global,
+    natives: &Natives,
+    steps: &mut Steps<L>,
+) -> Result<CmdTable, NoMemory> {
+    let mut table = CmdTable::new(alloc, natives, steps)?;
+    for name in ECHOES {
+        put_echo(alloc, &mut table, name, steps)?;
+    }
+    let old = Text::new(alloc, b"error")?;
+    table.rename(&old, &Text::new(alloc, b"wrong")?, steps)?;
+    Ok(table)
+}
+
+/// An engine with these commands.
+fn engine<L: Ledger>(
     alloc: Global,
     natives: &Natives,
     steps: &mut Steps<L>,
 ) -> Result<Engine<Echo>, NoMemory>
     ensures { IfOk result (λ made. IsIdle made) }
 {
-    let mut table = CmdTable::new(alloc, natives, steps)?;
-    for name in ECHOES {
-        let built = Cmd::Built(Text::new(alloc, name.as_bytes())?);
-        table.put(Text::new(alloc, name.as_bytes())?, built, steps)?;
-    }
-    let old = Text::new(alloc, b"error")?;
-    let new = Text::new(alloc, b"wrong")?;
-    table.rename(&old, &new, steps)?;
+    let table = commands(alloc, natives, steps)?;
     let frames = Frames::new(alloc)?;
     Ok(Engine::new(alloc, table, frames, Echo { alloc }))
 }
 
+/// Starts a run at a depth from 1 to 200.
+fn start<L: Ledger>(
+    engine: &mut Engine<Echo>,
+    natives: &Natives,
+    work: Work,
+    budget: u64,
+    depth: u32,
+    steps: &mut Steps<L>,
+) -> Outcome
+    requires { IsIdle engine.old }
+    ensures { Leaves result engine.new }
+{
+    engine.start(natives, work, budget, depth.clamp(1, 200), steps)
+}
+
+/// Answers the question at which a run stands, if it does.
+fn answer<L: Ledger>(
+    engine: &mut Engine<Echo>,
+    natives: &Natives,
+    outcome: Outcome,
+    said: Text,
+    steps: &mut Steps<L>,
+) -> Outcome
+    requires { Leaves outcome engine.old }
+    ensures { Leaves result engine.new }
+{
+    match outcome {
+        Outcome::Asks(_) => engine.resume(natives, Answer::Said(said), steps),
+        ended => ended,
+    }
+}
+
+/// Charges 3 to a run that stands at a question to this service, where a run inside it answers that
+/// and so much is left.
+fn charge_three(engine: &mut Engine<Echo>, service: Service)
+    requires { IsOpenTo service engine.old.question }
+    ensures { engine.new.question ≡ engine.old.question }
+{
+    match service {
+        Service::Inner => {
+            if engine.left() >= 3 {
+                engine.charge(3);
+            }
+        }
+        Service::Page | Service::Nsv | Service::Schedule | Service::Publish | Service::Save => {}
+    }
+}
+
 /// Appends what an engine came to: its code and result, the words of its question, or how it ended;
 /// and what is left of its budget.
-pub(crate) fn show(
-    outcome: &Outcome,
-    left: u64,
-    alloc: Global,
-    all: &mut Text,
-) -> Result<(), NoMemory> {
+fn show(outcome: &Outcome, left: u64, alloc: Global, all: &mut Text) -> Result<(), NoMemory> {
     match outcome {
         Outcome::Done { code, result } => {
             all.append(format!(in alloc; "{code} ")?.as_bytes())?;
@@ -165,246 +270,323 @@ pub(crate) fn show(
     all.append(format!(in alloc; " {left}|")?.as_bytes())
 }
 
-/// Charges 3 to a run that stands at a question to this service, where a run inside it answers that
-/// and so much is left.
-fn charge_three(engine: &mut Engine<Echo>, service: Service)
-    requires { IsOpenTo service engine.old.question }
-    ensures { engine.new.question ≡ engine.old.question }
+/// Charges 3 to a run that stands at a question.
+fn charge(engine: &mut Engine<Echo>, outcome: &Outcome)
+    requires { Leaves outcome.now engine.old }
+    ensures { Leaves outcome.now engine.new }
 {
-    match service {
-        Service::Inner => {
-            if engine.left() >= 3 {
-                engine.charge(3);
-            }
-        }
-        Service::Page | Service::Nsv | Service::Schedule | Service::Publish | Service::Save => {}
+    if let Outcome::Asks(question) = outcome {
+        charge_three(engine, question.service);
     }
 }
 
-/// Answers the question at which a run stands, if it does. Before that 3 are charged.
-fn answer_one<L: Ledger>(
+/// Answers the question at which a run stands, if it does, and tells of it first, or doesn't.
+fn go_on<L: Ledger>(
     engine: &mut Engine<Echo>,
+    natives: &Natives,
     outcome: Outcome,
-    answer: &str,
+    said: Text,
+    tells: bool,
     steps: &mut Steps<L>,
+    all: &mut Text,
 ) -> Result<Outcome, NoMemory>
     requires { Leaves outcome engine.old }
     ensures { IfOk result (λ after. Leaves after engine.new) }
 {
-    match outcome {
-        Outcome::Asks(question) => {
-            let said = Text::new(engine.host().alloc, answer.as_bytes())?;
-            charge_three(engine, question.service);
-            let natives = Natives::new(engine.host().alloc);
-            Ok(engine.resume(&natives, Answer::Said(said), steps))
-        }
-        ended => Ok(ended),
+    if !tells {
+        return Ok(answer(engine, natives, outcome, said, steps));
     }
-}
-
-/// Goes on with answers for as long as questions are asked, and appends what the engine comes to
-/// each time.
-fn answer_all<L: Ledger>(
-    engine: &mut Engine<Echo>,
-    mut outcome: Outcome,
-    answers: &[&str],
-    steps: &mut Steps<L>,
-    all: &mut Text,
-) -> Result<(), NoMemory>
-    requires { Leaves outcome engine.old }
-{
     let alloc = engine.host().alloc;
-    'answers: for answer in answers {
-        show(&outcome, engine.left(), alloc, all)?;
-        outcome = answer_one(engine, outcome, answer, steps)?;
-    }
-    show(&outcome, engine.left(), alloc, all)
+    show(&outcome, engine.left(), alloc, all)?;
+    charge(engine, &outcome);
+    Ok(answer(engine, natives, outcome, said, steps))
 }
 
-/// What a script comes to, which is given these answers, at this depth, from 1 to 200.
-fn played<L: Ledger>(
-    alloc: Global,
-    script: &[u8],
+/// A script with its budget and depth, and the answers that it is given, with `<-` between them. Each question
+/// is told and charged, or only what it comes to at the end is told.
+#[derive(Clone, Copy)]
+struct Run<'a> {
+    script: &'a [u8],
     budget: u64,
     depth: u32,
-    answers: &[&str],
+    answers: &'a str,
+    tells: bool,
+}
+
+/// What a run comes to.
+fn played<L: Ledger>(
+    alloc: Global,
+    natives: &Natives,
+    run: &Run<'_>,
     steps: &mut Steps<L>,
 ) -> Result<Text, NoMemory> {
     let mut all = Text::empty(alloc);
-    let natives = Natives::new(alloc);
-    let mut engine = engine(alloc, &natives, steps)?;
-    let work = Work::Script(Text::new(alloc, script)?);
-    let outcome = engine.start(&natives, work, budget, depth.clamp(1, 200), steps);
-    answer_all(&mut engine, outcome, answers, steps, &mut all)?;
+    let mut engine = engine(alloc, natives, steps)?;
+    let work = Work::Script(Text::new(alloc, run.script)?);
+    let mut outcome = start(&mut engine, natives, work, run.budget, run.depth, steps);
+    'answers: for said in run.answers.split(" <- ") {
+        if said.is_empty() {
+            continue;
+        }
+        let said = Text::new(alloc, said.as_bytes())?;
+        outcome = go_on(
+            &mut engine,
+            natives,
+            outcome,
+            said,
+            run.tells,
+            steps,
+            &mut all,
+        )?;
+    }
+    show(&outcome, engine.left(), alloc, &mut all)?;
     Ok(all)
 }
 
-/// A script, the answers to its questions, and what it comes to each time, with a bar behind it.
-const ROWS: [(&str, &[&str], &str); 50] = [
-    ("", &[], "0  100|"),
-    ("return x", &[], "2 x 99|"),
-    ("return", &[], "2  99|"),
-    (
-        "return a b",
-        &[],
-        "1 wrong number of words for \"return\" 99|",
-    ),
-    ("wrong boom; keep a 1", &[], "1 boom 99|"),
-    ("wrong", &[], "1 wrong number of words for \"error\" 99|"),
-    ("break", &[], "3  99|"),
-    (
-        "continue x",
-        &[],
-        "1 wrong number of words for \"continue\" 99|",
-    ),
-    ("keep a 5; return $a", &[], "2 5 98|"),
-    ("keep a 5; keep b $a$a.; return <$b>", &[], "2 <55.> 97|"),
-    ("keep a(x) 5; keep i x; return <$a($i)>", &[], "2 <5> 97|"),
-    ("keep a(x) {b c}; return $a(x)", &[], "2 b c 98|"),
-    (
-        "keep a(x) 1; return $a",
-        &[],
-        "1 variable \"a\" is an array 99|",
-    ),
-    (
-        "keep a 1; return $a(x)",
-        &[],
-        "1 variable \"a(x)\" is no array 99|",
-    ),
-    (
-        "keep a 1; keep a(x) 1",
-        &[],
-        "1 variable \"a(x)\" is no array 98|",
-    ),
-    (
-        "return $x",
-        &[],
-        "1 can't read \"x\": no such variable 100|",
-    ),
-    (
-        "return $x[keep a 1]",
-        &[],
-        "1 can't read \"x\": no such variable 100|",
-    ),
-    (
-        "return [keep a 1]$x",
-        &[],
-        "1 can't read \"x\": no such variable 99|",
-    ),
-    ("gone 1 2", &[], "1 invalid command name \"gone\" 99|"),
-    ("keep [return x] y", &[], "2 x 99|"),
-    ("keep a {", &[], "1 unclosed brace at 7 100|"),
-    (
-        "proc p {a {b 2} args} {return $a-$b-$args}; p 1",
-        &[],
-        "0 1-2- 97|",
-    ),
-    (
-        "proc p {a {b 2} args} {return $a-$b-$args}; p 1 3 {4 5} 6",
-        &[],
-        "0 1-3-{4 5} 6 97|",
-    ),
-    (
-        "proc p {a {b 2} args} {return $a}; p",
-        &[],
-        "1 wrong number of words for \"p\" 98|",
-    ),
-    (
-        "proc p {} {keep a 1}; p; return $a",
-        &[],
-        "1 can't read \"a\": no such variable 97|",
-    ),
-    (
-        "proc q {} {break}; q",
-        &[],
-        "1 invoked \"break\" outside of a loop 97|",
-    ),
-    (
-        "proc q {} {continue}; q",
-        &[],
-        "1 invoked \"continue\" outside of a loop 97|",
-    ),
-    ("proc q {} {wrong x}; q", &[], "1 x 97|"),
-    (
-        "proc p {{a b c}} {}",
-        &[],
-        "1 bad value \"a b c\" for \"proc\" 99|",
-    ),
-    ("proc p \\{ {}", &[], "1 bad list at 0 99|"),
-    ("note a; return [note b]c", &[], "2 c 97|"),
-    (
-        "return [ask a][ask b]",
-        &["X", "Y Z"],
-        "asks ask a 3 99|asks ask b 3 95|2 XY Z 91|",
-    ),
-    (
-        "proc p {} {return [ask]}; keep v [p]; return $v",
-        &["7"],
-        "asks ask 5 97|2 7 91|",
-    ),
-    (
-        "rename return back; back a b",
-        &[],
-        "1 wrong number of words for \"return\" 98|",
-    ),
-    ("rename gone x", &[], "1 no command \"gone\" 99|"),
-    ("rename break keep", &[], "1 command \"keep\" exists 99|"),
-    (
-        "rename break {}; break",
-        &[],
-        "1 invalid command name \"break\" 98|",
-    ),
-    ("eval keep a {1;keep b 2}; return $a$b", &[], "2 12 96|"),
-    ("eval", &[], "1 wrong number of words for \"eval\" 99|"),
-    ("eval {break}", &[], "3  98|"),
-    (
-        "catch {set x} m; return $m",
-        &[],
-        "2 can't read \"x\": no such variable 97|",
-    ),
-    (
-        "catch {return a} m; return [catch break]$m",
-        &[],
-        "2 3a 95|",
-    ),
-    (
-        "catch {keep b 1} b(x); return $b",
-        &[],
-        "1 variable \"b(x)\" is no array 98|",
-    ),
-    ("catch", &[], "1 wrong number of words for \"catch\" 99|"),
-    ("return [catch ask m]$m", &["no"], "asks ask 4 98|2 0no 94|"),
-    ("set i 5; incr i 2; append i x; return $i", &[], "2 7x 96|"),
-    (
-        "array set a {y 2 x 1}; return [array get a]",
-        &[],
-        "2 x 1 y 2 97|",
-    ),
-    (
-        "set g 1; proc p {} {global g; set g 2}; p; return $g",
-        &[],
-        "2 2 94|",
-    ),
-    ("set", &[], "1 wrong number of words for \"set\" 99|"),
-    ("keep v [ask]", &["{"], "asks ask 3 99|0 { 95|"),
-];
+/// One script a line, the answers to its questions, each with `<-` in front, an arrow, and what it comes to
+/// with a budget of 100, with a bar behind each time that it stands or ends.
+const ROWS: &str = r#" => 0  100|
+return x => 2 x 99|
+return => 2  99|
+return a b => 1 wrong number of words for "return" 99|
+wrong boom; keep a 1 => 1 boom 99|
+wrong => 1 wrong number of words for "error" 99|
+break => 3  99|
+continue x => 1 wrong number of words for "continue" 99|
+keep a 5; return $a => 2 5 98|
+keep a 5; keep b $a$a.; return <$b> => 2 <55.> 97|
+keep a(x) 5; keep i x; return <$a($i)> => 2 <5> 97|
+keep a(x) {b c}; return $a(x) => 2 b c 98|
+keep a(x) 1; return $a => 1 variable "a" is an array 99|
+keep a 1; return $a(x) => 1 variable "a(x)" is no array 99|
+keep a 1; keep a(x) 1 => 1 variable "a(x)" is no array 98|
+return $x => 1 can't read "x": no such variable 100|
+return $x[keep a 1] => 1 can't read "x": no such variable 100|
+return [keep a 1]$x => 1 can't read "x": no such variable 99|
+gone 1 2 => 1 invalid command name "gone" 99|
+keep [return x] y => 2 x 99|
+keep a { => 1 unclosed brace at 7 100|
+proc p {a {b 2} args} {return $a-$b-$args}; p 1 => 0 1-2- 97|
+proc p {a {b 2} args} {return $a-$b-$args}; p 1 3 {4 5} 6 => 0 1-3-{4 5} 6 97|
+proc p {a {b 2} args} {return $a}; p => 1 wrong number of words for "p" 98|
+proc p {} {keep a 1}; p; return $a => 1 can't read "a": no such variable 97|
+proc q {} {break}; q => 1 invoked "break" outside of a loop 97|
+proc q {} {continue}; q => 1 invoked "continue" outside of a loop 97|
+proc q {} {wrong x}; q => 1 x 97|
+proc p {{a b c}} {} => 1 bad value "a b c" for "proc" 99|
+proc p \{ {} => 1 bad list at 0 99|
+note a; return [note b]c => 2 c 97|
+return [ask a][ask b] <- X <- Y Z => asks ask a 3 99|asks ask b 3 95|2 XY Z 91|
+proc p {} {return [ask]}; keep v [p]; return $v <- 7 => asks ask 5 97|2 7 91|
+rename return back; back a b => 1 wrong number of words for "return" 98|
+rename gone x => 1 no command "gone" 99|
+rename break keep => 1 command "keep" exists 99|
+rename break {}; break => 1 invalid command name "break" 98|
+eval keep a {1;keep b 2}; return $a$b => 2 12 96|
+eval => 1 wrong number of words for "eval" 99|
+eval {break} => 3  98|
+catch {set x} m; return $m => 2 can't read "x": no such variable 97|
+catch {return a} m; return [catch break]$m => 2 3a 95|
+catch {keep b 1} b(x); return $b => 1 variable "b(x)" is no array 98|
+catch => 1 wrong number of words for "catch" 99|
+return [catch ask m]$m <- no => asks ask 4 98|2 0no 94|
+set i 5; incr i 2; append i x; return $i => 2 7x 96|
+array set a {y 2 x 1}; return [array get a] => 2 x 1 y 2 97|
+set g 1; proc p {} {global g; set g 2}; p; return $g => 2 2 94|
+set => 1 wrong number of words for "set" 99|
+keep v [ask] <- { => asks ask 3 99|0 { 95|"#;
 
-fn check_rows<L: Ledger, R: Abort + AllocGlobal>(rt: &R, blank: Blank) -> Result<(), Fail>
-    requires name { blank.name ≡ L.name }
-    requires parts { blank.parts ≡ L.parts }
-    requires some { 0 < blank.parts }
-{
-    let mut steps = Steps::<L>::new(blank);
-    for (script, answers, want) in ROWS {
-        let came = played(rt.alloc(), script.as_bytes(), 100, 1, answers, &mut steps)?;
-        assert_eq!(rt; came.bytes(), want.as_bytes(), "{script}");
+/// Expressions.
+const EXPRESSIONS: &str = r#"expr 1+2*3 => 0 7 98|
+expr => 1 wrong number of words for "expr" 99|
+expr {1 + } => 1 syntax error in expression at 4 98|
+expr 1 2 => 1 syntax error in expression at 2 98|
+expr {"a" + 1} => 1 can't use non-numeric string as operand of "+" 98|
+expr {-"a"} => 1 can't use non-numeric string as operand of "-" 98|
+expr {!"a"} => 1 expected boolean but got "a" 98|
+expr {"a" && 1} => 1 expected boolean but got "a" 98|
+expr {1 && "b"} => 1 expected boolean but got "b" 98|
+expr {0 || "b"} => 1 expected boolean but got "b" 98|
+expr {0 && [wrong x]} => 0 0 98|
+expr {1 || [wrong x]} => 0 1 98|
+expr {1 && yes} => 0 1 98|
+expr {1 ? 2 : [wrong x]} => 0 2 98|
+expr {no ? [wrong x] : 3} => 0 3 98|
+expr {"x" ? 1 : 2} => 1 expected boolean but got "x" 98|
+expr {1/0} => 1 divide by zero 98|
+expr {1 << 64} => 1 bad shift count 98|
+expr {9223372036854775807 + 1} => 1 integer overflow 98|
+expr {$a} => 1 can't read "a": no such variable 98|
+set a 0x10; expr {$a} => 0 16 97|
+set a(x) 4; set i x; expr {$a($i) * [return 3]} => 2 3 95|
+expr {"a b" eq {a b}} => 0 1 98|
+expr {"a[keep b c]$b"} => 0 acc 97|
+expr {(1 < 2) + (2 <= 1)} => 0 1 98|"#;
+
+/// Choices and loops.
+const TURNS: &str = r#"if 1 {set a 5} => 0 5 97|
+if 0 {set a 5} => 0  98|
+if 0 a else {set b 6} => 0 6 97|
+if 0 a {set b 6} => 0 6 97|
+if 0 a elseif 0 b elseif 1 then {set c 7} else d => 0 7 95|
+if 1 then then => 1 invalid command name "then" 97|
+if 1 {} => 0  98|
+if 1 => 1 wrong number of words for "if" 99|
+if 1 then => 1 wrong number of words for "if" 99|
+if 0 a else => 1 wrong number of words for "if" 99|
+if 0 a elseif 1 => 1 wrong number of words for "if" 99|
+if 0 a else b c => 1 wrong number of words for "if" 99|
+if 0 a b c => 1 wrong number of words for "if" 99|
+if x a => 1 syntax error in expression at 0 98|
+if {"x"} a => 1 expected boolean but got "x" 98|
+if {[break]} a => 3  97|
+if 1 \{ => 1 unclosed brace at 0 98|
+while 0 {} => 0  98|
+while => 1 wrong number of words for "while" 99|
+while {"a"} {} => 1 expected boolean but got "a" 98|
+while 1 {break} => 0  96|
+while 1 {return 5} => 2 5 96|
+while 1 {wrong x} => 1 x 96|
+while {[break]} {} => 3  97|
+set i 3; while {$i} {incr i -1; continue; wrong x} => 0  85|
+set i 0; while 1 {incr i; if {$i > 4} break}; return $i => 2 5 71|
+while 1 {} => spent 0|
+catch {while 1 {}} m => spent 0|
+for {set i 0} {$i < 3} {incr i} {append s $i}; return $s => 2 012 84|
+for a b c => 1 wrong number of words for "for" 99|
+for {break} 1 {} {} => 3  98|
+for {} 1 {break} {} => 0  96|
+for {set i 0} {$i < 2} {incr i; continue} {} => 0  89|
+for {} 1 {return 4} {} => 2 4 96|
+for {} {[continue]} {} {} => 4  97|
+for {} 1 {} {break} => 0  96|"#;
+
+/// Loops over lists and choices by patterns.
+const PICKS: &str =
+    r#"set s {}; foreach {a b} {1 2 3} {append s $a- $b,}; return $s => 2 1-2,3-, 93|
+foreach {} {1 2} {} => 1 bad value "" for "foreach" 99|
+foreach a {} {} => 0  99|
+foreach \{ a b => 1 bad list at 0 99|
+foreach a \{ b => 1 bad list at 0 99|
+foreach a b => 1 wrong number of words for "foreach" 99|
+foreach a {1 2} {break} => 0  97|
+foreach a {1 2} {continue} => 0  95|
+foreach a {1 2} {return $a} => 2 1 97|
+set a(x) 1; foreach a {1 2} {} => 1 variable "a" is an array 97|
+foreach {a a} {1 2 3} {append s $a}; return $s => 2 2 94|
+switch b {a {return 1} b {return 2}} => 2 2 98|
+switch b a {return 1} b {return 2} => 2 2 98|
+switch -glob bcd {b* {return 2}} => 2 2 98|
+switch -glob -exact bcd {b* {return 2}} => 0  99|
+switch -exact -- -x -x {return 3} => 2 3 98|
+switch a {a - b {return 4}} => 2 4 98|
+switch a {b - default {return 5}} => 2 5 98|
+switch a {default {return 1} a {return 2}} => 2 2 98|
+switch a {b c} => 0  99|
+switch a {} => 0  99|
+switch a a => 1 bad value "a" for "switch" 99|
+switch a a b c => 1 wrong number of words for "switch" 99|
+switch a {a -} => 1 bad value "-" for "switch" 99|
+switch -x a b c => 1 bad value "-x" for "switch" 99|
+switch a => 1 wrong number of words for "switch" 99|
+switch => 1 wrong number of words for "switch" 99|
+switch a \{ => 1 bad list at 0 99|"#;
+
+/// Commands that tell of commands, and natives.
+const COMMANDS: &str = r#"info => 1 wrong number of words for "info" 99|
+info foo => 1 unknown subcommand "foo" of "info" 99|
+info exists => 1 wrong number of words for "info" 99|
+info exists a b => 1 wrong number of words for "info" 99|
+info args => 1 wrong number of words for "info" 99|
+info foo a b => 1 wrong number of words for "info" 99|
+set a 1; return [info exists a][info exists b] => 2 10 96|
+info args ask => 1 no procedure "ask" 99|
+info body nope => 1 no procedure "nope" 99|
+proc p {a {b 2} args} {x}; return [info args p]|[info body p] => 2 a b args|x 96|
+proc zz {} {}; return [info commands zz*] => 2 zz 97|
+return [info commands s*] => 2 set string switch 98|
+list => 0  99|
+string a => 1 wrong number of words for "string" 99|
+string repeat a => 1 wrong number of words for "string" 99|
+rename string s; s => 1 wrong number of words for "string" 98|
+eval expr 1 + 1 => 0 2 97|
+set i 0; while {$i < 2} {incr i; foreach j {1 2} {if {$j > 1} continue; append s $i$j}}; return $s => 2 1121 72|
+proc f n {if {$n == 0} {return 1}; expr {$n * [f [expr {$n - 1}]]}}; f 3 => 0 6 74|"#;
+
+/// Runs the script of each line, and checks how many lines there are.
+fn check_lines<L: Ledger, R: Abort + AllocGlobal>(
+    rt: &R,
+    natives: &Natives,
+    lines: &str,
+    number: u64,
+    steps: &mut Steps<L>,
+) -> Result<(), Fail> {
+    let mut count = 0u64;
+    for line in lines.lines() {
+        let (front, want) = line.split_once(" => ").ok_or("a line has an arrow")?;
+        let (script, answers) = front.split_once(" <- ").unwrap_or((front, ""));
+        let run = Run {
+            script: script.as_bytes(),
+            budget: 100,
+            depth: 1,
+            answers,
+            tells: true,
+        };
+        let came = played(rt.alloc(), natives, &run, steps)?;
+        assert_eq!(rt; came.bytes(), want.as_bytes(), "{line}");
+        count = count.wrapping_add(1);
     }
+    assert_eq!(rt; count, number);
     Ok(())
 }
 
-#[test]
-fn scripts(rt: HostRuntime) -> Result<(), Fail> {
-    check_rows::<Brand, HostRuntime>(&rt, Blank::new(1))
+/// Scripts, their budgets, the answers that they are given, and what they come to at the end.
+const ANSWERED: [(&str, u64, &str, &str); 6] = [
+    (
+        "while {[ask] < 3} {append s x}; return $s",
+        100,
+        "1 <- 2 <- 3",
+        "2 xx 88|",
+    ),
+    (
+        "foreach a {1 2} {append s [ask]}; return $s",
+        100,
+        "p <- q",
+        "2 pq 92|",
+    ),
+    ("expr {[ask] + [ask]}", 100, "4 <- 5", "0 9 96|"),
+    (
+        "proc p {} {set i 0; while {$i < 65} {incr i}; return $i}; p",
+        201,
+        "",
+        "0 65 0|",
+    ),
+    (
+        "proc p {} {set i 0; while {$i < 66} {incr i}; return $i}; p",
+        201,
+        "",
+        "spent 0|",
+    ),
+    ("proc hi {} {if 1 hi}; hi", 2_000, "", "deep 1699|"),
+];
+
+fn check_answered<L: Ledger, R: Abort + AllocGlobal>(
+    rt: &R,
+    natives: &Natives,
+    steps: &mut Steps<L>,
+) -> Result<(), Fail> {
+    for (script, budget, answers, want) in ANSWERED {
+        let run = Run {
+            script: script.as_bytes(),
+            budget,
+            depth: 1,
+            answers,
+            tells: false,
+        };
+        let came = played(rt.alloc(), natives, &run, steps)?;
+        assert_eq!(rt; came.bytes(), want.as_bytes(), "{script}");
+    }
+    Ok(())
 }
 
 /// A script: `front`, then so often `unit`, and then as often `close`.
@@ -468,23 +650,24 @@ const LIMITS: [Limit; 12] = [
     (("keep a x; return $a", "", "", 0), 1, 1, "spent 0|"),
 ];
 
-fn check_limits<L: Ledger, R: Abort + AllocGlobal>(rt: &R, blank: Blank) -> Result<(), Fail>
-    requires name { blank.name ≡ L.name }
-    requires parts { blank.parts ≡ L.parts }
-    requires some { 0 < blank.parts }
-{
-    let mut steps = Steps::<L>::new(blank);
+fn check_limits<L: Ledger, R: Abort + AllocGlobal>(
+    rt: &R,
+    natives: &Natives,
+    steps: &mut Steps<L>,
+) -> Result<(), Fail> {
     for ((front, unit, close, count), budget, depth, want) in LIMITS {
         let script = repeated(rt.alloc(), front, unit, close, count)?;
-        let came = played(rt.alloc(), script.bytes(), budget, depth, &[], &mut steps)?;
+        let run = Run {
+            script: script.bytes(),
+            budget,
+            depth,
+            answers: "",
+            tells: false,
+        };
+        let came = played(rt.alloc(), natives, &run, steps)?;
         assert_eq!(rt; came.bytes(), want.as_bytes());
     }
     Ok(())
-}
-
-#[test]
-fn limits(rt: HostRuntime) -> Result<(), Fail> {
-    check_limits::<Brand, HostRuntime>(&rt, Blank::new(1))
 }
 
 /// A procedure.
@@ -501,11 +684,12 @@ fn procedure(alloc: Global, name: &str, params: &str, body: &str) -> Result<Def,
 /// An engine with a procedure `f`, which lists a cleanup script, makes a procedure `g` and asks.
 fn engine_with_procedure<L: Ledger>(
     alloc: Global,
+    natives: &Natives,
     steps: &mut Steps<L>,
 ) -> Result<Engine<Echo>, NoMemory>
     ensures { IfOk result (λ made. IsIdle made) }
 {
-    let mut engine = engine(alloc, &Natives::new(alloc), steps)?;
+    let mut engine = engine(alloc, natives, steps)?;
     let def = procedure(alloc, "f", "v", "note $v; proc g {} {}; ask")?;
     engine.define(&def, steps)?;
     Ok(engine)
@@ -523,6 +707,7 @@ fn call_of_procedure(alloc: Global) -> Result<Work, NoMemory> {
 /// listed as made.
 fn run_and_abandon<L: Ledger>(
     engine: &mut Engine<Echo>,
+    natives: &Natives,
     work: Work,
     steps: &mut Steps<L>,
     all: &mut Text,
@@ -531,8 +716,7 @@ fn run_and_abandon<L: Ledger>(
     ensures { OnOk result (IsIdle engine.new) }
 {
     let alloc = engine.host().alloc;
-    let natives = Natives::new(alloc);
-    let outcome = engine.start(&natives, work, 100, 1, steps);
+    let outcome = start(engine, natives, work, 100, 1, steps);
     show(&outcome, engine.left(), alloc, all)?;
     engine.abandon();
     let made = engine.made().len();
@@ -540,58 +724,75 @@ fn run_and_abandon<L: Ledger>(
 }
 
 /// Stands at a question in `f`, which is abandoned, and runs on after that.
-fn left_alone<L: Ledger>(alloc: Global, blank: Blank) -> Result<Text, NoMemory>
-    requires name { blank.name ≡ L.name }
-    requires parts { blank.parts ≡ L.parts }
-    requires some { 0 < blank.parts }
-{
-    let mut steps = Steps::<L>::new(blank);
+fn left_alone<L: Ledger>(
+    alloc: Global,
+    natives: &Natives,
+    steps: &mut Steps<L>,
+) -> Result<Text, NoMemory> {
     let mut all = Text::empty(alloc);
-    let mut engine = engine_with_procedure(alloc, &mut steps)?;
+    let mut engine = engine_with_procedure(alloc, natives, steps)?;
     let call = call_of_procedure(alloc)?;
-    run_and_abandon(&mut engine, call, &mut steps, &mut all)?;
+    run_and_abandon(&mut engine, natives, call, steps, &mut all)?;
     let script = Work::Script(Text::new(alloc, b"g; return $v")?);
-    run_and_abandon(&mut engine, script, &mut steps, &mut all)?;
+    run_and_abandon(&mut engine, natives, script, steps, &mut all)?;
     Ok(all)
-}
-
-#[test]
-fn an_engine_is_left_alone(rt: HostRuntime) -> Result<(), Fail> {
-    let came = left_alone::<Brand>(rt.alloc(), Blank::new(1))?;
-    let want = "asks ask 3 96|2|1 can't read \"v\": no such variable 99|2|";
-    assert_eq!(rt; came.bytes(), want.as_bytes());
-    Ok(())
 }
 
 /// Stands at a question whose answer costs more than is left, which ends the run, and runs on after
 /// that.
-fn unpaid<L: Ledger>(alloc: Global, blank: Blank) -> Result<Text, NoMemory>
+fn unpaid<L: Ledger>(
+    alloc: Global,
+    natives: &Natives,
+    steps: &mut Steps<L>,
+) -> Result<Text, NoMemory> {
+    let mut all = Text::empty(alloc);
+    let mut engine = engine(alloc, natives, steps)?;
+    let asking = Work::Script(Text::new(alloc, b"keep a 1; ask")?);
+    let outcome = start(&mut engine, natives, asking, 3, 1, steps);
+    show(&outcome, engine.left(), alloc, &mut all)?;
+    let long = repeated(alloc, "", "sixteen.bytes.xx", "", 128)?;
+    let ended = answer(&mut engine, natives, outcome, long, steps);
+    show(&ended, engine.left(), alloc, &mut all)?;
+    engine.abandon();
+    let script = Work::Script(Text::new(alloc, b"return $a")?);
+    run_and_abandon(&mut engine, natives, script, steps, &mut all)?;
+    Ok(all)
+}
+
+fn check_all<L: Ledger, R: Abort + AllocGlobal>(
+    rt: &R,
+    natives: &Natives,
+    blank: Blank,
+) -> Result<(), Fail>
     requires name { blank.name ≡ L.name }
     requires parts { blank.parts ≡ L.parts }
     requires some { 0 < blank.parts }
 {
     let mut steps = Steps::<L>::new(blank);
-    let mut all = Text::empty(alloc);
-    let natives = Natives::new(alloc);
-    let mut engine = engine(alloc, &natives, &mut steps)?;
-    let asking = Work::Script(Text::new(alloc, b"keep a 1; ask")?);
-    let outcome = engine.start(&natives, asking, 3, 1, &mut steps);
-    show(&outcome, engine.left(), alloc, &mut all)?;
-    if let Outcome::Asks(_) = outcome {
-        let long = repeated(alloc, "", "sixteen.bytes.xx", "", 128)?;
-        let ended = engine.resume(&natives, Answer::Said(long), &mut steps);
-        show(&ended, engine.left(), alloc, &mut all)?;
-    }
-    engine.abandon();
-    let script = Work::Script(Text::new(alloc, b"return $a")?);
-    run_and_abandon(&mut engine, script, &mut steps, &mut all)?;
-    Ok(all)
-}
-
-#[test]
-fn an_answer_is_not_paid(rt: HostRuntime) -> Result<(), Fail> {
-    let came = unpaid::<Brand>(rt.alloc(), Blank::new(1))?;
+    check_lines(rt, natives, ROWS, 50, &mut steps)?;
+    check_lines(rt, natives, EXPRESSIONS, 25, &mut steps)?;
+    check_lines(rt, natives, TURNS, 36, &mut steps)?;
+    check_lines(rt, natives, PICKS, 28, &mut steps)?;
+    check_lines(rt, natives, COMMANDS, 19, &mut steps)?;
+    check_answered(rt, natives, &mut steps)?;
+    check_limits(rt, natives, &mut steps)?;
+    let came = left_alone(rt.alloc(), natives, &mut steps)?;
+    let want = "asks ask 3 96|2|1 can't read \"v\": no such variable 99|2|";
+    assert_eq!(rt; came.bytes(), want.as_bytes());
+    let came = unpaid(rt.alloc(), natives, &mut steps)?;
     let want = "asks ask 2 1|spent 1|2 1 99|0|";
     assert_eq!(rt; came.bytes(), want.as_bytes());
     Ok(())
+}
+
+#[test]
+#[tactic(auto, unfolding(natives::specs::Ranges::range_of))]
+fn the_language(rt: HostRuntime) -> Result<(), Fail> {
+    let alloc = rt.alloc();
+    let mut natives = Natives::new(alloc);
+    let list = Native::new(Text::new(alloc, b"list")?, 1, 200_001, list_none);
+    add(&mut natives, list)?;
+    let string = Native::new(Text::new(alloc, b"string")?, 3, 5, string_repeat);
+    add(&mut natives, string)?;
+    check_all::<Brand, HostRuntime>(&rt, &natives, Blank::new(1))
 }

@@ -1,4 +1,0 @@
-use Rattle.rehearse.proofs.tests.a_blueprint_has_so_many_bytes_of_script.Given as goal
-
-abbrev pub ghosts-rehearsed : goal.ghosts-rehearsed
-ghosts-rehearsed g a = record { name = a.blank.name; parts = a.blank.parts }

@@ -1,5 +1,0 @@
-use Rattle.tcl_eval.specs.Engine.{Leaves}
-use Rattle.tcl_eval.proofs.core_tests.played.Given as goal
-
-abbrev pub invariant-answers : goal.invariant-answers
-invariant-answers g l = Leaves l.outcome l.engine
