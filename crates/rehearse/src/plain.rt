@@ -84,7 +84,7 @@ impl Published {
     ) -> Result<Defs, NoMemory> {
         let none = Defs::new(alloc);
         let mut interp = Interp::build(alloc, natives, 0, &none, steps)?;
-        let next = interp.start_define(natives, &self.script, 0, steps);
+        let next = start_define(&mut interp, natives, &self.script, 0, steps);
         if let Next::Asks(_) = next {
             return copy_defs(alloc, interp.made());
         }
@@ -103,6 +103,34 @@ impl Published {
         let definitions = self.definitions(alloc, natives, steps)?;
         Interp::build(alloc, natives, self.epoch, &definitions, steps)
     }
+}
+
+/// Starts the run of a request.
+fn start_request<L: Ledger>(
+    interp: &mut Interp,
+    natives: &Natives,
+    request: http_req::Request,
+    moment: u64,
+    steps: &mut Steps<L>,
+) -> Next
+    requires { IsNew (names_of natives.now) interp.old }
+    ensures { StandsAt result interp.new }
+{
+    interp.start_request(natives, request, moment, steps)
+}
+
+/// Starts the run of a block.
+fn start_define<L: Ledger>(
+    interp: &mut Interp,
+    natives: &Natives,
+    block: &Text,
+    moment: u64,
+    steps: &mut Steps<L>,
+) -> Next
+    requires { IsNew (names_of natives.now) interp.old }
+    ensures { StandsAt result interp.new }
+{
+    interp.start_define(natives, block, moment, steps)
 }
 
 /// Gives an interpreter an answer, where it stands at a question.
@@ -172,7 +200,7 @@ fn replay<L: Ledger>(
     };
     let answers = copy_answers(alloc, request.answers.as_slice())?;
     let mut interp = request.published.interp(alloc, natives, steps)?;
-    let mut next = interp.start_request(natives, read, request.moment, steps);
+    let mut next = start_request(&mut interp, natives, read, request.moment, steps);
     'answers: for answer in answers {
         next = resume(&mut interp, natives, next, answer, steps);
     }
@@ -195,7 +223,7 @@ fn replay_block<L: Ledger>(
 ) -> Result<Next, NoMemory> {
     let answers = copy_answers(alloc, answers)?;
     let mut interp = published.interp(alloc, natives, steps)?;
-    let mut next = interp.start_define(natives, block, moment, steps);
+    let mut next = start_define(&mut interp, natives, block, moment, steps);
     'answers: for answer in answers {
         next = resume(&mut interp, natives, next, answer, steps);
     }
