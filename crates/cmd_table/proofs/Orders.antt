@@ -11,7 +11,7 @@ use Rattle.std.specs.Str.{bytes_eq}
 use Rattle.cmd_table.specs.declared.command.Cmd.{Cmd}
 use Rattle.cmd_table.specs.declared.command.Cmd.TheVariants as commands
 use Rattle.cmd_table.specs.declared.definition.Def.{Def}
-use Rattle.cmd_table.specs.declared.definition.Def.TheVariants.{Proc, Rename, Route, Filter, Cleanup}
+use Rattle.cmd_table.specs.declared.definition.Def.TheVariants.{Proc, Rename, Route, Filter, Cleanup, Set}
 use Rattle.cmd_table.specs.declared.renaming.Renamed.{Renamed}
 use Rattle.cmd_table.specs.declared.renaming.Renamed.TheVariants.{Done, NoOld, NewExists}
 use Rattle.cmd_table.specs.Table.{Table, name_order, IsInOrder, command_of, with_command, without_command}
@@ -85,6 +85,7 @@ defined_in_order t (Rename old new) s = renamed_in_order t old new s
 defined_in_order t (Route method url inherit words) s = s
 defined_in_order t (Filter when method pattern words) s = s
 defined_in_order t (Cleanup script) s = s
+defined_in_order t (Set name value) s = s
 
 all_in_order : (t : Table) (defs : List Def) → IsInOrder t → IsInOrder (fold defined t defs)
 all_in_order t [] s = s

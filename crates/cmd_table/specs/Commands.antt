@@ -1,8 +1,11 @@
--- The commands that definitions make, from the built-in names on.
-use Rattle.std.specs.Prelude.{◌≡◌, ◌⊎◌, ◌++◌, ℕ, List, [], ◌∷◌, codes, None, IsSome, fold, sum_by}
+-- The commands that definitions make, from the built-in names on, and the global variables.
+use Rattle.std.specs.Prelude.{◌≡◌, ◌⊎◌, ◌++◌, ℕ, List, [], ◌∷◌, codes, false, if◌then◌else◌, None, IsSome, fold, sum_by}
+use Rattle.std.specs.FinMap as map
+use Rattle.tcl_frame.specs.Names.{named, is_element}
+use Rattle.tcl_frame.specs.Variables.{Scalars}
 use Rattle.cmd_table.specs.declared.command.Cmd.TheVariants as commands
 use Rattle.cmd_table.specs.declared.definition.Def.{Def}
-use Rattle.cmd_table.specs.declared.definition.Def.TheVariants.{Proc, Rename, Route, Filter, Cleanup}
+use Rattle.cmd_table.specs.declared.definition.Def.TheVariants.{Proc, Rename, Route, Filter, Cleanup, Set}
 use Rattle.cmd_table.specs.Table.{Table, command_of, with_command}
 use Rattle.cmd_table.specs.Renaming.{renamed, rename_writes}
 
@@ -31,19 +34,36 @@ defined table (Rename old new) = renamed table old new
 defined table (Route method url inherit words) = table
 defined table (Filter when method pattern words) = table
 defined table (Cleanup script) = table
+defined table (Set name value) = table
 
 -- the commands of definitions that were made one after the other on the built-in names, those of the natives behind the others
 abbrev pub Commands : List (List ℕ) → List Def → Table
 Commands natives defs = fold defined (built natives) defs
 
+-- The global variables after a definition: `Set` gives a name its value. One whose name has the form of
+-- an array's element doesn't apply and changes nothing, and no other definition changes them.
+abbrev pub with_global : Scalars → Def → Scalars
+with_global globals (Set name value) = if is_element (named name) then globals else map.insert globals name value
+with_global globals (Proc name params body) = globals
+with_global globals (Rename old new) = globals
+with_global globals (Route method url inherit words) = globals
+with_global globals (Filter when method pattern words) = globals
+with_global globals (Cleanup script) = globals
+
+-- the global variables of definitions that were made one after the other, from none on
+abbrev pub Globals : List Def → Scalars
+Globals defs = fold with_global map.empty defs
+
 -- Whether a definition applies to a table: a rename needs `old` to be a command, and `new` to be
--- empty or no command. Any other definition always applies.
+-- empty or no command; a `Set` needs a name that hasn't the form of an array's element. Any other
+-- definition always applies.
 abbrev pub Applies : Table → Def → Type 0
 Applies table (Rename old new) = IsSome (command_of table old) × ((new ≡ []) ⊎ (command_of table new ≡ None))
 Applies table (Proc name params body) = Unit {0}
 Applies table (Route method url inherit words) = Unit {0}
 Applies table (Filter when method pattern words) = Unit {0}
 Applies table (Cleanup script) = Unit {0}
+Applies table (Set name value) = is_element (named name) ≡ false
 
 -- the entries that a definition writes or removes where it applies
 abbrev pub writes : Def → ℕ
@@ -52,6 +72,7 @@ writes (Rename old new) = rename_writes new
 writes (Route method url inherit words) = 0
 writes (Filter when method pattern words) = 0
 writes (Cleanup script) = 0
+writes (Set name value) = 0
 
 -- the entries that definitions write or remove
 abbrev pub Writes : List Def → ℕ

@@ -13,7 +13,8 @@ pub enum When {
     Trace,
 }
 
-/// A definition. A procedure and a rename change a command table, the others don't.
+/// A definition. A procedure and a rename change a command table, a `Set` the global variables, and the
+/// others neither.
 #[derive(Debug, Drop)]
 pub enum Def {
     /// A procedure: its name, its parameters and its body as texts.
@@ -45,6 +46,11 @@ pub enum Def {
     /// A script that runs at the end of each request.
     Cleanup {
         script: Text,
+    },
+    /// A global scalar with its value.
+    Set {
+        name: Text,
+        value: Text,
     },
 }
 

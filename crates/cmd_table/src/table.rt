@@ -229,7 +229,7 @@ impl CmdTable {
                 self.rename(old, new, steps)?;
                 Ok(())
             }
-            Def::Route { .. } | Def::Filter { .. } | Def::Cleanup { .. } => Ok(()),
+            Def::Route { .. } | Def::Filter { .. } | Def::Cleanup { .. } | Def::Set { .. } => Ok(()),
         }
     }
 

@@ -8,7 +8,7 @@ use Rattle.std.proofs.lemmas.Bool.Decides.{nat_tests}
 use Rattle.std.proofs.lemmas.Option.{none-some}
 use Rattle.std.proofs.lemmas.Slice.Eq.{bytes_eq-Decides}
 use Rattle.cmd_table.specs.declared.definition.Def.{Def}
-use Rattle.cmd_table.specs.declared.definition.Def.TheVariants.{Proc, Rename, Route, Filter, Cleanup}
+use Rattle.cmd_table.specs.declared.definition.Def.TheVariants.{Proc, Rename, Route, Filter, Cleanup, Set}
 use Rattle.ictl.specs.Routes.{segments, below, plain_segments, Match, match_of, route_method, registration, better, best}
 use Rattle.ictl.specs.Serving.{Registers, Matches, IsBest, Serves, RoutesAreBest}
 use Rattle.ictl.proofs.Routing.{below_some, below_found}
@@ -91,6 +91,7 @@ registered_of (Proc name params body) method path x h = absurd (cc)
 registered_of (Rename old new) method path x h = absurd (cc)
 registered_of (Filter when registered pattern words) method path x h = absurd (cc)
 registered_of (Cleanup script) method path x h = absurd (cc)
+registered_of (Set name value) method path x h = absurd (cc)
 
 passes : (inherit : Bool) (n size : ℕ) → (inherit ≡ false → n ≡ size) → (inherit || (n == size)) ≡ true
 passes true n size h = refl

@@ -3,7 +3,7 @@ use Rattle.std.specs.Prelude.{ℕ, ◌==◌, List, [], ◌∷◌, length, nat_le
 use Rattle.std.specs.List.{filter, slice_split}
 use Rattle.std.specs.Option.{option_map}
 use Rattle.cmd_table.specs.declared.definition.Def.{Def}
-use Rattle.cmd_table.specs.declared.definition.Def.TheVariants.{Proc, Rename, Route, Filter, Cleanup}
+use Rattle.cmd_table.specs.declared.definition.Def.TheVariants.{Proc, Rename, Route, Filter, Cleanup, Set}
 
 abbrev pub is_slash : ℕ → Bool
 is_slash b = b == 47
@@ -48,6 +48,7 @@ registration method path (Proc name params body) = None
 registration method path (Rename old new) = None
 registration method path (Filter when registered pattern words) = None
 registration method path (Cleanup script) = None
+registration method path (Set name value) = None
 
 -- of two that match the one with more segments, and of two with as many the later one
 abbrev pub better : Option Match → Option Match → Option Match

@@ -2,7 +2,7 @@
 use Rattle.std.specs.Prelude.{ℕ, List, [], ◌∷◌, ◌++◌, Bool, true, false, codes}
 use Rattle.txt_core.specs.Quoting.{quoting}
 use Rattle.cmd_table.specs.declared.definition.Def.{Def}
-use Rattle.cmd_table.specs.declared.definition.Def.TheVariants.{Proc, Rename, Route, Filter, Cleanup}
+use Rattle.cmd_table.specs.declared.definition.Def.TheVariants.{Proc, Rename, Route, Filter, Cleanup, Set}
 use Rattle.cmd_table.specs.declared.definition.When.{When}
 use Rattle.cmd_table.specs.declared.definition.When.TheVariants.{Preauth, Postauth, Trace}
 
@@ -24,6 +24,7 @@ command_words (Rename old new) = codes "rename" ∷ old ∷ new ∷ []
 command_words (Route method url inherit words) = registering inherit (method ∷ url ∷ words)
 command_words (Filter when method pattern words) = codes "ns_register_filter" ∷ when_name when ∷ method ∷ pattern ∷ words
 command_words (Cleanup script) = codes "ns_ictl" ∷ codes "oncleanup" ∷ script ∷ []
+command_words (Set name value) = codes "set" ∷ name ∷ value ∷ []
 
 -- one line for each definition: its words quoted as a list, and a newline
 abbrev pub script_of : List Def → List ℕ

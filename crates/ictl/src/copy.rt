@@ -102,6 +102,10 @@ pub fn copy_def(alloc: Global, def: &Def) -> Result<Def, NoMemory>
         Def::Cleanup { script } => Def::Cleanup {
             script: copy_text(alloc, script)?,
         },
+        Def::Set { name, value } => Def::Set {
+            name: copy_text(alloc, name)?,
+            value: copy_text(alloc, value)?,
+        },
     })
 }
 

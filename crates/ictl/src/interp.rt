@@ -121,7 +121,7 @@ fn make<L: Ledger>(
             let _renamed = table.rename(old, new, steps)?;
             Ok(())
         }
-        Def::Route { .. } | Def::Filter { .. } | Def::Cleanup { .. } => Ok(()),
+        Def::Route { .. } | Def::Filter { .. } | Def::Cleanup { .. } | Def::Set { .. } => Ok(()),
     }
 }
 

@@ -115,6 +115,10 @@ fn command_words(alloc: Global, def: &Def) -> Result<Words, NoMemory>
             let words: [&[u8]; 3] = [b"ns_ictl", b"oncleanup", script.bytes()];
             words_of(alloc, &words)
         }
+        Def::Set { name, value } => {
+            let words: [&[u8]; 3] = [b"set", name.bytes(), value.bytes()];
+            words_of(alloc, &words)
+        }
     }
 }
 

@@ -1,9 +1,10 @@
 -- Where a definition applies.
-use Rattle.std.proofs.Common.{◌≡◌, ℕ, List, [], ◌∷◌, ◌⊎◌, inl, inr, true, false, Option, Some, None, refl}
+use Rattle.std.proofs.Common.{◌≡◌, ℕ, List, [], ◌∷◌, ◌⊎◌, inl, inr, Bool, true, false, not, Option, Some, None, refl}
 use Rattle.std.specs.Prelude.{◌↔◌, IsTrue, IsSome}
 use Rattle.cmd_table.specs.declared.command.Cmd.{Cmd}
 use Rattle.cmd_table.specs.declared.definition.Def.{Def}
-use Rattle.cmd_table.specs.declared.definition.Def.TheVariants.{Proc, Rename, Route, Filter, Cleanup}
+use Rattle.cmd_table.specs.declared.definition.Def.TheVariants.{Proc, Rename, Route, Filter, Cleanup, Set}
+use Rattle.tcl_frame.specs.Names.{named, is_element}
 use Rattle.cmd_table.specs.Table.{Table, command_of}
 use Rattle.cmd_table.specs.Renaming.{answer_at_new, answer_from, rename_answer}
 use Rattle.cmd_table.specs.Commands.{Applies}
@@ -25,9 +26,14 @@ renames_where : (table : Table) (old new : List ℕ) → IsTrue (is_done (rename
 unfolding rename_answer
 renames_where table old new = from_old table (command_of table old) new
 
+is_not : (b : Bool) → IsTrue (not b) ↔ (b ≡ false)
+is_not true = (λ e. absurd (cc), λ h. absurd (cc))
+is_not false = (λ e. refl, λ h. refl)
+
 pub fits_where : (table : Table) (definition : Def) → IsTrue (fits table definition) ↔ Applies table definition
 fits_where table (Rename old new) = renames_where table old new
 fits_where table (Proc name params body) = (λ e. tt, λ h. refl)
 fits_where table (Route method url inherit words) = (λ e. tt, λ h. refl)
 fits_where table (Filter when method pattern words) = (λ e. tt, λ h. refl)
 fits_where table (Cleanup script) = (λ e. tt, λ h. refl)
+fits_where table (Set name value) = is_not (is_element (named name))

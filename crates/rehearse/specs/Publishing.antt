@@ -1,11 +1,12 @@
 -- The publication of definitions by a blueprint, and its refusals.
-use Rattle.std.specs.Prelude.{ℕ, ◌+◌, List, [], ◌∷◌, ◌++◌, length, decimal, codes, Bool, true, false, ◌==◌, ◌||◌, nat_lt, if◌then◌else◌, Option, Some, None}
+use Rattle.std.specs.Prelude.{ℕ, ◌+◌, List, [], ◌∷◌, ◌++◌, length, decimal, codes, Bool, true, false, not, ◌==◌, ◌||◌, nat_lt, if◌then◌else◌, Option, Some, None}
 use Rattle.outside.specs.declared.question.Answer.{Answer}
 use Rattle.outside.specs.declared.question.Answer.TheVariants.{Said, Failed}
 use Rattle.cmd_table.specs.declared.definition.Def.{Def}
-use Rattle.cmd_table.specs.declared.definition.Def.TheVariants.{Proc, Rename, Route, Filter, Cleanup}
+use Rattle.cmd_table.specs.declared.definition.Def.TheVariants.{Proc, Rename, Route, Filter, Cleanup, Set}
 use Rattle.cmd_table.specs.declared.renaming.Renamed.{Renamed}
 use Rattle.cmd_table.specs.declared.renaming.Renamed.TheVariants.{Done, NoOld, NewExists}
+use Rattle.tcl_frame.specs.Names.{named, is_element}
 use Rattle.cmd_table.specs.Table.{Table}
 use Rattle.cmd_table.specs.Renaming.{rename_answer}
 use Rattle.cmd_table.specs.Commands.{defined, Commands}
@@ -19,13 +20,15 @@ is_done Done = true
 is_done NoOld = false
 is_done NewExists = false
 
--- A rename applies where a command table makes it, and any other definition always does.
+-- A rename applies where a command table makes it, a `Set` where its name hasn't the form of an array's element, and any
+-- other definition always does.
 abbrev pub fits : Table → Def → Bool
 fits table (Rename old new) = is_done (rename_answer table old new)
 fits table (Proc name params body) = true
 fits table (Route method url inherit words) = true
 fits table (Filter when method pattern words) = true
 fits table (Cleanup script) = true
+fits table (Set name value) = not (is_element (named name))
 
 -- The first definition that doesn't apply behind those before it: its place, where the first of all has this place. None where
 -- each applies.

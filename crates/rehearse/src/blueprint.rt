@@ -14,6 +14,7 @@ use outside::Answer;
 use std::alloc::Global;
 use std::marker::Model;
 use std::sync::ledger::Ledger;
+use tcl_frame::is_element_name;
 use txt_core::{NoMemory, Sequence, Text};
 
 /// The most definitions that a blueprint holds.
@@ -65,6 +66,7 @@ fn apply<L: Ledger>(
             Renamed::Done => Ok(true),
             Renamed::NoOld | Renamed::NewExists => Ok(false),
         },
+        Def::Set { name, .. } => Ok(!is_element_name(name)),
         Def::Route { .. } | Def::Filter { .. } | Def::Cleanup { .. } => Ok(true),
     }
 }

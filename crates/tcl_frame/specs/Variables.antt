@@ -11,6 +11,10 @@ use Rattle.tcl_frame.specs.Names.{Named, Whole, Element}
 abbrev pub Elements : Type 0
 Elements = map.FinMap (slice_cmp nat_cmp) (List ℕ)
 
+-- the texts of scalars by name
+abbrev pub Scalars : Type 0
+Scalars = map.FinMap (slice_cmp nat_cmp) (List ℕ)
+
 -- variables by name
 abbrev pub Table : Type 0
 Table = map.FinMap (slice_cmp nat_cmp) Variable
