@@ -45,7 +45,8 @@ unfolding present
 absent_below k [] b = refl
 absent_below k (e ∷ es) b = absent_step k e.0 e.1 es b.0 (absent_below k es b.1)
 
-none_below : {X : Type 0} (k : List ℕ) (es : List (List ℕ × X)) → IsBelow k (keys_of es) → lookup (is_at (name_order k)) es ≡ None
+-- and no slot of its own
+pub none_below : {X : Type 0} (k : List ℕ) (es : List (List ℕ × X)) → IsBelow k (keys_of es) → lookup (is_at (name_order k)) es ≡ None
 none_below k [] b = refl
 none_below k (e ∷ es) b = rw b.0 (none_below k es b.1)
 
@@ -170,18 +171,19 @@ pub taken : (k : List ℕ) (es : Slots) → AreInOrder es → present (set_value
 unfolding without_command
 taken k es s = present-take k es s ∙ ap (λ (t : List ℕ → Bool). remove_entry t (present es)) (same_test k)
 
-absent_step_2 : (test : List ℕ → Bool) (b : Bool) (n : List ℕ) (cmd : Option Cmd) (es : Slots) → cond b (Some cmd) (lookup test es) ≡ None → (lookup test es ≡ None → set_value test es None ≡ es)
-    → cond b ((n, None) ∷ es) ((n, cmd) ∷ set_value test es None) ≡ (n, cmd) ∷ es
-absent_step_2 test true n cmd es h ih = absurd (cc)
-absent_step_2 test false n cmd es h ih = ap (λ (t : Slots). let u : Slots = (n, cmd) ∷ t in u) (ih h)
+absent_step_2 : (test : List ℕ → Bool) (b : Bool) (n : List ℕ) (w cmd : Option Cmd) (es : Slots) → cond b (Some cmd) (lookup test es) ≡ None → (lookup test es ≡ None → set_value test es w ≡ es)
+    → cond b ((n, w) ∷ es) ((n, cmd) ∷ set_value test es w) ≡ (n, cmd) ∷ es
+absent_step_2 test true n w cmd es h ih = absurd (cc)
+absent_step_2 test false n w cmd es h ih = ap (λ (t : Slots). let u : Slots = (n, cmd) ∷ t in u) (ih h)
 
-no_slot : (test : List ℕ → Bool) (es : Slots) → lookup test es ≡ None → set_value test es None ≡ es
-no_slot test [] h = refl
-no_slot test (e ∷ es) h = absent_step_2 test (test e.0) e.0 e.1 es h (no_slot test es)
+-- where there is no slot, none is written to
+pub no_slot : (test : List ℕ → Bool) (w : Option Cmd) (es : Slots) → lookup test es ≡ None → set_value test es w ≡ es
+no_slot test w [] h = refl
+no_slot test w (e ∷ es) h = absent_step_2 test (test e.0) e.0 w e.1 es h (no_slot test w es)
 
 -- where there is no slot, nothing is to be taken
 pub taken_none : (k : List ℕ) (es : Slots) → AreInOrder es → lookup (is_at (name_order k)) es ≡ None → present es ≡ without_command (present es) k
-taken_none k es s h = ap present (sym (no_slot (is_at (name_order k)) es h)) ∙ taken k es s
+taken_none k es s h = ap present (sym (no_slot (is_at (name_order k)) None es h)) ∙ taken k es s
 
 pub reserved : (k : List ℕ) (es : Slots) → command_of (present es) k ≡ None → present (insert_entry name_order es k None) ≡ present es
 unfolding command_of

@@ -3,3 +3,6 @@ mod Maps
 mod Builts
 mod Orders
 mod Renames
+mod Taking
+mod States
+mod Applying

@@ -1,5 +1,5 @@
 -- The commands that definitions make, from the built-in names on, and the global variables.
-use Rattle.std.specs.Prelude.{◌≡◌, ◌⊎◌, ◌++◌, ℕ, List, [], ◌∷◌, codes, false, if◌then◌else◌, None, IsSome, fold, sum_by}
+use Rattle.std.specs.Prelude.{◌≡◌, ◌⊎◌, ◌++◌, ℕ, List, [], ◌∷◌, codes, Bool, true, false, not, if◌then◌else◌, None, IsSome, fold, sum_by}
 use Rattle.std.specs.FinMap as map
 use Rattle.tcl_frame.specs.Names.{named, is_element}
 use Rattle.tcl_frame.specs.Variables.{Scalars}
@@ -7,7 +7,9 @@ use Rattle.cmd_table.specs.declared.command.Cmd.TheVariants as commands
 use Rattle.cmd_table.specs.declared.definition.Def.{Def}
 use Rattle.cmd_table.specs.declared.definition.Def.TheVariants.{Proc, Rename, Route, Filter, Cleanup, Set}
 use Rattle.cmd_table.specs.Table.{Table, command_of, with_command}
-use Rattle.cmd_table.specs.Renaming.{renamed, rename_writes}
+use Rattle.cmd_table.specs.declared.renaming.Renamed.{Renamed}
+use Rattle.cmd_table.specs.declared.renaming.Renamed.TheVariants.{Done, NoOld, NewExists}
+use Rattle.cmd_table.specs.Renaming.{rename_answer, renamed, rename_writes}
 
 -- the names of the built-ins that are no natives
 unfoldable pub built_ins : List (List ℕ)
@@ -65,6 +67,21 @@ Applies table (Filter when method pattern words) = Unit {0}
 Applies table (Cleanup script) = Unit {0}
 Applies table (Set name value) = is_element (named name) ≡ false
 
+-- whether a rename was made
+abbrev pub is_done : Renamed → Bool
+is_done Done = true
+is_done NoOld = false
+is_done NewExists = false
+
+-- The same as a truth value: a rename applies where a command table makes it.
+abbrev pub fits : Table → Def → Bool
+fits table (Rename old new) = is_done (rename_answer table old new)
+fits table (Set name value) = not (is_element (named name))
+fits table (Proc name params body) = true
+fits table (Route method url inherit words) = true
+fits table (Filter when method pattern words) = true
+fits table (Cleanup script) = true
+
 -- the entries that a definition writes or removes where it applies
 abbrev pub writes : Def → ℕ
 writes (Proc name params body) = 1
@@ -73,6 +90,10 @@ writes (Route method url inherit words) = 0
 writes (Filter when method pattern words) = 0
 writes (Cleanup script) = 0
 writes (Set name value) = 0
+
+-- the entries that it writes or removes, where it may not apply
+abbrev pub writes_at : Table → Def → ℕ
+writes_at table def = if fits table def then writes def else 0
 
 -- the entries that definitions write or remove
 abbrev pub Writes : List Def → ℕ

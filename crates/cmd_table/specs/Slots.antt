@@ -1,5 +1,5 @@
--- What a command table keeps: a slot for each name that ever had a command. A slot may be empty, so
--- that a name that was removed keeps its place.
+-- What a command table keeps: a slot for each name that has a command, and empty ones for names that were
+-- removed, so that these keep their places until the removal is taken back.
 use Rattle.std.specs.Prelude.{ℕ, List, [], ◌∷◌, Option, Some, None}
 use Rattle.std.specs.Str.{bytes_eq}
 use Rattle.std.specs.Map.{keys_of, lookup}

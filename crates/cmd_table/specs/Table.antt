@@ -1,5 +1,5 @@
 -- A command table: the commands by their names.
-use Rattle.std.specs.Prelude.{ℕ, List, Option}
+use Rattle.std.specs.Prelude.{◌≡◌, ◌≤◌, ◌++◌, ◌∷◌, ℕ, List, [], Option, length, take, slice_index_or}
 use Rattle.std.specs.declared.cmp.Ordering.{Ordering}
 use Rattle.std.specs.Ordering.{nat_cmp}
 use Rattle.std.specs.Cmp.Lexicographic.{slice_cmp}
@@ -37,6 +37,28 @@ with_command table name cmd = insert_entry name_order table name cmd
 unfoldable pub without_command : Table → List ℕ → Table
 without_command table name = remove_entry (bytes_eq name) table
 
--- what a command table of the program holds
+-- What a command table of the program is: the commands as they are now, and what they were before, from
+-- the table's making on, once for each entry that was written or removed since then and not taken back.
 pub record State : Type 0 where
+  pub past : List Table
   pub table : Table
+
+-- after one more entry was written or removed, by which the commands became these
+abbrev pub changed : State → Table → State
+changed state table = record { past = state.past ++ state.table ∷ []; table = table }
+
+-- The mark of a state: how many entries were written or removed.
+abbrev pub mark_of : State → ℕ
+mark_of state = length state.past
+
+-- the commands as they were at a mark
+abbrev pub table_at : State → ℕ → Table
+table_at state mark = slice_index_or state.past mark state.table
+
+-- the state of a mark: the commands as they were then, and what they were before that
+abbrev pub back_at : State → ℕ → State
+back_at state mark = record { past = take mark state.past; table = table_at state mark }
+
+-- Each mark of the one state is a mark of the other too, and of the same state.
+abbrev pub Keeps : State → State → Type 0
+Keeps old new = (mark : ℕ) → mark ≤ mark_of old → (mark ≤ mark_of new) × (back_at new mark ≡ back_at old mark)

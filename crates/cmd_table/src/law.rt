@@ -1,6 +1,6 @@
 //! Laws of command tables.
 
-ghost use Rattle.cmd_table.specs.Laws.{PuttingSetsOneName, RemovingDropsOneName, CommandsAreInOrder, BuiltInsAreThere};
+ghost use Rattle.cmd_table.specs.Laws.{PuttingSetsOneName, RemovingDropsOneName, CommandsAreInOrder, BuiltInsAreThere, FitsWhereApplies, MarkIsNow, BackKeepsMarks, KeepingGoesOn};
 
 /// A table is a finite map: a change of a name changes what this name stands for, and no other; what
 /// definitions make of the built-in names has each name once, in byte order; and they begin with the
@@ -10,4 +10,17 @@ pub fn tables_are_maps()
     ensures removing { RemovingDropsOneName }
     ensures order { CommandsAreInOrder }
     ensures built { BuiltInsAreThere }
+{}
+
+/// Whether a definition applies has a truth value.
+pub fn definitions_fit_where_they_apply()
+    ensures { FitsWhereApplies }
+{}
+
+/// A table is that of its own mark; taken back to a mark, it has all marks up to this one as before; and
+/// what each of several calls keeps, they keep together.
+pub fn marks_stay()
+    ensures now { MarkIsNow }
+    ensures back { BackKeepsMarks }
+    ensures goes_on { KeepingGoesOn }
 {}

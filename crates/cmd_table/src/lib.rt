@@ -2,7 +2,9 @@
 #![tactic(auto)]
 
 mod command;
+mod copy;
 mod definition;
+mod journal;
 mod law;
 mod renaming;
 mod slots;
@@ -10,10 +12,13 @@ mod steps;
 mod table;
 #[cfg(test)]
 mod tests;
+#[cfg(test)]
+mod undo_tests;
 
 pub use command::Cmd;
+pub use copy::{copy_def, copy_defs};
 pub use definition::{Def, Defs, When};
-pub use law::tables_are_maps;
+pub use law::{definitions_fit_where_they_apply, marks_stay, tables_are_maps};
 pub use renaming::Renamed;
 pub use steps::Steps;
 pub use table::CmdTable;

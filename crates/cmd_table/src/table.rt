@@ -1,23 +1,26 @@
 //! The command table of an interpreter.
 
-ghost use Rattle.std.specs.Prelude.{◌≡◌, ◌≤◌, ◌+◌, IfOk, OnOk, OnErr, None, length, map};
+ghost use Rattle.std.specs.Prelude.{◌≡◌, ◌≤◌, ◌<◌, ◌+◌, IfOk, OnOk, OnErr, IsSome, [], None, length, map};
 ghost use Rattle.std.specs.Option.{option_copied};
-ghost use Rattle.cmd_table.specs.Table.{command_of, with_command, without_command, names_of, IsInOrder};
+ghost use Rattle.cmd_table.specs.Table.{command_of, with_command, without_command, names_of, IsInOrder, changed, mark_of, back_at, Keeps};
 ghost use Rattle.cmd_table.specs.Renaming.{rename_answer, renamed, renaming_steps};
 ghost use Rattle.cmd_table.specs.Slots.{with_option};
-ghost use Rattle.cmd_table.specs.Commands.{built_ins, built, with_built, defined, Applies, writes};
+ghost use Rattle.cmd_table.specs.Commands.{built_ins, built, with_built, defined, fits, Applies, writes, writes_at};
 ghost use Rattle.natives.specs.Names.{names_of as native_names};
 
 use crate::command::Cmd;
+use crate::copy::copy_cmd;
 use crate::definition::Def;
+use crate::journal::{Journal, change, take_back};
 use crate::renaming::Renamed;
-use crate::slots::{Slots, fill, find, present_names, put, reserve, take};
+use crate::slots::{Slots, find, present_names};
 use crate::steps::Steps;
 use natives::Natives;
 use std::alloc::Global;
 use std::collections::BTreeMap;
 use std::marker::Model;
 use std::sync::ledger::Ledger;
+use tcl_frame::is_element_name;
 use txt_core::{NoMemory, Text, Words};
 
 /// The names of the built-ins that are no natives.
@@ -57,37 +60,41 @@ const BUILT_INS: [&str; 33] = [
     "nsv_array",
 ];
 
-/// Commands by their names: a finite map. Contracts see it as the names with their commands, in the
-/// order of the names.
+/// Commands by their names: a finite map that can be taken back to what it was at a mark. Contracts
+/// see it as the names with their commands, in the order of the names, beside what they were before
+/// each change since the table was made.
 ///
 /// Each entry that is written or removed is one step.
 #[derive(Debug, Drop)]
 pub struct CmdTable {
     alloc: Global,
     slots: Slots,
+    journal: Journal,
 }
 
 impl Model for CmdTable {
     ghost use Rattle.cmd_table.specs.Table.{State};
     ghost use Rattle.cmd_table.specs.Slots.{present, AreInOrder};
+    ghost use Rattle.cmd_table.specs.Journal.{past_of};
 
     ghost Value = { State };
 
-    ghost view = { λ a. record { table = present a.slots.entries } };
+    ghost view = { λ a. record { past = past_of a.journal.items a.slots.entries; table = present a.slots.entries } };
 
     ghost invariant = { λ a. AreInOrder a.slots.entries };
 }
 
 impl CmdTable {
     /// The table of the built-in names, those of the natives among them: each has its built-in, and
-    /// no other name a command. Each name is one step. Its only error is want of memory, and no more
-    /// steps were then counted than there are names.
+    /// no other name a command. Each name is one step, which can't be taken back. Its only error is
+    /// want of memory, and no more steps were then counted than there are names.
     pub fn new<L: Ledger>(
         alloc: Global,
         natives: &Natives,
         steps: &mut Steps<L>,
     ) -> Result<CmdTable, NoMemory>
         ensures table { IfOk result (λ made. made.table ≡ built (native_names natives.now)) }
+        ensures past { IfOk result (λ made. made.past ≡ []) }
         ensures steps { OnOk result (steps.new ≡ steps.old + (length built_ins + length (native_names natives.now))) }
         ensures least { steps.old ≤ steps.new }
         ensures most { steps.new ≤ steps.old + (length built_ins + length (native_names natives.now)) }
@@ -95,10 +102,20 @@ impl CmdTable {
         let mut table = CmdTable {
             alloc,
             slots: BTreeMap::new(alloc),
+            journal: Vec::new(alloc),
         };
         table.put_built_ins(steps)?;
         table.put_natives(natives, steps)?;
+        table.forget();
         Ok(table)
+    }
+
+    /// What was changed up to here can't be taken back any more.
+    fn forget(&mut self)
+        ensures table { self.new.table ≡ self.old.table }
+        ensures past { self.new.past ≡ [] }
+    {
+        self.journal.clear();
     }
 
     /// Gives the name of each built-in that is no native its built-in.
@@ -170,6 +187,43 @@ impl CmdTable {
         present_names(self.alloc, &self.slots)
     }
 
+    /// The mark to which the table can be taken back from now on (`undo`). It takes no memory.
+    pub fn mark(&self) -> u64
+        ensures { result ≡ mark_of self.now }
+    {
+        self.journal.len() as u64
+    }
+
+    /// Takes the table back to what it was at a mark: one step for each entry that was written or
+    /// removed since then. It takes no memory, and can't be refused. The condition is that the mark
+    /// is of this table and not of a later state than it has now.
+    pub fn undo<L: Ledger>(&mut self, mark: u64, steps: &mut Steps<L>)
+        requires { mark ≤ mark_of self.old }
+        ensures table { self.new ≡ back_at self.old mark }
+        ensures steps { steps.new + mark ≡ steps.old + mark_of self.old }
+    {
+        'changes: while self.mark() > mark {
+            self.take_back();
+            steps.tick();
+        }
+    }
+
+    /// Takes the last change back.
+    fn take_back(&mut self)
+        requires { 0 < mark_of self.old }
+        ensures { self.old ≡ changed self.new self.old.table }
+    {
+        take_back(&mut self.slots, &mut self.journal);
+    }
+
+    /// Gives a name this command, or none.
+    fn change(&mut self, name: Text, cmd: Option<Cmd>) -> Result<(), NoMemory>
+        ensures ok { OnOk result (self.new ≡ changed self.old (with_option self.old.table name cmd)) }
+        ensures err { OnErr result (self.new ≡ self.old) }
+    {
+        change(self.alloc, &mut self.slots, &mut self.journal, name, cmd)
+    }
+
     /// Gives a name this command, whatever it had before. That is one step. Where memory wants, the
     /// table and the steps are as they were.
     pub fn put<L: Ledger>(
@@ -181,8 +235,10 @@ impl CmdTable {
         ensures table { OnOk result (self.new.table ≡ with_command self.old.table name cmd) }
         ensures steps { OnOk result (steps.new ≡ steps.old + 1) }
         ensures err { OnErr result ((self.new ≡ self.old) × (steps.new ≡ steps.old)) }
+        ensures keeps { Keeps self.old self.new }
+        ensures marks { steps.new + mark_of self.old ≡ steps.old + mark_of self.new }
     {
-        put(&mut self.slots, name, cmd)?;
+        self.change(name, Some(cmd))?;
         steps.tick();
         Ok(())
     }
@@ -201,12 +257,14 @@ impl CmdTable {
         ensures table { OnOk result (self.new.table ≡ renamed self.old.table old.now new.now) }
         ensures steps { IfOk result (λ answer. steps.new ≡ steps.old + renaming_steps answer new.now) }
         ensures err { OnErr result ((self.new ≡ self.old) × (steps.new ≡ steps.old)) }
+        ensures keeps { Keeps self.old self.new }
+        ensures marks { steps.new + mark_of self.old ≡ steps.old + mark_of self.new }
     {
         if self.get(old).is_none() {
             return Ok(Renamed::NoOld);
         }
         if new.is_empty() {
-            self.remove(old, steps);
+            self.remove(old, steps)?;
             return Ok(Renamed::Done);
         }
         if self.get(new).is_some() {
@@ -222,14 +280,39 @@ impl CmdTable {
         ensures table { OnOk result (self.new.table ≡ defined self.old.table def.now) }
         ensures steps { OnOk result (steps.new ≡ steps.old + writes def.now) }
         ensures err { OnErr result ((self.new ≡ self.old) × (steps.new ≡ steps.old)) }
+        ensures keeps { Keeps self.old self.new }
+        ensures marks { steps.new + mark_of self.old ≡ steps.old + mark_of self.new }
+    {
+        self.try_apply(def, steps)?;
+        Ok(())
+    }
+
+    /// Makes a definition where it applies, and tells whether it does. One that doesn't changes
+    /// nothing. A definition that is neither a procedure nor a rename leaves the table as it is. Where
+    /// memory wants, the table and the steps are as they were.
+    pub fn try_apply<L: Ledger>(
+        &mut self,
+        def: &Def,
+        steps: &mut Steps<L>,
+    ) -> Result<bool, NoMemory>
+        ensures applies { IfOk result (λ applies. applies ≡ fits self.old.table def.now) }
+        ensures table { OnOk result (self.new.table ≡ defined self.old.table def.now) }
+        ensures steps { OnOk result (steps.new ≡ steps.old + writes_at self.old.table def.now) }
+        ensures err { OnErr result ((self.new ≡ self.old) × (steps.new ≡ steps.old)) }
+        ensures keeps { Keeps self.old self.new }
+        ensures marks { steps.new + mark_of self.old ≡ steps.old + mark_of self.new }
     {
         match def {
-            Def::Proc { name, params, body } => self.define(name, params, body, steps),
-            Def::Rename { old, new } => {
-                self.rename(old, new, steps)?;
-                Ok(())
+            Def::Proc { name, params, body } => {
+                self.define(name, params, body, steps)?;
+                Ok(true)
             }
-            Def::Route { .. } | Def::Filter { .. } | Def::Cleanup { .. } | Def::Set { .. } => Ok(()),
+            Def::Rename { old, new } => match self.rename(old, new, steps)? {
+                Renamed::Done => Ok(true),
+                Renamed::NoOld | Renamed::NewExists => Ok(false),
+            },
+            Def::Set { name, value: _ } => Ok(!is_element_name(name)),
+            Def::Route { .. } | Def::Filter { .. } | Def::Cleanup { .. } => Ok(true),
         }
     }
 
@@ -244,40 +327,67 @@ impl CmdTable {
         ensures table { OnOk result (self.new.table ≡ with_command self.old.table name.now (Cmd.Proc params.now body.now)) }
         ensures steps { OnOk result (steps.new ≡ steps.old + 1) }
         ensures err { OnErr result ((self.new ≡ self.old) × (steps.new ≡ steps.old)) }
+        ensures keeps { Keeps self.old self.new }
+        ensures marks { steps.new + mark_of self.old ≡ steps.old + mark_of self.new }
     {
-        let name = Text::new(self.alloc, name.bytes())?;
-        let params = Text::new(self.alloc, params.bytes())?;
-        let body = Text::new(self.alloc, body.bytes())?;
+        let name = name.copy(self.alloc)?;
+        let params = params.copy(self.alloc)?;
+        let body = body.copy(self.alloc)?;
         self.put(name, Cmd::Proc { params, body }, steps)
     }
 
     /// Removes a name.
-    fn remove<L: Ledger>(&mut self, name: &Text, steps: &mut Steps<L>)
-        ensures table { self.new.table ≡ without_command self.old.table name.now }
-        ensures steps { steps.new ≡ steps.old + 1 }
+    fn remove<L: Ledger>(&mut self, name: &Text, steps: &mut Steps<L>) -> Result<(), NoMemory>
+        ensures table { OnOk result (self.new.table ≡ without_command self.old.table name.now) }
+        ensures steps { OnOk result (steps.new ≡ steps.old + 1) }
+        ensures err { OnErr result ((self.new ≡ self.old) × (steps.new ≡ steps.old)) }
+        ensures keeps { Keeps self.old self.new }
+        ensures marks { steps.new + mark_of self.old ≡ steps.old + mark_of self.new }
     {
-        let _removed = take(&mut self.slots, name);
+        let name = name.copy(self.alloc)?;
+        self.change(name, None)?;
         steps.tick();
+        Ok(())
     }
 
-    /// Moves the command of a name to a name that has none.
+    /// Moves the command of a name to another name, in two changes, or in none where memory wants.
     fn move_to<L: Ledger>(
         &mut self,
         old: &Text,
         new: &Text,
         steps: &mut Steps<L>,
     ) -> Result<(), NoMemory>
-        requires { command_of self.old.table new.now ≡ None }
+        requires { IsSome (command_of self.old.table old.now) }
         ensures table { OnOk result (self.new.table ≡ with_option (without_command self.old.table old.now) new.now (command_of self.old.table old.now)) }
         ensures steps { OnOk result (steps.new ≡ steps.old + 2) }
         ensures err { OnErr result ((self.new ≡ self.old) × (steps.new ≡ steps.old)) }
+        ensures keeps { Keeps self.old self.new }
+        ensures marks { steps.new + mark_of self.old ≡ steps.old + mark_of self.new }
     {
-        let name = Text::new(self.alloc, new.bytes())?;
-        reserve(&mut self.slots, name)?;
-        let cmd = take(&mut self.slots, old);
+        let alloc = self.alloc;
+        let Some(cmd) = self.get(old) else {
+            return Ok(());
+        };
+        let cmd = copy_cmd(alloc, cmd)?;
+        let from = old.copy(alloc)?;
+        let to = new.copy(alloc)?;
+        self.move_one(from, to, cmd)?;
         steps.tick();
-        fill(&mut self.slots, new, cmd);
         steps.tick();
         Ok(())
+    }
+
+    /// Takes the command of a name away and gives another name this one, or does neither where memory
+    /// wants.
+    fn move_one(&mut self, old: Text, new: Text, cmd: Cmd) -> Result<(), NoMemory>
+        ensures ok { OnOk result (self.new ≡ changed (changed self.old (without_command self.old.table old)) (with_command (without_command self.old.table old) new cmd)) }
+        ensures err { OnErr result (self.new ≡ self.old) }
+    {
+        self.change(old, None)?;
+        let moved = self.change(new, Some(cmd));
+        if moved.is_err() {
+            self.take_back();
+        }
+        moved
     }
 }

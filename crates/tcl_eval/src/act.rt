@@ -185,7 +185,8 @@ impl<H: Host> Engine<H> {
 
     /// Makes a procedure.
     fn make_proc<L: Ledger>(&mut self, words: &Words, steps: &mut Steps<L>) -> Result<(), NoMemory>
-        ensures made { OnOk result (self.new ≡ record self.old { table = record self.old.table { table = defined self.old.table.table (proc_of words.now) }; made = self.old.made ++ proc_of words.now ∷ [] }) }
+        ensures made { OnOk result (self.new ≡ record self.old { table = self.new.table; made = self.old.made ++ proc_of words.now ∷ [] }) }
+        ensures table { OnOk result (self.new.table.table ≡ defined self.old.table.table (proc_of words.now)) }
         ensures steps { steps.old ≤ steps.new }
     {
         let def = Def::Proc {

@@ -22,7 +22,7 @@ returns-then-is_empty-clause-answer g c =
 pub returns-then-is_empty-clause-table : goal.returns-then-is_empty-clause-table
 returns-then-is_empty-clause-table g c =
     let old : is_some (command_of c.args.self.now.table c.args.old.now) ≡ true = ap is_some (sym c.get.ensures) ∙ (copied_some c.get.result ∙ c.if-is_none.ensures) in
-    c.remove.ensures.table ∙ sym (removed c.args.self.now.table c.args.old.now c.args.new.now old (c.is_empty.ensures.0 c.if-is_empty.true)).1
+    c.in_ok-remove.ensures.table ∙ sym (removed c.args.self.now.table c.args.old.now c.args.new.now old (c.is_empty.ensures.0 c.if-is_empty.true)).1
 
 pub returns-then-is_some-clause-answer : goal.returns-then-is_some-clause-answer
 returns-then-is_some-clause-answer g c =

@@ -1,0 +1,27 @@
+-- What a command table was before each change, by what its journal notes.
+use Rattle.std.specs.Prelude.{ℕ, List, [], ◌∷◌, Option, Some, None}
+use Rattle.std.specs.Map.{remove_entry, set_value}
+use Rattle.std.specs.BTreeMap.{is_at}
+use Rattle.cmd_table.specs.declared.command.Cmd.{Cmd}
+use Rattle.cmd_table.specs.declared.journal.Row.{Row}
+use Rattle.cmd_table.specs.Table.{Table, name_order}
+use Rattle.cmd_table.specs.Slots.{Slots, present}
+
+-- the slots in which the slot of this name is what it was: it holds this again, or there is none
+abbrev pub with_slot : Slots → List ℕ → Option (Option Cmd) → Slots
+with_slot slots name None = remove_entry (is_at (name_order name)) slots
+with_slot slots name (Some cmd) = set_value (is_at (name_order name)) slots cmd
+
+-- the slots before a change
+abbrev pub back : Row → Slots → Slots
+back row slots = with_slot slots row.name row.before
+
+-- the slots before changes, the first of which stands first
+abbrev pub undone : List Row → Slots → Slots
+undone [] slots = slots
+undone (row ∷ rows) slots = back row (undone rows slots)
+
+-- the tables that stood before each of the changes
+abbrev pub past_of : List Row → Slots → List Table
+past_of [] slots = []
+past_of (row ∷ rows) slots = present (undone (row ∷ rows) slots) ∷ past_of rows slots

@@ -1,0 +1,78 @@
+//! Copies of commands and of definitions. The only error of these calls is want of memory.
+
+ghost use Rattle.std.specs.Prelude.{◌≡◌, IfOk};
+
+use crate::command::Cmd;
+use crate::definition::{Def, Defs};
+use std::alloc::Global;
+use txt_core::{NoMemory, Sequence};
+
+/// A command once more.
+pub(crate) fn copy_cmd(alloc: Global, cmd: &Cmd) -> Result<Cmd, NoMemory>
+    ensures { IfOk result (λ copy. copy ≡ cmd.now) }
+{
+    Ok(match cmd {
+        Cmd::Built(name) => Cmd::Built(name.copy(alloc)?),
+        Cmd::Proc { params, body } => Cmd::Proc {
+            params: params.copy(alloc)?,
+            body: body.copy(alloc)?,
+        },
+    })
+}
+
+/// A definition once more.
+pub fn copy_def(alloc: Global, def: &Def) -> Result<Def, NoMemory>
+    ensures { IfOk result (λ copy. copy ≡ def.now) }
+{
+    Ok(match def {
+        Def::Proc { name, params, body } => Def::Proc {
+            name: name.copy(alloc)?,
+            params: params.copy(alloc)?,
+            body: body.copy(alloc)?,
+        },
+        Def::Rename { old, new } => Def::Rename {
+            old: old.copy(alloc)?,
+            new: new.copy(alloc)?,
+        },
+        Def::Route {
+            method,
+            url,
+            inherit,
+            words,
+        } => Def::Route {
+            method: method.copy(alloc)?,
+            url: url.copy(alloc)?,
+            inherit: *inherit,
+            words: Sequence::of_copies(alloc, words.as_slice())?,
+        },
+        Def::Filter {
+            when,
+            method,
+            pattern,
+            words,
+        } => Def::Filter {
+            when: *when,
+            method: method.copy(alloc)?,
+            pattern: pattern.copy(alloc)?,
+            words: Sequence::of_copies(alloc, words.as_slice())?,
+        },
+        Def::Cleanup { script } => Def::Cleanup {
+            script: script.copy(alloc)?,
+        },
+        Def::Set { name, value } => Def::Set {
+            name: name.copy(alloc)?,
+            value: value.copy(alloc)?,
+        },
+    })
+}
+
+/// Definitions once more, in their order.
+pub fn copy_defs(alloc: Global, defs: &Defs) -> Result<Defs, NoMemory>
+    ensures { IfOk result (λ copy. copy ≡ defs.now) }
+{
+    let mut copy = Sequence::new(alloc);
+    for def in defs.as_slice() {
+        copy.add(copy_def(alloc, def)?)?;
+    }
+    Ok(copy)
+}
