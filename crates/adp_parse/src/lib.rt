@@ -11,6 +11,3 @@ mod piece;
 pub use cutting::pieces;
 pub use law::one_list;
 pub use piece::{Piece, PieceList, Pieces};
-
-#[cfg(test)]
-mod tests;

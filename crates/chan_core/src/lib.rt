@@ -7,6 +7,3 @@ mod law;
 
 pub use chans::{ChanFault, Chans};
 pub use law::lines;
-
-#[cfg(test)]
-mod tests;

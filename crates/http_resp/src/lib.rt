@@ -11,8 +11,6 @@ mod head;
 mod lines;
 mod replies;
 mod response;
-#[cfg(test)]
-mod tests;
 
 pub use delivery::{Wrote, write_response};
 pub use head::response_bytes;

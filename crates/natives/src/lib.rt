@@ -6,8 +6,6 @@ mod index;
 mod law;
 mod native;
 mod natives;
-#[cfg(test)]
-mod tests;
 mod word;
 
 pub use fault::Fault;

@@ -12,6 +12,3 @@ mod slot;
 pub use fault::SetFault;
 pub use law::merging;
 pub use sets::Sets;
-
-#[cfg(test)]
-mod tests;

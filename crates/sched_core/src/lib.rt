@@ -10,6 +10,3 @@ mod schedule;
 pub use call::{DueList, DueScript, SchedCall, SchedReply};
 pub use law::steps_are_determined;
 pub use schedule::Schedule;
-
-#[cfg(test)]
-mod tests;

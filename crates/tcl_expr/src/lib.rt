@@ -19,6 +19,3 @@ pub use fault::ExprText;
 pub use law::{division, least_place, one_answer, one_reading};
 pub use operator::{ExprFault, Op};
 pub use reading::{MOST_OPERATORS, parse_expr};
-
-#[cfg(test)]
-mod tests;

@@ -7,8 +7,6 @@ mod fault;
 mod gap;
 mod law;
 mod splitting;
-#[cfg(test)]
-mod tests;
 mod writing;
 
 pub use appending::{append_elements, elements_behind};

@@ -8,8 +8,6 @@ mod options;
 mod reading;
 mod searching;
 mod sorting;
-#[cfg(test)]
-mod tests;
 
 pub use changing::{linsert_command, lreplace_command};
 pub use concat::concat_command;

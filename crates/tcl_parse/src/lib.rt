@@ -15,6 +15,3 @@ pub use fault::{Kind, ParseFault, Stop};
 pub use law::{canonical_tree, one_answer, one_reading, passed_over};
 pub use reading::{parse, read_enclosed, read_substitution};
 pub use tree::{Command, Piece, Script, Word};
-
-#[cfg(test)]
-mod tests;

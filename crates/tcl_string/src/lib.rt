@@ -14,8 +14,6 @@ mod repeating;
 mod searching;
 mod string;
 mod subcommand;
-#[cfg(test)]
-mod tests;
 mod trimming;
 
 pub use cutting::split_command;

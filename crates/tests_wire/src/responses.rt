@@ -1,4 +1,6 @@
-use super::*;
+use http_resp::{
+    Response, Sent, Wrote, plain, reply_busy, reply_no_memory, response_bytes, write_response,
+};
 use outside::MemSink;
 use std::alloc::Global;
 use std::process::Abort;

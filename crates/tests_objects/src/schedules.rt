@@ -1,7 +1,7 @@
 //! A schedule by itself: rows of calls with the replies that the rules give.
 ghost use Rattle.turn_cell.specs.Cells.{IsOf};
 
-use super::*;
+use sched_core::{DueList, SchedCall, SchedReply, Schedule, steps_are_determined};
 use std::alloc::Global;
 use std::sync::Wait;
 use std::test::*;

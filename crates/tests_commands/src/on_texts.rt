@@ -1,11 +1,11 @@
 ghost use Rattle.std.specs.Prelude.{◌≡◌, ◌++◌, ◌∷◌, [], false, OnOk};
 ghost use Rattle.natives.specs.Names.{name_of, names_of, has_name};
 
-use super::{format_command, join_command, split_command, string_command};
 use natives::{Fault, Native, Natives};
 use std::alloc::Global;
 use std::process::Abort;
 use std::test::Fail;
+use tcl_string::{format_command, join_command, split_command, string_command};
 use txt_core::{NoMemory, Text, Words};
 
 /// Adds a native.

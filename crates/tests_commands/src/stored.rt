@@ -4,7 +4,7 @@ ghost use Rattle.natives.specs.Names.{name_of, names_of, has_name};
 ghost use Rattle.natives.specs.Pure.{pure_of};
 ghost use Rattle.natives.specs.Ranges.{InRange};
 
-use super::{Fault, Native, Natives, cut_place, index_in, read_index, within_limit, word_at};
+use natives::{Fault, Native, Natives, cut_place, index_in, read_index, within_limit, word_at};
 use std::alloc::Global;
 use std::process::Abort;
 use std::test::Fail;
@@ -101,7 +101,7 @@ fn came(alloc: Global, natives: &Natives, words: &Words) -> Result<Text, Fail> {
 }
 
 #[test]
-#[tactic(auto, unfolding(crate::specs::Ranges::range_of))]
+#[tactic(auto, unfolding(natives::specs::Ranges::range_of))]
 fn natives_by_name(rt: HostRuntime) -> Result<(), Fail> {
     let alloc = rt.alloc();
     let mut natives = Natives::new(alloc);

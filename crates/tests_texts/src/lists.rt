@@ -1,7 +1,7 @@
-use super::{ListFault, append_elements, elements_behind, quote, split};
 use std::alloc::Global;
 use std::process::Abort;
 use std::test::Fail;
+use tcl_list::{ListFault, append_elements, elements_behind, quote, split};
 use txt_core::{Known, Text, Words};
 
 /// The texts that each end at a bar.

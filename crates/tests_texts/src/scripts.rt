@@ -1,9 +1,11 @@
 //! Texts with the trees or faults that the rules give.
 
-use super::*;
 use std::alloc::{AllocError, Global};
 use std::process::Abort;
 use std::test::Fail;
+use tcl_parse::{
+    Command, Kind, ParseFault, Piece, Script, Stop, Word, parse, read_enclosed, read_substitution,
+};
 use txt_core::{MOST_NESTED, Text};
 
 /// One text a line, an arrow, and its script or fault. In the lines `~` is a newline and `^` a tab.

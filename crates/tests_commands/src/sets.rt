@@ -1,4 +1,4 @@
-use super::*;
+use ns_sets::{SetFault, Sets};
 use std::alloc::Global;
 use std::test::Fail;
 use txt_core::Text;

@@ -5,7 +5,7 @@ use Rattle.natives.specs.Answers.{limited}
 use Rattle.natives.specs.Words.{arg}
 use Rattle.natives.specs.Lists.{concat_reply, joined, is_not_empty}
 use Rattle.natives.specs.Pure.{pure_of, pure_concat}
-use Rattle.natives.proofs.tests.concat_one.Goals as goal
+use Rattle.tests_commands.proofs.stored.concat_one.Goals as goal
 
 -- one word alone is itself, also where it is empty
 alone : (x : List ℕ) → joined (codes " ") (filter is_not_empty (x ∷ [])) ≡ x

@@ -1,4 +1,4 @@
-use super::*;
+use adp_parse::{Piece, one_list, pieces};
 use std::alloc::Global;
 use std::test::Fail;
 use txt_core::{NoMemory, Text, Words};

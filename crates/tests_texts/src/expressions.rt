@@ -1,9 +1,11 @@
 //! Expressions with the values, faults and bad places that the rules give.
 
-use super::*;
 use std::alloc::{AllocError, Global};
 use std::process::Abort;
 use std::test::Fail;
+use tcl_expr::{
+    Expr, ExprFault, ExprText, Op, apply_binary, apply_unary, expression_value, parse_expr,
+};
 use tcl_parse::Piece;
 use txt_core::{Text, read_truth};
 

@@ -1,4 +1,4 @@
-use super::*;
+use chan_core::{ChanFault, Chans, lines};
 use std::alloc::Global;
 use std::test::Fail;
 use txt_core::Text;

@@ -1,11 +1,11 @@
-use super::{
-    concat_command, lindex_command, linsert_command, list_command, llength_command, lrange_command,
-    lreplace_command, lsearch_command, lsort_command,
-};
 use natives::{Fault, Native};
 use std::alloc::Global;
 use std::process::Abort;
 use std::test::Fail;
+use tcl_listcmd::{
+    concat_command, lindex_command, linsert_command, list_command, llength_command, lrange_command,
+    lreplace_command, lsearch_command, lsort_command,
+};
 use txt_core::{Text, Words};
 
 /// The texts that each end at a bar.
@@ -54,7 +54,7 @@ fn commands_on_lists(rt: HostRuntime) -> Result<(), Fail> {
         Native::new(Text::new(alloc, b"lsort")?, 2, 6, lsort_command),
         Native::new(Text::new(alloc, b"concat")?, 1, 200_001, concat_command),
     ];
-    let rows: [(usize, &[u8], &[u8]); 38] = [
+    let rows: [(usize, &[u8], &[u8]); 40] = [
         (0, b"list|a||b c|d{|", b"a {} {b c} d\\{"),
         (0, b"list|", b""),
         (1, b"lindex|a {b c} d|1|", b"b c"),
@@ -103,7 +103,11 @@ fn commands_on_lists(rt: HostRuntime) -> Result<(), Fail> {
             b"expected integer but got \"x\"",
         ),
         (7, b"lsort|-integer|", b"-integer"),
-        (7, b"lsort|-integer|-ascii|", b"-ascii"),
+        (
+            7,
+            b"lsort|-integer|-ascii|",
+            b"expected integer but got \"-ascii\"",
+        ),
         (7, b"lsort|x|a b|", b"bad value \"x\" for \"lsort\""),
         (8, b"concat| a b\n||c|  |", b"a b c"),
         (8, b"concat|", b""),

@@ -1,0 +1,5 @@
+//! Tests of what threads share: what no clause of it says.
+#![tactic(auto)]
+
+#[cfg(test)]
+mod schedules;

@@ -1,0 +1,5 @@
+//! Tests of what is read from the outside and written to it: what no clause says.
+#![tactic(auto)]
+
+#[cfg(test)]
+mod responses;
