@@ -1,9 +1,6 @@
 -- What a clock tells.
 use Rattle.std.specs.Prelude.{ℕ, ◌≡◌, ◌+◌, ◌≤◌, min, Option, Some}
-
--- the last second of the year 9999
-abbrev pub last_moment : ℕ
-last_moment = 253402300799
+use Rattle.txt_core.specs.Limits.{last_moment}
 
 -- What a clock that tells holds: the moment that it shows next, in seconds since 1970, and how many each reading adds.
 pub record Dial : Type 0 where

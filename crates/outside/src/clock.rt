@@ -6,9 +6,6 @@ ghost use Rattle.outside.specs.Clocks.{Dial, Shows};
 use std::sync::Wait;
 use txt_core::NoMemory;
 
-/// The last second of the year 9999, in seconds since 1970. A later moment is used as this one.
-pub const LAST_MOMENT: u64 = 253_402_300_799;
-
 /// A clock.
 pub trait Clock: Sized {
     /// What it holds, where it tells that.

@@ -28,7 +28,7 @@ mod source;
 #[cfg(test)]
 mod tests;
 
-pub use clock::{Clock, LAST_MOMENT};
+pub use clock::Clock;
 pub use gate::{Gate, OpenGate};
 pub use mem_clock::MemClock;
 pub use mem_conn::MemConn;

@@ -2,10 +2,10 @@
 
 ghost use Rattle.std.specs.Prelude.{◌≡◌, ◌≤◌, Some, IfOk};
 
-use crate::clock::{Clock, LAST_MOMENT};
+use crate::clock::Clock;
 use std::marker::Model;
 use std::sync::Wait;
-use txt_core::NoMemory;
+use txt_core::{LAST_MOMENT, NoMemory};
 
 /// A clock that goes on by its stride at each reading, and stops at the last moment. It tells what it
 /// holds.
@@ -17,7 +17,8 @@ pub struct MemClock {
 
 impl Model for MemClock {
     ghost use Rattle.std.specs.Prelude.{◌≤◌};
-    ghost use Rattle.outside.specs.Clocks.{Dial, last_moment};
+    ghost use Rattle.txt_core.specs.Limits.{last_moment};
+    ghost use Rattle.outside.specs.Clocks.{Dial};
 
     ghost Value = { Dial };
 
