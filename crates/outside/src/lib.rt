@@ -25,8 +25,6 @@ mod reply_sink;
 mod sending;
 mod sink;
 mod source;
-#[cfg(test)]
-mod tests;
 
 pub use clock::Clock;
 pub use gate::{Gate, OpenGate};

@@ -24,4 +24,3 @@ pub mod Stack
 pub mod Laws
 pub mod Engine
 pub mod Answers
-pub mod Echo

@@ -20,8 +20,6 @@ mod run;
 mod settle;
 mod stack;
 mod switch;
-#[cfg(test)]
-mod tests;
 mod value;
 mod verb;
 mod words;

@@ -3,3 +3,5 @@
 
 #[cfg(test)]
 mod responses;
+#[cfg(test)]
+mod streams;

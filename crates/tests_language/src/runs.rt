@@ -8,14 +8,12 @@ ghost use Rattle.natives.specs.Pure.{pure_of};
 ghost use Rattle.natives.specs.Ranges.{InRange};
 ghost use Rattle.tcl_eval.specs.Words.{word_at};
 ghost use Rattle.tcl_eval.specs.Answers.{Replies};
-ghost use Rattle.tcl_eval.specs.Echo.{calls};
+ghost use Rattle.tests_language.specs.Echo.{calls};
 ghost use Rattle.tcl_eval.specs.Engine.{IsIdle, IsOpenTo, Leaves};
 ghost use Rattle.tcl_eval.specs.declared.host.HostReply.{HostReply};
 ghost use Rattle.cmd_table.specs.declared.definition.Def.{Def};
 ghost use Rattle.outside.specs.declared.question.Service.{Service};
 
-use super::*;
-use crate::words::{copy_word, push_all, push_word, word_at};
 use cmd_table::{Cmd, CmdTable, Def, Steps};
 use natives::{Fault, Native, Natives};
 use outside::{Answer, Question, Service};
@@ -24,6 +22,7 @@ use std::marker::Brand;
 use std::process::Abort;
 use std::sync::ledger::{Blank, Ledger};
 use std::test::Fail;
+use tcl_eval::{Engine, Host, HostReply, Outcome, Work};
 use tcl_frame::Frames;
 use txt_core::{NoMemory, Text, Words};
 
@@ -34,12 +33,26 @@ struct Echo {
     alloc: Global,
 }
 
+/// The word at a place; the empty text where there is none.
+fn word_at(words: &Words, place: usize) -> &[u8]
+    ensures { result.now ≡ word_at words.now place }
+{
+    match words.get(place) {
+        Some(word) => word.bytes(),
+        None => &[],
+    }
+}
+
+fn copy_word(alloc: Global, words: &Words, place: usize) -> Result<Text, NoMemory>
+    ensures { IfOk result (λ word. word ≡ word_at words.now place) }
+{
+    Text::new(alloc, word_at(words, place))
+}
+
 fn copy_words(alloc: Global, words: &Words) -> Result<Words, NoMemory>
     ensures { IfOk result (λ copy. copy ≡ words.now) }
 {
-    let mut copy = Words::new(alloc);
-    push_all(alloc, &mut copy, words.as_slice())?;
-    Ok(copy)
+    Words::of_copies(alloc, words.as_slice())
 }
 
 impl Echo {
@@ -101,7 +114,7 @@ impl Echo {
 }
 
 impl Host for Echo {
-    ghost use Rattle.tcl_eval.specs.Echo.{echo};
+    ghost use Rattle.tests_language.specs.Echo.{echo};
 
     ghost table = { echo };
 
@@ -650,11 +663,13 @@ const LIMITS: [Limit; 12] = [
     (("keep a x; return $a", "", "", 0), 1, 1, "spent 0|"),
 ];
 
-fn check_limits<L: Ledger, R: Abort + AllocGlobal>(
-    rt: &R,
-    natives: &Natives,
-    steps: &mut Steps<L>,
-) -> Result<(), Fail> {
+fn check_limits<L: Ledger, R: Abort + AllocGlobal>(rt: &R, blank: Blank) -> Result<(), Fail>
+    requires name { blank.name ≡ L.name }
+    requires parts { blank.parts ≡ L.parts }
+    requires some { 0 < blank.parts }
+{
+    let mut steps = Steps::<L>::new(blank);
+    let natives = Natives::new(rt.alloc());
     for ((front, unit, close, count), budget, depth, want) in LIMITS {
         let script = repeated(rt.alloc(), front, unit, close, count)?;
         let run = Run {
@@ -664,10 +679,15 @@ fn check_limits<L: Ledger, R: Abort + AllocGlobal>(
             answers: "",
             tells: false,
         };
-        let came = played(rt.alloc(), natives, &run, steps)?;
+        let came = played(rt.alloc(), &natives, &run, &mut steps)?;
         assert_eq!(rt; came.bytes(), want.as_bytes());
     }
     Ok(())
+}
+
+#[test]
+fn limits(rt: HostRuntime) -> Result<(), Fail> {
+    check_limits::<Brand, HostRuntime>(&rt, Blank::new(1))
 }
 
 /// A procedure.
@@ -698,8 +718,8 @@ fn engine_with_procedure<L: Ledger>(
 /// A call of `f` with 1.
 fn call_of_procedure(alloc: Global) -> Result<Work, NoMemory> {
     let mut words = Words::new(alloc);
-    push_word(&mut words, Text::new(alloc, b"f")?)?;
-    push_word(&mut words, Text::new(alloc, b"1")?)?;
+    words.add(Text::new(alloc, b"f")?)?;
+    words.add(Text::new(alloc, b"1")?)?;
     Ok(Work::Call(words))
 }
 
@@ -775,7 +795,6 @@ fn check_all<L: Ledger, R: Abort + AllocGlobal>(
     check_lines(rt, natives, PICKS, 28, &mut steps)?;
     check_lines(rt, natives, COMMANDS, 19, &mut steps)?;
     check_answered(rt, natives, &mut steps)?;
-    check_limits(rt, natives, &mut steps)?;
     let came = left_alone(rt.alloc(), natives, &mut steps)?;
     let want = "asks ask 3 96|2|1 can't read \"v\": no such variable 99|2|";
     assert_eq!(rt; came.bytes(), want.as_bytes());

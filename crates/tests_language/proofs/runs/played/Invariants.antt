@@ -1,5 +1,5 @@
 use Rattle.tcl_eval.specs.Engine.{Leaves}
-use Rattle.tcl_eval.proofs.tests.played.Given as goal
+use Rattle.tests_language.proofs.runs.played.Given as goal
 
 abbrev pub invariant-answers : goal.invariant-answers
 invariant-answers g l = Leaves l.outcome l.engine

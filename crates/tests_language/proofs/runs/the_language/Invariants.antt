@@ -1,4 +1,4 @@
-use Rattle.tcl_eval.proofs.tests.the_language.Given as goal
+use Rattle.tests_language.proofs.runs.the_language.Given as goal
 
 abbrev pub ghosts-check_all : goal.ghosts-check_all
 ghosts-check_all g a = record { name = a.blank.name; parts = a.blank.parts }
