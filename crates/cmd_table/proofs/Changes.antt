@@ -4,7 +4,7 @@ use Rattle.std.specs.declared.cmp.Ordering.{Ordering}
 use Rattle.std.specs.declared.cmp.Ordering.TheVariants.{Less, Equal, Greater}
 use Rattle.std.specs.Ordering.{is_eq, match_ordering}
 use Rattle.std.specs.Cmp.Lexicographic.{nat_list_cmp_total}
-use Rattle.std.specs.List.{AllByRecursion, list_any}
+use Rattle.std.specs.List.{AllByRecursion}
 use Rattle.std.specs.List.Sorted.{IsStrictlySortedBy}
 use Rattle.std.specs.Map.{lookup, set_value, remove_entry, keys_of}
 use Rattle.std.specs.Option.{is_some, IsSome}
@@ -15,7 +15,7 @@ use Rattle.std.proofs.lemmas.Map.Lookups.{exact_bytes}
 use Rattle.std.proofs.lemmas.Map.Text.{is_eq-slice_cmp}
 use Rattle.cmd_table.specs.declared.command.Cmd.{Cmd}
 use Rattle.cmd_table.specs.Table.{Table, names_of, name_order, command_of, with_command, without_command}
-use Rattle.cmd_table.specs.Slots.{Slots, put_present, present, slot_of, with_option, AreInOrder}
+use Rattle.cmd_table.specs.Slots.{Slots, put_present, present, AreInOrder}
 
 -- a look-up by the order finds the name with the same bytes
 pub same_test : (name : List ℕ) → is_at (name_order name) ≡ bytes_eq name
@@ -188,30 +188,6 @@ taken_none k es s h = ap present (sym (no_slot (is_at (name_order k)) None es h)
 pub reserved : (k : List ℕ) (es : Slots) → command_of (present es) k ≡ None → present (insert_entry name_order es k None) ≡ present es
 unfolding command_of
 reserved k es h = present-reserve k es (ap (λ (t : List ℕ → Bool). lookup t (present es)) (same_test k) ∙ h)
-
-pub some_slot : (k : List ℕ) (es : Slots) → slot_of es k ≡ lookup (is_at (name_order k)) es
-unfolding slot_of
-some_slot k es = ap (λ (t : List ℕ → Bool). lookup t es) (sym (same_test k))
-
-pub filled : (k : List ℕ) (v : Option Cmd) (es : Slots) → AreInOrder es → IsSome (slot_of es k) → present (set_value (is_at (name_order k)) es v) ≡ with_option (present es) k v
-filled k None es s h = taken k es s
-filled k (Some v) es s h = ap present (set-is-put k (Some v) es s (subst (λ (o : Option (Option Cmd)). IsSome o) (some_slot k es) h)) ∙ put_in k v es s
-
-pub slot_found : (k : List ℕ) (es : Slots) (w : Option Cmd) → lookup (is_at (name_order k)) es ≡ Some w → IsSome (slot_of es k)
-slot_found k es w h = subst (λ (o : Option (Option Cmd)). IsSome o) (sym (some_slot k es ∙ h)) refl
-
-any_step : (test : List ℕ → Bool) (b : Bool) (x : Option Cmd) (es : Slots) → is_some (lookup test es) ≡ list_any test (keys_of es) → is_some (cond b (Some x) (lookup test es)) ≡ (b || list_any test (keys_of es))
-any_step test true x es ih = refl
-any_step test false x es ih = ih
-
-lookup_by_keys : (test : List ℕ → Bool) (es : Slots) → is_some (lookup test es) ≡ list_any test (keys_of es)
-lookup_by_keys test [] = refl
-lookup_by_keys test (e ∷ es) = any_step test (test e.0) e.1 es (lookup_by_keys test es)
-
--- the same names have slots
-pub same_slots : (es fs : Slots) → keys_of es ≡ keys_of fs → (k : List ℕ) → is_some (slot_of es k) ≡ is_some (slot_of fs k)
-unfolding slot_of
-same_slots es fs same k = lookup_by_keys (bytes_eq k) es ∙ (ap (list_any (bytes_eq k)) same ∙ sym (lookup_by_keys (bytes_eq k) fs))
 
 -- ---- the order of the table
 

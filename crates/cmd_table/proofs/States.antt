@@ -59,12 +59,6 @@ back_before state table mark h =
 pub mark_after : (state : State) (table : Table) → mark_of (changed state table) ≡ mark_of state + 1
 mark_after state table = length-append state.past (state.table ∷ [])
 
-pub keeps_changed : (state : State) (table : Table) → Keeps state (changed state table)
-keeps_changed state table mark h = (omega (arith, mark_after state table), back_before state table mark h)
-
-pub keeps_same : (state : State) → Keeps state state
-keeps_same state mark h = (h, refl)
-
 pub keeping_goes_on : KeepingGoesOn
 keeping_goes_on first second third f g mark h =
     let one = f mark h in

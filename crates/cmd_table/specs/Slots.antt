@@ -1,8 +1,7 @@
 -- What a command table keeps: a slot for each name that has a command, and empty ones for names that were
 -- removed, so that these keep their places until the removal is taken back.
 use Rattle.std.specs.Prelude.{ℕ, List, [], ◌∷◌, Option, Some, None}
-use Rattle.std.specs.Str.{bytes_eq}
-use Rattle.std.specs.Map.{keys_of, lookup}
+use Rattle.std.specs.Map.{keys_of}
 use Rattle.std.specs.List.Sorted.{IsStrictlySortedBy}
 use Rattle.cmd_table.specs.declared.command.Cmd.{Cmd}
 use Rattle.cmd_table.specs.Table.{Table, name_order, with_command, without_command}
@@ -23,10 +22,6 @@ present (slot ∷ slots) = put_present slot.0 slot.1 (present slots)
 -- the slots stand in the order of their names, each once
 abbrev pub AreInOrder : Slots → Type 0
 AreInOrder slots = IsStrictlySortedBy name_order (keys_of slots)
-
--- the slot of a name, where there is one
-unfoldable pub slot_of : Slots → List ℕ → Option (Option Cmd)
-slot_of slots name = lookup (bytes_eq name) slots
 
 -- with this command for the name, where there is one
 abbrev pub with_option : Table → List ℕ → Option Cmd → Table

@@ -136,7 +136,8 @@ fn rename<L: Ledger>(
 /// Marks both.
 fn mark(table: &CmdTable, twin: &mut Twin) -> Result<bool, NoMemory> {
     if twin.copies.len() < 32 {
-        twin.copies.push((table.mark(), twin.now))?;
+        let now = twin.now;
+        twin.copies.push((table.mark(), now))?;
     }
     Ok(true)
 }
@@ -150,9 +151,11 @@ fn undo<L: Ledger>(
     steps: &mut Steps<L>,
 ) -> Result<bool, NoMemory> {
     twin.copies.truncate(pick(random, 40, 33) as usize);
-    let Some((mark, copy)) = twin.copies.pop() else {
+    let Some(last) = twin.copies.pop() else {
         return Ok(true);
     };
+    let mark = last.0;
+    let copy = last.1;
     if mark > table.mark() {
         return Ok(false);
     }
