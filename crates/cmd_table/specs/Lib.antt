@@ -1,6 +1,8 @@
+-- What a reader believes.
 pub mod Table
 pub mod Renaming
 pub mod Commands
+pub mod Laws
+-- What only proofs use.
 pub mod Slots
 pub mod Journal
-pub mod Laws

@@ -10,10 +10,6 @@ mod renaming;
 mod slots;
 mod steps;
 mod table;
-#[cfg(test)]
-mod tests;
-#[cfg(test)]
-mod undo_tests;
 
 pub use command::Cmd;
 pub use copy::{copy_def, copy_defs};

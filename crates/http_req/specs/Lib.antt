@@ -1,10 +1,12 @@
-pub mod Fetching
-pub mod Fields
-pub mod Fronts
-pub mod Heads
+-- What a reader believes.
 pub mod Limits
+pub mod Statuses
+pub mod Heads
+pub mod Fields
+pub mod Targets
+pub mod Requests
 pub mod Outcomes
 pub mod Readings
-pub mod Requests
-pub mod Statuses
-pub mod Targets
+-- What only proofs use.
+pub mod Fetching
+pub mod Fronts

@@ -1,7 +1,8 @@
-pub mod Delivery
-pub mod Lines
+-- What a reader believes.
+pub mod StatusLine
 pub mod Moment
 pub mod OutputFields
-pub mod Replies
 pub mod ResponseBytes
-pub mod StatusLine
+pub mod Replies
+pub mod Delivery
+pub mod Lines

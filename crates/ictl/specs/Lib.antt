@@ -1,3 +1,4 @@
+-- What a reader believes.
 pub mod Routes
 pub mod Hosts
 pub mod Says
@@ -10,5 +11,6 @@ pub mod Main
 pub mod Scripts
 pub mod Defines
 pub mod Interps
-pub mod Serving
 pub mod Laws
+-- What only proofs use.
+pub mod Serving

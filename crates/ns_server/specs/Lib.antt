@@ -1,4 +1,6 @@
+-- What a reader believes.
 pub mod Statuses
-pub mod Answers
 pub mod Running
 pub mod Natives
+-- What only proofs use.
+pub mod Answers

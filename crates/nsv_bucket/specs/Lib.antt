@@ -1,12 +1,14 @@
+-- What a reader believes.
 pub mod Arrays
-pub mod Bases
-pub mod Buckets
-pub mod Listings
 pub mod Replies
 pub mod Questions
+pub mod Buckets
 pub mod Reads
 pub mod Writes
 pub mod Lists
-pub mod Undoing
+pub mod Listings
 pub mod Steps
 pub mod Laws
+-- What only proofs use.
+pub mod Bases
+pub mod Undoing

@@ -19,8 +19,6 @@ mod question;
 mod reads;
 mod reply;
 mod steps;
-#[cfg(test)]
-mod tests;
 mod writes;
 
 pub use bucket::Bucket;

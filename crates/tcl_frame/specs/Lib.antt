@@ -1,14 +1,16 @@
+-- What a reader believes.
+pub mod Names
+pub mod Variables
+pub mod Stack
+pub mod Frames
+pub mod Meaning
+pub mod Refusal
 pub mod Appending
 pub mod Arrays
+-- What only proofs use.
 pub mod Entries
 pub mod Findings
-pub mod Frames
 pub mod Lending
-pub mod Meaning
-pub mod Names
-pub mod Refusal
 pub mod Seen
-pub mod Stack
 pub mod StackCode
 pub mod Undoing
-pub mod Variables

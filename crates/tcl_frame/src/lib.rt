@@ -10,8 +10,6 @@ mod journal;
 mod law;
 mod name;
 mod table;
-#[cfg(test)]
-mod tests;
 mod variable;
 
 pub use fault::VarFault;

@@ -1,8 +1,10 @@
+-- What a reader believes.
 pub mod Answers
 pub mod Texts
 pub mod Errors
-pub mod Reading
 pub mod Scalars
-pub mod Growing
 pub mod Arrays
 pub mod Commands
+-- What only proofs use.
+pub mod Reading
+pub mod Growing

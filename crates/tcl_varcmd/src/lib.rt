@@ -8,8 +8,6 @@ mod message;
 mod names;
 mod part;
 mod scalar;
-#[cfg(test)]
-mod tests;
 mod value;
 mod variable;
 

@@ -8,6 +8,14 @@ mod on_lists;
 #[cfg(test)]
 mod on_texts;
 #[cfg(test)]
+mod on_variables;
+#[cfg(test)]
 mod sets;
 #[cfg(test)]
 mod stored;
+#[cfg(test)]
+mod tables;
+#[cfg(test)]
+mod taken_back;
+#[cfg(test)]
+mod variables;

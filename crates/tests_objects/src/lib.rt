@@ -2,4 +2,6 @@
 #![tactic(auto)]
 
 #[cfg(test)]
+mod buckets;
+#[cfg(test)]
 mod schedules;

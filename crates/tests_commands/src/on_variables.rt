@@ -1,9 +1,9 @@
-use super::*;
 use natives::Fault;
 use std::alloc::Global;
 use std::test::Fail;
 use tcl_frame::Frames;
 use tcl_list::split;
+use tcl_varcmd::{is_var_command, var_command};
 use txt_core::{Known, NoMemory, Text, Words};
 
 /// What a command answers, whose words are the elements of a list: its result, or its error's text

@@ -2,7 +2,7 @@
 
 ghost use Rattle.std.specs.Prelude.{◌≡◌, ◌<◌};
 
-use crate::{Cmd, CmdTable, Renamed, Steps};
+use cmd_table::{Cmd, CmdTable, Renamed, Steps};
 use natives::Natives;
 use std::alloc::Global;
 use std::marker::Brand;

@@ -1,7 +1,7 @@
-use super::*;
 use VarFault::{Exists, IsArray, NoVariable, NotArray};
 use std::alloc::Global;
 use std::test::Fail;
+use tcl_frame::{Frames, VarFault, is_element_name};
 use txt_core::{Known, Text, Words, write_int};
 
 /// A call on frames, or a question about them.

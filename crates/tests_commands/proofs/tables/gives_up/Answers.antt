@@ -1,7 +1,7 @@
 use Rattle.std.proofs.Common.{Ok, Err}
 use Rattle.natives.specs.Answers.{Reply, Answers}
 use Rattle.natives.specs.declared.fault.Fault.TheVariants.{NoMemory}
-use Rattle.cmd_table.proofs.tests.gives_up.Goals as goal
+use Rattle.tests_commands.proofs.tables.gives_up.Goals as goal
 
 -- want of memory is free
 free : (reply : Reply) → Answers reply (Err NoMemory)

@@ -2,7 +2,7 @@
 
 ghost use Rattle.turn_cell.specs.Cells.{IsOf};
 
-use super::*;
+use nsv_bucket::{Bucket, NsvReply, bucket_of, each_key_by_itself, steps_are_determined};
 use std::alloc::Global;
 use std::process::Abort;
 use std::sync::Wait;

@@ -2,7 +2,7 @@ ghost use Rattle.std.specs.Prelude.{◌≡◌, ◌<◌, ◌∷◌, ◌++◌, [],
 ghost use Rattle.natives.specs.Answers.{Reply, Answers};
 ghost use Rattle.natives.specs.Names.{name_of, names_of, has_name};
 
-use super::*;
+use cmd_table::{Cmd, CmdTable, Def, Renamed, Steps};
 use natives::{Fault, Native, Natives};
 use std::alloc::Global;
 use std::marker::Brand;
