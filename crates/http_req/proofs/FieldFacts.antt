@@ -1,12 +1,13 @@
 -- Numbers in digits, and the values of the fields of one name.
-use Rattle.std.proofs.Common.{◌≡◌, ℕ, ◌+◌, ◌-◌, ◌*◌, ◌^◌, ◌<◌, ◌≤◌, Bool, true, false, ◌&&◌, ◌||◌, not, List, [], ◌∷◌, ◌++◌, length, take, map, refl, sym, ap, ◌∙◌, subst, arith, get_or, add-one, Option, Some, None}
+use Rattle.std.proofs.Common.{◌≡◌, ◌≢◌, ℕ, ◌+◌, ◌-◌, ◌*◌, ◌^◌, ◌<◌, ◌≤◌, Bool, true, false, ◌&&◌, ◌||◌, not, List, [], ◌∷◌, ◌++◌, length, take, map, refl, sym, ap, ◌∙◌, subst, arith, get_or, add-one, Option, Some, None}
 use Rattle.std.proofs.lemmas.Bool.Decides.{nat_tests}
 use Rattle.std.proofs.lemmas.Int.Digits.{digits_value_push}
 use Rattle.std.proofs.lemmas.Str.{digit_value_digit}
 use Rattle.std.proofs.lemmas.Str.Parse.{digits_value-take-le, digit_at, digits_value_short, numerals_by_value, tells_digits}
 use Rattle.std.proofs.Math.Seq.{take-suc}
 use Rattle.std.specs.Prelude.{filter, find, nat_lt, nat_le}
-use Rattle.std.specs.Char.{digit_value, is_ascii_digit}
+use Rattle.std.proofs.lemmas.List.Sums.{length-filter}
+use Rattle.std.specs.Char.{digit_value, is_ascii_digit, to_ascii_lowercase}
 use Rattle.std.specs.Int.{IsInRange}
 use Rattle.std.specs.List.{list_all}
 use Rattle.std.specs.Str.Parse.{digits_value, AllDigits}
@@ -14,7 +15,7 @@ use Rattle.std.specs.Prelude.{cond, if◌then◌else◌, codes}
 use Rattle.std.specs.Str.{bytes_eq}
 use Rattle.std.proofs.lemmas.Slice.Eq.{bytes_eq-Decides}
 use Rattle.std.proofs.lemmas.List.Folds.{list_all-map}
-use Rattle.http_req.specs.Fields.{is_named, is_length, are_one_length, length_of, lengths, body_length}
+use Rattle.http_req.specs.Fields.{is_named, codings, are_chunked, is_chunked, count_of, is_length, are_one_length, length_of, lengths, body_length}
 
 digit_is : (b : ℕ) → is_ascii_digit b ≡ true → IsInRange 48 57 b
 digit_is b is = grind (arith, nat_tests)
@@ -148,3 +149,31 @@ pub length_bad : (fields : List (List ℕ × List ℕ)) (first : List ℕ × Lis
 length_bad fields first value found is none =
     sym (length_there fields first found false
     (subst (λ (v : List ℕ). (is_length v && list_all (λ field. not (is_length_field field) || bytes_eq field.1 v) fields) ≡ false) is none))
+
+-- ---- chunked bodies
+
+abbrev pub is_coding_field : List ℕ × List ℕ → Bool
+is_coding_field field = is_named (codes "transfer-encoding") field
+
+-- the field says `chunked`
+abbrev pub says_chunked : List ℕ × List ℕ → Bool
+says_chunked field = bytes_eq (map to_ascii_lowercase field.1) (map to_ascii_lowercase (codes "chunked"))
+
+pub chunked_absent : (fields : List (List ℕ × List ℕ)) → find is_coding_field fields ≡ None → false ≡ is_chunked fields
+chunked_absent fields none =
+    let no : codings fields ≡ [] = ap (map (λ (f : List ℕ × List ℕ). f.1)) (find_none is_coding_field fields none) in
+    rw no refl
+
+pub chunked_first : (fields : List (List ℕ × List ℕ)) (first : List ℕ × List ℕ) → find is_coding_field fields ≡ Some first
+    → (n : ℕ) → n ≡ count_of (codes "transfer-encoding") fields → ((n ≡ 1) → says_chunked first ≡ is_chunked fields) × ((n ≢ 1) → false ≡ is_chunked fields)
+chunked_first fields first found n n_is =
+    let parts = find_some is_coding_field fields first found in
+    let there : codings fields ≡ first.1 ∷ map (λ (f : List ℕ × List ℕ). f.1) parts.0 = ap (map (λ (f : List ℕ × List ℕ). f.1)) parts.1 in
+    let size : length (first ∷ parts.0) ≡ n = ap length (sym parts.1) ∙ length-filter is_coding_field fields ∙ sym n_is in
+    rw there (go parts.0 size)
+  where
+    go : (others : List (List ℕ × List ℕ)) → length (first ∷ others) ≡ n
+        → ((n ≡ 1) → says_chunked first ≡ are_chunked (first.1 ∷ map (λ (f : List ℕ × List ℕ). f.1) others))
+        × ((n ≢ 1) → false ≡ are_chunked (first.1 ∷ map (λ (f : List ℕ × List ℕ). f.1) others))
+    go [] size = (λ one. refl, λ many. absurd (many (omega (arith, size))))
+    go (o ∷ others) size = (λ one. absurd (omega (arith, size, one)), λ many. refl)

@@ -1,5 +1,7 @@
 pub mod Answering
+pub mod BodyFacts
 pub mod CheckFacts
+pub mod ChunkFacts
 pub mod Fetches
 pub mod FieldFacts
 pub mod HeadFacts

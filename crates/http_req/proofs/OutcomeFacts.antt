@@ -1,5 +1,5 @@
 -- What an input is: there is one answer, and which it is at each find.
-use Rattle.std.proofs.Common.{◌≡◌, ◌≢◌, ℕ, ◌<◌, ◌≤◌, inl, inr, List, [], ◌∷◌, ◌++◌, length, take, drop, min, refl, sym, ap, ◌∙◌, subst, arith, append_assoc, length-append}
+use Rattle.std.proofs.Common.{◌≡◌, ◌≢◌, ℕ, ◌<◌, ◌≤◌, inl, inr, List, [], ◌∷◌, ◌++◌, Bool, true, false, Option, Some, None, length, take, drop, min, refl, sym, ap, ◌∙◌, subst, arith, append_assoc, length-append}
 use Rattle.std.specs.Prelude.{All}
 use Rattle.httparse.specs.declared.spans.HeaderSpan.{HeaderSpan}
 use Rattle.httparse.specs.Grammar.{RequestHead, ReadsRequest, NeverHasRequest, MayBecomeRequest, print_request}
@@ -16,9 +16,32 @@ use Rattle.http_req.specs.declared.head.Front.{Front}
 use Rattle.http_req.specs.declared.head.Front.TheVariants as found
 use Rattle.http_req.specs.Heads.{front, IsMalformed}
 use Rattle.http_req.specs.Fronts.{AreWholeLines, HeadStands, FindsFront}
-use Rattle.http_req.specs.Outcomes.{Outcome, Refused, checked, Gets, malformed, oversized, cut, headed, GetsOnly}
+use Rattle.http_req.specs.Outcomes.{Outcome, Refused, sent_front, with_body, with_chunks, BodyIs, CheckedIs, Gets, malformed, oversized, cut, headed, GetsOnly}
 use Rattle.http_req.specs.Requests.{shown, refusal}
+use Rattle.http_req.specs.Fields.{is_chunked, body_length}
+use Rattle.http_req.proofs.ChunkFacts.{chunks_one, chunks_some}
 use Rattle.http_req.proofs.HeadFacts.{request_bytes, not_in_target, fine_by_lines}
+
+body_one : (chunked : Bool) (input peer : List ℕ) (head : RequestHead) (a b : Outcome) → BodyIs chunked input peer head a → BodyIs chunked input peer head b → b ≡ a
+body_one true input peer head a b (s, sent, is) (s', sent', is') =
+    let same : s ≡ s' = chunks_one 0 (sent_front (length (print_request head)) input) s s' sent sent' in
+    is' ∙ ap (with_chunks input peer head) (sym same) ∙ sym is
+body_one false input peer head a b is is' = is' ∙ sym is
+
+checked_one : (refused : Option ℕ) (input peer : List ℕ) (head : RequestHead) (a b : Outcome) → CheckedIs refused input peer head a → CheckedIs refused input peer head b → b ≡ a
+checked_one (Some status) input peer head a b is is' = is' ∙ sym is
+checked_one None input peer head a b is is' = body_one (is_chunked (shown head [] peer).fields) input peer head a b is is'
+
+-- behind each head there is something
+checked_some : (refused : Option ℕ) (input peer : List ℕ) (head : RequestHead) → (outcome : Outcome) × CheckedIs refused input peer head outcome
+checked_some (Some status) input peer head = (Refused status, refl)
+checked_some None input peer head = go (is_chunked (shown head [] peer).fields)
+  where
+    go : (chunked : Bool) → (outcome : Outcome) × BodyIs chunked input peer head outcome
+    go true =
+        let sent = chunks_some (length (sent_front (length (print_request head)) input)) 0 (sent_front (length (print_request head)) input) (omega arith) in
+        (with_chunks input peer head sent.0, (sent.0, sent.1, refl))
+    go false = (with_body input peer head (body_length (shown head [] peer).fields), refl)
 
 -- each input is one thing only
 pub gets_one : (input peer : List ℕ) (a b : Outcome) → Gets input peer a → Gets input peer b → b ≡ a
@@ -39,7 +62,8 @@ gets_one input peer a b (headed head rest reads is) (oversized none' fine many i
 gets_one input peer a b (headed head rest reads is) (cut none' fine few is') = absurd (none' head rest reads)
 gets_one input peer a b (headed head rest reads is) (headed head' rest' reads' is') =
     let same = request_unique (front input) head head' rest rest' reads reads' in
-    is' ∙ ap (λ (h : RequestHead). checked input peer h (refusal (shown h [] peer))) (sym same.0) ∙ sym is
+    checked_one (refusal (shown head [] peer)) input peer head a b is
+    (subst (λ (h : RequestHead). CheckedIs (refusal (shown h [] peer)) input peer h b) (sym same.0) is')
 
 only_this : (input peer : List ℕ) (outcome : Outcome) → Gets input peer outcome → (o : Outcome) × GetsOnly input peer o
 only_this input peer outcome gets = (outcome, record { gets = gets; only = λ other found. gets_one input peer outcome other gets found })
@@ -48,7 +72,8 @@ only_this input peer outcome gets = (outcome, record { gets = gets; only = λ ot
 pub one_by_front : (input : List ℕ) (spans : List HeaderSpan) (found : Front) → FindsFront input spans found
     → (peer : List ℕ) → (outcome : Outcome) × GetsOnly input peer outcome
 one_by_front input spans (found.Head head) stands peer =
-    only_this input peer _ (headed stands.of.0 _ stands.of.1.reads refl)
+    let some = checked_some (refusal (shown stands.of.0 [] peer)) input peer stands.of.0 in
+    only_this input peer some.0 (headed stands.of.0 _ stands.of.1.reads some.1)
 one_by_front input spans (found.Refused status) gets peer = only_this input peer _ (gets peer)
 one_by_front input spans found.Cut gets peer = only_this input peer _ (gets.0 peer)
 

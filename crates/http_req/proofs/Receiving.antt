@@ -12,15 +12,17 @@ use Rattle.http_req.specs.declared.request.Got.TheVariants as got
 use Rattle.http_req.specs.declared.carry.Stop.{Stop}
 use Rattle.http_req.specs.declared.carry.Stop.TheVariants as stop
 use Rattle.http_req.specs.Fetching.{Moves, Stopped}
-use Rattle.http_req.specs.Fields.{body_length}
+use Rattle.http_req.specs.Chunks.{Sent, whole, rejected, partial, ChunksAt}
+use Rattle.http_req.specs.Fields.{body_length, is_chunked}
 use Rattle.http_req.specs.Heads.{front, IsMalformed}
-use Rattle.http_req.specs.Outcomes.{Outcome, Whole, Refused, ended, with_body, checked, Gets, malformed, oversized, cut, headed}
+use Rattle.http_req.specs.Outcomes.{Outcome, Whole, Refused, ended, sent_front, with_body, with_chunks, BodyIs, CheckedIs, Gets, malformed, oversized, cut, headed}
 use Rattle.http_req.specs.Readings.{cut_answer, Passes, Fails, Stops, Receives, Received}
 use Rattle.httparse.specs.declared.spans.HeaderSpan.{HeaderSpan}
 use Rattle.httparse.specs.declared.spans.RequestSpans.{RequestSpans}
 use Rattle.httparse.specs.Spans.{IsRequestAt, header_bytes, name_and_value}
 use Rattle.http_req.specs.Fronts.{HeadStands}
 use Rattle.http_req.specs.Requests.{shown, refusal}
+use Rattle.http_req.proofs.ChunkFacts.{chunks_more, chunks_left}
 use Rattle.http_req.proofs.CheckFacts.{too_many, checks_passed}
 use Rattle.std.proofs.lemmas.List.{length-map}
 use Rattle.http_req.proofs.HeadFacts.{two_fronts}
@@ -137,10 +139,10 @@ body_more input more start size within =
     let first : start ≤ length input = omega arith in
     rw (drop-append-le start input more first) (take-append-le size (drop start input) more (omega (arith, length-drop start input)))
 
-le_is : (a b : ℕ) → a ≤ b → nat_le a b ≡ true
+pub le_is : (a b : ℕ) → a ≤ b → nat_le a b ≡ true
 le_is a b most = grind (arith, nat_tests)
 
-le_not : (a b : ℕ) → b < a → nat_le a b ≡ false
+pub le_not : (a b : ℕ) → b < a → nat_le a b ≡ false
 le_not a b less = grind (arith, nat_tests)
 
 le_true : (a b : ℕ) → nat_le a b ≡ true → a ≤ b
@@ -175,10 +177,73 @@ with_body_more input more peer head size outcome decided is = go (nat_le (length
         )
     go false le is = absurd (decided.not_ended input is)
 
-checked_more : (input more peer : List ℕ) (head : RequestHead) (refused : Option ℕ) (outcome : Outcome) → IsDecided outcome
-    → outcome ≡ checked input peer head refused → outcome ≡ checked (input ++ more) peer head refused
-checked_more input more peer head (Some status) outcome decided is = is
-checked_more input more peer head None outcome decided is = (with_body_more input more peer head _ outcome decided is).0
+-- a head stands within the input
+pub head_within : (input : List ℕ) (head : RequestHead) (rest : List ℕ) → ReadsRequest (front input) head rest → length (print_request head) ≤ length input
+unfolding front
+head_within input head rest reads =
+    omega (arith, ap length reads.1, length-append (print_request head) rest, length-take 16384 input)
+
+-- more bytes are sent behind those that were
+pub sent_more : (start : ℕ) (input more : List ℕ) → start ≤ length input
+    → (extra : List ℕ) × (sent_front start (input ++ more) ≡ sent_front start input ++ extra)
+unfolding sent_front
+sent_more start input more within = (
+  take (33554432 - length (drop start input)) more,
+  ap (take 33554432) (drop-append-le start input more within) ∙ take-append 33554432 (drop start input) more,
+)
+
+pub sent_same : (start : ℕ) (input more : List ℕ) → start + 33554432 ≤ length input → sent_front start (input ++ more) ≡ sent_front start input
+unfolding sent_front
+sent_same start input more full =
+    ap (take 33554432) (drop-append-le start input more (omega (arith, full))) ∙ take-append-le 33554432 (drop start input) more (omega (arith, full, length-drop start input))
+
+pub sent_size : (start : ℕ) (input : List ℕ) → start ≤ length input → (start + length (sent_front start input) ≤ length input) × (length (sent_front start input) ≤ 33554432)
+unfolding sent_front
+sent_size start input within =
+    (omega (arith, within, length-take 33554432 (drop start input), length-drop start input), omega (arith, length-take 33554432 (drop start input)))
+
+-- what is decided of a body in chunks stands
+chunks_body_more : (input more peer : List ℕ) (head : RequestHead) (outcome : Outcome) → length (print_request head) ≤ length input → IsDecided outcome
+    → (sent : Sent) → ChunksAt 0 (sent_front (length (print_request head)) input) sent → outcome ≡ with_chunks input peer head sent
+    → BodyIs true (input ++ more) peer head outcome
+chunks_body_more input more peer head outcome within decided (whole body left) chunks is =
+    let further = sent_more (length (print_request head)) input more within in
+    let there = chunks_more 0 (sent_front (length (print_request head)) input) further.0 (whole body left) (λ e. cc) chunks in
+    let few = chunks_left 0 (sent_front (length (print_request head)) input) (whole body left) chunks body left refl in
+    let sizes : length (sent_front (length (print_request head)) (input ++ more)) - (left + length further.0) ≡ length (sent_front (length (print_request head)) input) - left =
+    omega (arith, few, ap length further.1, length-append (sent_front (length (print_request head)) input) further.0) in (
+      whole body (left + length further.0),
+      subst (λ (t : List ℕ). ChunksAt 0 t (whole body (left + length further.0))) (sym further.1) there,
+      is ∙ ap (λ n. Whole (shown head body peer) (length (print_request head) + n)) (sym sizes),
+    )
+chunks_body_more input more peer head outcome within decided (rejected status) chunks is =
+    let further = sent_more (length (print_request head)) input more within in
+    let there = chunks_more 0 (sent_front (length (print_request head)) input) further.0 (rejected status) (λ e. cc) chunks in
+    (rejected status, subst (λ (t : List ℕ). ChunksAt 0 t (rejected status)) (sym further.1) there, is)
+chunks_body_more input more peer head outcome within decided partial chunks is = go (nat_le (length (print_request head) + 33554432) (length input)) refl is
+  where
+    go : (full : Bool) → nat_le (length (print_request head) + 33554432) (length input) ≡ full → outcome ≡ (if full then Refused 413 else ended input)
+        → BodyIs true (input ++ more) peer head outcome
+    go true full is =
+        let long : length (print_request head) + 33554432 ≤ length input = le_true (length (print_request head) + 33554432) (length input) full in
+        let still : nat_le (length (print_request head) + 33554432) (length (input ++ more)) ≡ true =
+        le_is (length (print_request head) + 33554432) (length (input ++ more)) (omega (arith, long, length-append input more)) in (
+          partial,
+          subst (λ (t : List ℕ). ChunksAt 0 t partial) (sym (sent_same (length (print_request head)) input more long)) chunks,
+          is ∙ ap (λ v. if v then Refused 413 else ended (input ++ more)) (sym still),
+        )
+    go false full is = absurd (decided.not_ended input is)
+
+body_is_more : (chunked : Bool) (input more peer : List ℕ) (head : RequestHead) (outcome : Outcome) → length (print_request head) ≤ length input → IsDecided outcome
+    → BodyIs chunked input peer head outcome → BodyIs chunked (input ++ more) peer head outcome
+body_is_more true input more peer head outcome within decided (sent, chunks, is) = chunks_body_more input more peer head outcome within decided sent chunks is
+body_is_more false input more peer head outcome within decided is = (with_body_more input more peer head _ outcome decided is).0
+
+checked_more : (input more peer : List ℕ) (head : RequestHead) (refused : Option ℕ) (outcome : Outcome) → length (print_request head) ≤ length input → IsDecided outcome
+    → CheckedIs refused input peer head outcome → CheckedIs refused (input ++ more) peer head outcome
+checked_more input more peer head (Some status) outcome within decided is = is
+checked_more input more peer head None outcome within decided is =
+    body_is_more (is_chunked (shown head [] peer).fields) input more peer head outcome within decided is
 
 pub gets_more : (input more peer : List ℕ) (outcome : Outcome) → IsDecided outcome → Gets input peer outcome → Gets (input ++ more) peer outcome
 gets_more input more peer outcome decided (malformed none wrong is) =
@@ -191,24 +256,39 @@ gets_more input more peer outcome decided (oversized none fine many is) =
 gets_more input more peer outcome decided (cut none fine few is) = absurd (decided.not_ended input is)
 gets_more input more peer outcome decided (headed head rest reads is) =
     let there = head_more input more head rest reads in
-    headed head there.0 there.1 (checked_more input more peer head (refusal (shown head [] peer)) outcome decided is)
+    headed head there.0 there.1 (checked_more input more peer head (refusal (shown head [] peer)) outcome (head_within input head rest reads) decided is)
 
-whole_checked : (input peer : List ℕ) (head : RequestHead) (refused : Option ℕ) (request : Request) (used : ℕ)
-    → Whole request used ≡ checked input peer head refused → used ≤ length input
-whole_checked input peer head (Some status) request used is = absurd (cc)
-whole_checked input peer head None request used is =
+whole_body_within : (chunked : Bool) (input peer : List ℕ) (head : RequestHead) (request : Request) (used : ℕ) → length (print_request head) ≤ length input
+    → BodyIs chunked input peer head (Whole request used) → used ≤ length input
+whole_body_within true input peer head request used within (whole body left, chunks, is) =
+    let used_is : used ≡ length (print_request head) + (length (sent_front (length (print_request head)) input) - left) = cc in
+    omega (arith, used_is, (sent_size (length (print_request head)) input within).0)
+whole_body_within true input peer head request used within (rejected status, chunks, is) = absurd (cc)
+whole_body_within true input peer head request used within (partial, chunks, is) = absurd (go (nat_le (length (print_request head) + 33554432) (length input)) is)
+  where
+    go : (full : Bool) → Whole request used ≡ (if full then Refused 413 else ended input) → ⊥
+    go true is = cc
+    go false is = (whole_decided request used).not_ended input is
+whole_body_within false input peer head request used within is =
     let size = body_length (shown head [] peer).fields in
-    let within = (with_body_more input [] peer head size (Whole request used) (whole_decided request used) is).1 in
-    let same : Whole request used ≡ Whole (shown head (take size (drop (length (print_request head)) input)) peer) (length (print_request head) + size) = is ∙ whole_body input peer head size within in
+    let inside = (with_body_more input [] peer head size (Whole request used) (whole_decided request used) is).1 in
+    let same : Whole request used ≡ Whole (shown head (take size (drop (length (print_request head)) input)) peer) (length (print_request head) + size) = is ∙ whole_body input peer head size inside in
     let used_is : used ≡ length (print_request head) + size = cc in
-    omega (arith, within, used_is)
+    omega (arith, inside, used_is)
+
+whole_checked : (input peer : List ℕ) (head : RequestHead) (refused : Option ℕ) (request : Request) (used : ℕ) → length (print_request head) ≤ length input
+    → CheckedIs refused input peer head (Whole request used) → used ≤ length input
+whole_checked input peer head (Some status) request used within is = absurd (cc)
+whole_checked input peer head None request used within is =
+    whole_body_within (is_chunked (shown head [] peer).fields) input peer head request used within is
 
 -- a request takes no more bytes than there are
 pub whole_within : (input peer : List ℕ) (request : Request) (used : ℕ) → Gets input peer (Whole request used) → used ≤ length input
 whole_within input peer request used (malformed none wrong is) = absurd (cc)
 whole_within input peer request used (oversized none fine many is) = absurd (cc)
 whole_within input peer request used (cut none fine few is) = absurd ((whole_decided request used).not_ended input is)
-whole_within input peer request used (headed head rest reads is) = whole_checked input peer head (refusal (shown head [] peer)) request used is
+whole_within input peer request used (headed head rest reads is) =
+    whole_checked input peer head (refusal (shown head [] peer)) request used (head_within input head rest reads) is
 
 -- ---- the head's checks
 
@@ -227,7 +307,7 @@ pub crowded : (input : List ℕ) (spans : List HeaderSpan) (head : RequestSpans)
     → (peer : List ℕ) → Gets input peer (Refused 431)
 crowded input spans head stands many peer =
     headed stands.of.0 (drop head.len (front input)) stands.of.1.reads
-    (ap (checked input peer stands.of.0) (too_many (shown stands.of.0 [] peer) (omega (arith, many, count_is input spans head stands))))
+    (subst (λ r. CheckedIs r input peer stands.of.0 (Refused 431)) (too_many (shown stands.of.0 [] peer) (omega (arith, many, count_is input spans head stands))) refl)
 
 pub few_shown : (input : List ℕ) (spans : List HeaderSpan) (head : RequestSpans) (peer : List ℕ) (request : Request) → HeadStands (front input) spans head
     → ((tree : RequestHead) → IsRequestAt (front input) spans head tree → request ≡ shown tree [] peer) → head.headers ≤ 100
@@ -260,41 +340,48 @@ pub fails_head : (input : List ℕ) (spans : List HeaderSpan) (head : RequestSpa
     → Gets input peer (Refused status)
 fails_head input spans head peer request status stands shows some =
     headed stands.of.0 (drop head.len (front input)) stands.of.1.reads
-    (ap (checked input peer stands.of.0) (some ∙ ap refusal (shows stands.of.0 stands.of.1)))
+    (subst (λ r. CheckedIs r input peer stands.of.0 (Refused status)) (some ∙ ap refusal (shows stands.of.0 stands.of.1)) refl)
 
 -- ---- the body
 
+-- a head that passes, and an outcome of its body
+pub body_gets : (a b : List ℕ) (r s : Option (List ℕ)) (f g : ℕ) (peer : List ℕ) (start : ℕ) (request : Request) → (passes : Passes a peer start request) → Moves a r f b s g
+    → (chunked : Bool) → is_chunked request.fields ≡ chunked → (outcome : Outcome) → BodyIs chunked b peer passes.head outcome → Gets b peer outcome
+body_gets a b r s f g peer start request passes moves chunked way outcome is =
+    let there = head_more a moves.given passes.head passes.rest passes.reads in
+    let fields : chunked ≡ is_chunked (shown passes.head [] peer).fields = sym way ∙ ap (λ (q : Request). is_chunked q.fields) passes.request_is in
+    headed passes.head there.0 (subst (λ (t : List ℕ). ReadsRequest (front t) passes.head there.0) (sym moves.kept) there.1)
+    (subst (λ r. CheckedIs r b peer passes.head outcome) (sym passes.passes) (subst (λ v. BodyIs v b peer passes.head outcome) fields is))
+
 -- where the body isn't whole, the input ends too early
 pub body_short : (a b : List ℕ) (r s : Option (List ℕ)) (f g : ℕ) (peer : List ℕ) (start : ℕ) (request : Request) → Passes a peer start request → Moves a r f b s g
-    → length b < start + body_length request.fields → Gets b peer (ended b)
-body_short a b r s f g peer start request passes moves less =
-    let there = head_more a moves.given passes.head passes.rest passes.reads in
+    → is_chunked request.fields ≡ false → length b < start + body_length request.fields → Gets b peer (ended b)
+body_short a b r s f g peer start request passes moves plain less =
     let fields : body_length request.fields ≡ body_length (shown passes.head [] peer).fields = ap (λ (q : Request). body_length q.fields) passes.request_is in
-    headed passes.head there.0 (subst (λ (t : List ℕ). ReadsRequest (front t) passes.head there.0) (sym moves.kept) there.1)
-    (sym (ap (checked b peer passes.head) passes.passes ∙ short_body b peer passes.head (body_length (shown passes.head [] peer).fields) (omega (arith, less, passes.start_is, fields))))
+    body_gets a b r s f g peer start request passes moves false plain (ended b)
+    (sym (short_body b peer passes.head (body_length (shown passes.head [] peer).fields) (omega (arith, less, passes.start_is, fields))))
 
 -- where it is, the input is the request with it
-pub body_whole : (a b : List ℕ) (r s : Option (List ℕ)) (f g : ℕ) (peer : List ℕ) (start : ℕ) (request whole : Request) (used : ℕ) → Passes a peer start request → Moves a r f b s g
-    → used ≡ start + body_length request.fields → used ≤ length b
-    → whole ≡ record request { body = take (used - start) (drop start b) } → Gets b peer (Whole whole used)
-body_whole a b r s f g peer start request whole used passes moves used_is enough whole_is =
-    let there = head_more a moves.given passes.head passes.rest passes.reads in
+pub body_whole : (a b : List ℕ) (r s : Option (List ℕ)) (f g : ℕ) (peer : List ℕ) (start : ℕ) (request full : Request) (used : ℕ) → Passes a peer start request → Moves a r f b s g
+    → is_chunked request.fields ≡ false → used ≡ start + body_length request.fields → used ≤ length b
+    → full ≡ record request { body = take (used - start) (drop start b) } → Gets b peer (Whole full used)
+body_whole a b r s f g peer start request full used passes moves plain used_is enough full_is =
     let size = body_length (shown passes.head [] peer).fields in
     let fields : body_length request.fields ≡ size = ap (λ (q : Request). body_length q.fields) passes.request_is in
     let used_of : used ≡ length (print_request passes.head) + size = omega (arith, used_is, passes.start_is, fields) in
     let body_is : used - start ≡ size = omega (arith, used_is, fields) in
-    let shows : whole ≡ shown passes.head (take size (drop (length (print_request passes.head)) b)) peer =
-    whole_is
+    let shows : full ≡ shown passes.head (take size (drop (length (print_request passes.head)) b)) peer =
+    full_is
     ∙ ap (λ (q : Request). record q { body = take (used - start) (drop start b) }) passes.request_is
     ∙ ap (λ n. shown passes.head (take n (drop start b)) peer) body_is
     ∙ ap (λ n. shown passes.head (take size (drop n b)) peer) passes.start_is in
-    headed passes.head there.0 (subst (λ (t : List ℕ). ReadsRequest (front t) passes.head there.0) (sym moves.kept) there.1)
+    body_gets a b r s f g peer start request passes moves false plain (Whole full used)
     (ap (λ (q : Request). Whole q used) shows ∙ ap (λ n. Whole (shown passes.head (take size (drop (length (print_request passes.head)) b)) peer) n) used_of
-    ∙ sym (ap (checked b peer passes.head) passes.passes ∙ whole_body b peer passes.head size (omega (arith, enough, used_of))))
+    ∙ sym (whole_body b peer passes.head size (omega (arith, enough, used_of))))
 
 -- the length that is read
 pub read_length : (input peer : List ℕ) (start : ℕ) (request : Request) → Passes input peer start request → (told : Option ℕ) → told ≡ length_told request.fields
-    → (n : ℕ) → n ≡ unwrap_or told 0 → (n ≡ body_length request.fields) × (start + n ≤ 1064960)
+    → (n : ℕ) → n ≡ unwrap_or told 0 → (n ≡ body_length request.fields) × (start + n ≤ 8404992)
 read_length input peer start request passes told told_is n n_is =
     let both = checks_passed request (ap refusal passes.request_is ∙ passes.passes) in
     let is : n ≡ body_length request.fields =
@@ -355,3 +442,20 @@ pub received_refusal : (a : List ℕ) (r : Option (List ℕ)) (f : ℕ) (b : Lis
 received_refusal a r f b s g input peer answer moves same fails =
     received_no_request a r f b s g peer answer moves
     (fails_stops b r f s g peer answer (subst (λ (t : List ℕ). Fails t peer answer) same fails))
+
+-- what is sent, as a slice
+pub sent_slice : (start : ℕ) (input : List ℕ) (end : ℕ) → start ≤ length input → end ≡ min (length input) (start + 33554432)
+    → take (end - start) (drop start input) ≡ sent_front start input
+unfolding sent_front
+sent_slice start input end within is =
+    elim (le_or_less (start + 33554432) (length input)) [
+      | inl long ↦ let size : end - start ≡ 33554432 = omega (arith, is, long) in ap (λ n. take n (drop start input)) size
+      | inr short ↦
+          take_all (end - start) (drop start input) (omega (arith, is, short, length-drop start input))
+          ∙ sym (take_all 33554432 (drop start input) (omega (arith, short, length-drop start input)))
+    ]
+
+-- where less came than may be sent, all of it is looked at
+pub sent_exact : (start : ℕ) (input : List ℕ) → start ≤ length input → length input < start + 33554432 → start + length (sent_front start input) ≡ length input
+unfolding sent_front
+sent_exact start input within few = omega (arith, within, few, length-take 33554432 (drop start input), length-drop start input)

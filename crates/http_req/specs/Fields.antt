@@ -1,5 +1,5 @@
 -- What the fields of a request say. A field is a name and a value.
-use Rattle.std.specs.Prelude.{◌==◌, ℕ, Bool, true, ◌&&◌, ◌||◌, List, [], ◌∷◌, length, map, filter, count_by, nat_lt, nat_le, codes}
+use Rattle.std.specs.Prelude.{◌==◌, ℕ, Bool, true, false, not, ◌&&◌, ◌||◌, List, [], ◌∷◌, length, map, filter, count_by, nat_lt, nat_le, codes}
 use Rattle.std.specs.List.{list_all}
 use Rattle.std.specs.Str.{bytes_eq}
 use Rattle.std.specs.Char.{is_ascii_digit, to_ascii_lowercase}
@@ -40,9 +40,27 @@ lengths fields = values_of (codes "content-length") fields
 abbrev pub body_length : List (List ℕ × List ℕ) → ℕ
 body_length fields = length_of (lengths fields)
 
--- the body comes in another way than by its length
+-- the values of Transfer-Encoding
+abbrev pub codings : List (List ℕ × List ℕ) → List (List ℕ)
+codings fields = values_of (codes "transfer-encoding") fields
+
+-- the values are one, which is `chunked`, whatever the case of its letters
+abbrev pub are_chunked : List (List ℕ) → Bool
+are_chunked [] = false
+are_chunked (value ∷ []) = bytes_eq (map to_ascii_lowercase value) (map to_ascii_lowercase (codes "chunked"))
+are_chunked (value ∷ other ∷ more) = false
+
+-- the body comes in chunks
+abbrev pub is_chunked : List (List ℕ × List ℕ) → Bool
+is_chunked fields = are_chunked (codings fields)
+
+-- the body comes in another way than by its length or in chunks
 abbrev pub is_coded : List (List ℕ × List ℕ) → Bool
-is_coded fields = nat_lt 0 (count_of (codes "transfer-encoding") fields)
+is_coded fields = nat_lt 0 (count_of (codes "transfer-encoding") fields) && not (is_chunked fields)
+
+-- the body comes in chunks where none may: in HTTP/1.0, or beside a length
+abbrev pub is_mixed : ℕ → List (List ℕ × List ℕ) → Bool
+is_mixed minor fields = is_chunked fields && (minor == 0 || nat_lt 0 (count_of (codes "content-length") fields))
 
 -- one host is named, or none by HTTP/1.0
 abbrev pub has_host : ℕ → List (List ℕ × List ℕ) → Bool

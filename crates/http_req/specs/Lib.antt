@@ -5,6 +5,10 @@ pub mod Heads
 pub mod Fields
 pub mod Targets
 pub mod Requests
+pub mod ChunkLines
+pub mod Trailers
+pub mod Chunks
+pub mod Bodies
 pub mod Outcomes
 pub mod Readings
 -- What only proofs use.

@@ -1,12 +1,13 @@
 -- What an input is, taken as a whole.
-use Rattle.std.specs.Prelude.{◌≡◌, ℕ, ◌+◌, ◌<◌, ◌≤◌, List, [], ◌∷◌, length, take, drop, nat_le, if◌then◌else◌, Option, Some, None}
+use Rattle.std.specs.Prelude.{◌≡◌, ℕ, ◌+◌, ◌-◌, ◌<◌, ◌≤◌, Bool, true, false, List, [], ◌∷◌, length, take, drop, nat_le, if◌then◌else◌, Option, Some, None}
 use Rattle.httparse.specs.Grammar.{RequestHead, print_request, ReadsRequest, HasNoRequest}
 use Rattle.http_req.specs.declared.request.Request.{Request}
-use Rattle.http_req.specs.Fields.{body_length}
+use Rattle.http_req.specs.Chunks.{Sent, whole, rejected, partial, ChunksAt}
+use Rattle.http_req.specs.Fields.{body_length, is_chunked}
 use Rattle.http_req.specs.Heads.{front, IsMalformed}
-use Rattle.http_req.specs.Limits.{head_limit}
+use Rattle.http_req.specs.Limits.{head_limit, sent_limit}
 use Rattle.http_req.specs.Requests.{shown, refusal}
-use Rattle.http_req.specs.Statuses.{bad_request, fields_too_large}
+use Rattle.http_req.specs.Statuses.{bad_request, content_too_large, fields_too_large}
 
 -- a request that takes so many bytes; no byte; so many bytes, less than a request; what is refused
 pub data Outcome : Type 0 where
@@ -28,10 +29,30 @@ with_body input peer head size =
     then Whole (shown head (take size (drop start input)) peer) (start + size)
     else ended input
 
+-- the bytes in which a chunked body is to stand, behind a head that takes so many
+unfoldable pub sent_front : ℕ → List ℕ → List ℕ
+sent_front start input = take sent_limit (drop start input)
+
+-- What the input is, from what is sent behind its head: the request with the body of the chunks; what is refused, also where
+-- the body isn't whole in as many bytes as a chunked one may take; or less than a request.
+abbrev pub with_chunks : List ℕ → List ℕ → RequestHead → Sent → Outcome
+with_chunks input peer head (whole body left) =
+    let start = length (print_request head) in
+    Whole (shown head body peer) (start + (length (sent_front start input) - left))
+with_chunks input peer head (rejected status) = Refused status
+with_chunks input peer head partial =
+    if nat_le (length (print_request head) + sent_limit) (length input) then Refused content_too_large else ended input
+
+-- the body in chunks, or of as many bytes as the fields say
+abbrev pub BodyIs : Bool → List ℕ → List ℕ → RequestHead → Outcome → Type 0
+BodyIs true input peer head outcome =
+    (sent : Sent) × ChunksAt 0 (sent_front (length (print_request head)) input) sent × (outcome ≡ with_chunks input peer head sent)
+BodyIs false input peer head outcome = outcome ≡ with_body input peer head (body_length (shown head [] peer).fields)
+
 -- an input that begins with the head, whose checks gave this status, or none
-abbrev pub checked : List ℕ → List ℕ → RequestHead → Option ℕ → Outcome
-checked input peer head (Some status) = Refused status
-checked input peer head None = with_body input peer head (body_length (shown head [] peer).fields)
+abbrev pub CheckedIs : Option ℕ → List ℕ → List ℕ → RequestHead → Outcome → Type 0
+CheckedIs (Some status) input peer head outcome = outcome ≡ Refused status
+CheckedIs None input peer head outcome = BodyIs (is_chunked (shown head [] peer).fields) input peer head outcome
 
 -- What an input from a peer is.
 --   malformed: there is no head, and at the end of a line it is plain that there will be none;
@@ -46,7 +67,7 @@ pub data Gets (input peer : List ℕ) (outcome : Outcome) : Type 0 where
   cut : HasNoRequest (front input) → ¬ (IsMalformed (front input)) → length input < head_limit
       → outcome ≡ ended input → Gets input peer outcome
   headed : (head : RequestHead) (rest : List ℕ) → ReadsRequest (front input) head rest
-      → outcome ≡ checked input peer head (refusal (shown head [] peer)) → Gets input peer outcome
+      → CheckedIs (refusal (shown head [] peer)) input peer head outcome → Gets input peer outcome
 
 -- it is this, and nothing else
 pub record GetsOnly (input peer : List ℕ) (outcome : Outcome) : Type 0 where

@@ -2,19 +2,19 @@
 
 ghost use Rattle.std.specs.Prelude.{◌≡◌, ◌≤◌, length};
 ghost use Rattle.std.specs.List.{list_any};
-ghost use Rattle.http_req.specs.Fields.{is_coded, has_host};
+ghost use Rattle.http_req.specs.Fields.{has_host};
 ghost use Rattle.http_req.specs.Limits.{field_limit};
 ghost use Rattle.http_req.specs.Requests.{is_served, refusal};
 ghost use Rattle.http_req.specs.Targets.{is_unsafe};
 
-use crate::fields::{body_length, count_of};
+use crate::fields::{body_length, count_of, is_coded, is_mixed};
 use crate::request::Request;
 use crate::status::{BAD_REQUEST, CONTENT_TOO_LARGE, NOT_IMPLEMENTED};
 use crate::target::{is_target, is_unsafe};
 use txt_core::Text;
 
 /// A body has at most so many bytes.
-const BODY_LIMIT: u64 = 1_048_576;
+pub(crate) const BODY_LIMIT: u64 = 8_388_608;
 
 /// A head has at most so many fields.
 pub(crate) const FIELD_LIMIT: usize = 100;
@@ -27,6 +27,9 @@ pub(crate) fn refusal(request: &Request) -> Option<u16>
     let fields = request.fields.as_slice();
     if !is_served(request.method.bytes()) || is_coded(fields) {
         return Some(NOT_IMPLEMENTED);
+    }
+    if is_mixed(request.minor, fields) {
+        return Some(BAD_REQUEST);
     }
     let Some(length) = body_length(fields) else {
         return Some(BAD_REQUEST);
@@ -52,13 +55,6 @@ fn is_served(method: &[u8]) -> bool
         || method == b"POST".as_slice()
         || method == b"PUT".as_slice()
         || method == b"DELETE".as_slice()
-}
-
-/// Whether the body comes in another way than by its length (RFC 9112, section 6.1).
-fn is_coded(fields: &[(Text, Text)]) -> bool
-    ensures { result ≡ is_coded fields.now }
-{
-    count_of(fields, b"transfer-encoding") > 0
 }
 
 /// Whether one host is named, or none by HTTP/1.0 (RFC 9112, section 3.2).

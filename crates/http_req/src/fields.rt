@@ -1,16 +1,18 @@
 //! What the fields of a request say.
 
-ghost use Rattle.std.specs.Prelude.{◌≡◌, ◌||◌, not, IsTrue, if◌then◌else◌, codes};
+ghost use Rattle.std.specs.Prelude.{◌≡◌, ◌||◌, not, IsTrue, if◌then◌else◌, codes, map};
 ghost use Rattle.std.specs.List.{list_all, find};
 ghost use Rattle.std.specs.Option.{option_copied};
-ghost use Rattle.std.specs.Char.{is_ascii_digit};
+ghost use Rattle.std.specs.Char.{is_ascii_digit, to_ascii_lowercase};
 ghost use Rattle.std.specs.Str.{bytes_eq};
 ghost use Rattle.std.specs.Str.Parse.{digits_value};
-ghost use Rattle.http_req.specs.Fields.{is_named, count_of, is_length, are_one_length, body_length, lengths};
+ghost use Rattle.http_req.specs.Fields.{is_named, count_of, is_chunked, is_coded, is_mixed, is_length, are_one_length, body_length, lengths};
 
 use txt_core::Text;
 
 const CONTENT_LENGTH: &[u8] = b"content-length";
+
+const TRANSFER_ENCODING: &[u8] = b"transfer-encoding";
 
 /// A length is written in at most so many digits.
 const DIGIT_LIMIT: usize = 19;
@@ -26,6 +28,41 @@ pub(crate) fn count_of(fields: &[(Text, Text)], name: &[u8]) -> usize
     ensures { result ≡ count_of name.now fields.now }
 {
     fields.iter().filter(|field| is_named(field, name)).count()
+}
+
+/// Whether the body comes in chunks: there is one Transfer-Encoding field, and it says `chunked`, whatever
+/// the case of its letters (RFC 9112, section 6.1).
+pub(crate) fn is_chunked(fields: &[(Text, Text)]) -> bool
+    ensures { result ≡ is_chunked fields.now }
+{
+    let Some(first) = first_of(fields, TRANSFER_ENCODING) else {
+        return false;
+    };
+    if count_of(fields, TRANSFER_ENCODING) != 1 {
+        return false;
+    }
+    says_chunked(first)
+}
+
+fn says_chunked(field: &(Text, Text)) -> bool
+    ensures { result ≡ bytes_eq (map to_ascii_lowercase field.now.1) (map to_ascii_lowercase (codes "chunked")) }
+{
+    field.1.bytes().eq_ignore_ascii_case(b"chunked")
+}
+
+/// Whether the body comes in another way than by its length or in chunks.
+pub(crate) fn is_coded(fields: &[(Text, Text)]) -> bool
+    ensures { result ≡ is_coded fields.now }
+{
+    count_of(fields, TRANSFER_ENCODING) > 0 && !is_chunked(fields)
+}
+
+/// Whether the body comes in chunks where none may: in HTTP/1.0, or beside a length (RFC 9112, sections
+/// 6.1 and 6.3).
+pub(crate) fn is_mixed(minor: u8, fields: &[(Text, Text)]) -> bool
+    ensures { result ≡ is_mixed minor fields.now }
+{
+    is_chunked(fields) && (minor == 0 || count_of(fields, CONTENT_LENGTH) > 0)
 }
 
 /// How long the body is, by Content-Length (RFC 9112, section 6.3); 0 where there is no such field.

@@ -1,8 +1,11 @@
 //! The reading of requests: what an input is, decided as a whole, over any source in any pieces.
 #![tactic(auto)]
 
+mod body;
 mod carry;
 mod checks;
+mod chunk;
+mod chunk_line;
 mod fields;
 mod head;
 mod reading;
@@ -11,6 +14,7 @@ mod status;
 mod target;
 #[cfg(test)]
 mod tests;
+mod trailer;
 
 pub use carry::Carry;
 pub use head::{FIELD_ROOM, Front, HEAD_LIMIT, find_head};

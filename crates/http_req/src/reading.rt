@@ -8,12 +8,12 @@ ghost use Rattle.http_req.specs.Fetching.{Moves};
 ghost use Rattle.http_req.specs.Fronts.{HeadStands};
 ghost use Rattle.http_req.specs.Heads.{front};
 ghost use Rattle.http_req.specs.Outcomes.{Gets, ended};
-ghost use Rattle.http_req.specs.Readings.{left_of, Answers, Consumes, OnReadFault, cut_answer, Passes, Fails, Stops, Received};
+ghost use Rattle.http_req.specs.Readings.{left_of, Answers, Consumes, OnReadFault, Passes, Fails, Stops, Received};
 ghost use Rattle.http_req.specs.Requests.{shown};
 
-use crate::carry::{Carry, Stop};
+use crate::body::{cut_off, read_body};
+use crate::carry::Carry;
 use crate::checks::{FIELD_LIMIT, refusal};
-use crate::fields::body_length;
 use crate::head::{FIELD_ROOM, Front, HEAD_LIMIT, find_head};
 use crate::request::{Got, Request};
 use crate::status::FIELDS_TOO_LARGE;
@@ -83,27 +83,6 @@ fn check(
     }
 }
 
-/// Reads the body of a request whose head takes so many bytes, and takes it off the carry.
-fn read_body<S: Source>(
-    alloc: Global,
-    source: &mut S,
-    carry: &mut Carry,
-    mut request: Request,
-    start: usize,
-) -> Result<Request, Got>
-    requires { Passes carry.old request.peer start request }
-    ensures { Received carry.old (S.rest source.old) (S.faults source.old) request.peer result carry.new (S.rest source.new) (S.faults source.new) }
-{
-    let length = body_length(request.fields.as_slice()).unwrap_or(0);
-    let used = start + length as usize;
-    if let Err(stop) = carry.fetch_up_to(source, used) {
-        return Err(cut_off(carry, stop));
-    }
-    request.body = Text::new(alloc, &carry.bytes()[start..used])?;
-    carry.use_up(used);
-    Ok(request)
-}
-
 /// Reads until a whole head stands at the front of the carry.
 fn read_head<S: Source>(
     source: &mut S,
@@ -126,20 +105,6 @@ fn read_head<S: Source>(
             Ok(()) => fetched = carry.fetch_lines(source),
             Err(stop) => return Err(cut_off(carry, stop)),
         }
-    }
-}
-
-/// The answer where what is carried is less than a request and no more came.
-fn cut_off(carry: &Carry, stop: Stop) -> Got
-    ensures { result ≡ cut_answer carry.now stop }
-{
-    match stop {
-        Stop::End if carry.len() == 0 => Got::End,
-        Stop::End => Got::Truncated {
-            have: carry.len() as u64,
-        },
-        Stop::Fault => Got::ReadFault,
-        Stop::NoMemory => Got::NoMemory,
     }
 }
 

@@ -19,7 +19,7 @@ pub struct Request {
     pub minor: u8,
     /// Names and values of the fields, in order, the values without the white space around them.
     pub fields: Pairs,
-    /// The body, of as many bytes as Content-Length says.
+    /// The body: the bytes of its chunks in order, or as many bytes as Content-Length says, or none.
     pub body: Text,
     /// Where the request came from.
     pub peer: Text,

@@ -71,6 +71,12 @@ fn shown(alloc: Global, got: &Got) -> Result<String, AllocError> {
             let query = request.query.len();
             let body = request.body.len();
             write!(text, "|{query}|{fields}|{body}")?;
+            if body > 0 && body < 20 {
+                text.push_str(":")?;
+                for byte in request.body.bytes() {
+                    text.push(char::from(*byte))?;
+                }
+            }
         }
         Got::End => text.push_str("end")?,
         Got::Truncated { have } => {
@@ -102,7 +108,7 @@ fn answers(alloc: Global, source: &mut Pieces, calls: u8) -> Result<String, NoMe
 
 #[test]
 fn each_input_has_its_answer_in_any_pieces(rt: HostRuntime) -> Result<(), Fail> {
-    let rows: [(&[u8], &str); 18] = [
+    let rows: [(&[u8], &str); 17] = [
         (b"", "end end "),
         (b"\x01", "truncated 1 truncated 1 "),
         (b"\x01\n", "refused 400 "),
@@ -112,7 +118,7 @@ fn each_input_has_its_answer_in_any_pieces(rt: HostRuntime) -> Result<(), Fail> 
         ),
         (
             b"POST /x HTTP/1.1\r\nHost: l\r\nContent-Length: 3\r\n\r\nabc",
-            "/x|0|2|3 end ",
+            "/x|0|2|3:abc end ",
         ),
         (
             b"GET / HTTP/1.1\r\nHost: l\r\nhost: l\r\n\r\n",
@@ -122,15 +128,11 @@ fn each_input_has_its_answer_in_any_pieces(rt: HostRuntime) -> Result<(), Fail> 
         (b"\nGET / HTTP/1.0\n\n", "|0|0|0 end "),
         (b"PATCH * HTTP/1.1\r\n\r\n", "refused 501 "),
         (
-            b"GET / HTTP/1.1\r\nHost: l\r\nTransfer-Encoding: chunked\r\n\r\n",
-            "refused 501 ",
-        ),
-        (
             b"PUT / HTTP/1.1\r\nContent-Length: 5\r\nContent-Length: 05\r\n\r\n",
             "refused 400 ",
         ),
         (
-            b"PUT / HTTP/1.1\r\nContent-Length: 1048577\r\n\r\n",
+            b"PUT / HTTP/1.1\r\nContent-Length: 8388609\r\n\r\n",
             "refused 413 ",
         ),
         (
@@ -166,7 +168,11 @@ fn requests_follow_one_another_wherever_they_are_cut(rt: HostRuntime) -> Result<
         let mut source = source_of(rt.alloc(), input, 5_000)?;
         source.cut = cut;
         let answers = answers(rt.alloc(), &mut source, 3)?;
-        assert_eq!(rt; answers.as_str(), "/a|0|2|2 /b|0|0|0 end ", "cut at {cut}");
+        assert_eq!(rt;
+            answers.as_str(),
+            "/a|0|2|2:xy /b|0|0|0 end ",
+            "cut at {cut}"
+        );
     }
     Ok(())
 }
@@ -187,38 +193,260 @@ fn a_fault_is_answered_where_nothing_is_decided(rt: HostRuntime) -> Result<(), F
     Ok(())
 }
 
-/// A head of so many bytes with one long field.
-fn long_head(alloc: Global, size: usize) -> Result<Vec<u8>, AllocError> {
-    let mut head = Vec::from_slice(alloc, b"GET / HTTP/1.0\nb:")?;
-    for _ in head.len()..size {
-        head.push(b'c')?;
+/// These bytes behind a front.
+fn behind(alloc: Global, front: &[u8], bytes: &[u8]) -> Result<Vec<u8>, AllocError> {
+    let mut all = Vec::from_slice(alloc, front)?;
+    all.extend_from_slice(bytes)?;
+    Ok(all)
+}
+
+/// The head of a request whose body comes in chunks, of 57 bytes.
+const CHUNKED: &[u8] = b"POST /x HTTP/1.1\r\nHost: l\r\nTransfer-Encoding: chunked\r\n\r\n";
+
+#[test]
+fn each_body_in_chunks_has_its_answer_in_any_pieces(rt: HostRuntime) -> Result<(), Fail> {
+    let rows: [(&[u8], &str); 30] = [
+        (b"3\r\nabc\r\n2\r\nde\r\n0\r\n\r\n", "/x|0|2|5:abcde end "),
+        (b"3\r\nabc\r\n2\r\nde\r\n0\r\n", "truncated 75 "),
+        (b"zz\r\n", "refused 400 "),
+        (b"800001\r\n", "refused 413 "),
+        (b"0;a=b\r\nX: y\r\n\r\n", "/x|0|2|0 end "),
+        (b"800000\r\n", "truncated 65 "),
+        // Blanks, extensions, zeros in front, digits of either case, trailers.
+        (
+            b"3 \t;n=\"a b\";m\r\na\r\n\r\n000\r\n\r\n",
+            "/x|0|2|3:a\r\n end ",
+        ),
+        (
+            b"00a\r\n0123456789\r\nB\r\nabcdefghijk\r\n0\r\n\r\n",
+            "/x|0|2|21 end ",
+        ),
+        (
+            b"1\r\na\r\n0 \r\nX: y\r\nno field\t\xc3\xa9\r\n\r\nGET",
+            "/x|0|2|1:a truncated 3 ",
+        ),
+        (b"000000000000003\r\nabc\r\n0\r\n\r\n", "/x|0|2|3:abc end "),
+        (b"0000000000000003\r\nabc\r\n0\r\n\r\n", "refused 400 "),
+        (b"fffffffffffffff\r\n", "refused 413 "),
+        // Sizes that other readers might take for one.
+        (b"+3\r\nabc\r\n0\r\n\r\n", "refused 400 "),
+        (b"-3\r\nabc\r\n0\r\n\r\n", "refused 400 "),
+        (b"0x3\r\nabc\r\n0\r\n\r\n", "refused 400 "),
+        (b" 3\r\nabc\r\n0\r\n\r\n", "refused 400 "),
+        (b"3 3\r\nabc\r\n0\r\n\r\n", "refused 400 "),
+        (b"\r\n", "refused 400 "),
+        (b";a\r\n", "refused 400 "),
+        // A bare line feed, or a bare CR, where CR LF is to stand.
+        (b"3\nabc\r\n0\r\n\r\n", "refused 400 "),
+        (b"3;a\nabc\r\n0\r\n\r\n", "refused 400 "),
+        (b"3\rabc\r\n0\r\n\r\n", "refused 400 "),
+        (b"3\r\nabc\n0\r\n\r\n", "refused 400 "),
+        (b"3\r\nabcd", "refused 400 "),
+        (b"3\r\nabc\r", "truncated 64 "),
+        (b"0\r\nX: y\n\r\n", "refused 400 "),
+        (b"0\r\n\n", "refused 400 "),
+        (b"0\r\n\rX", "refused 400 "),
+        (b"0\r\nX: \x7f", "refused 400 "),
+        (b"", "truncated 57 "),
+    ];
+    for (sent, wanted) in rows {
+        let input = behind(rt.alloc(), CHUNKED, sent)?;
+        for piece in [1, 7, 5_000] {
+            let mut source = source_of(rt.alloc(), &input, piece)?;
+            let answers = answers(rt.alloc(), &mut source, 2)?;
+            assert!(rt; answers.starts_with(wanted), "{answers} for {wanted}");
+        }
     }
-    head.extend_from_slice(b"\n\n")?;
-    Ok(head)
+    Ok(())
+}
+
+#[test]
+fn bodies_in_chunks_follow_one_another_wherever_they_are_cut(rt: HostRuntime) -> Result<(), Fail> {
+    let first = behind(rt.alloc(), CHUNKED, b"3\r\nabc\r\n2\r\nde\r\n0\r\n\r\n")?;
+    let input = behind(rt.alloc(), &first, &first)?;
+    for cut in 0..input.len() {
+        let mut source = source_of(rt.alloc(), &input, 5_000)?;
+        source.cut = cut;
+        let answers = answers(rt.alloc(), &mut source, 3)?;
+        assert_eq!(rt;
+            answers.as_str(),
+            "/x|0|2|5:abcde /x|0|2|5:abcde end ",
+            "cut at {cut}"
+        );
+    }
+    Ok(())
+}
+
+#[test]
+fn the_length_of_a_body_is_told_in_one_way(rt: HostRuntime) -> Result<(), Fail> {
+    let rows: [(&[u8], &str); 14] = [
+        (
+            b"Transfer-Encoding: chunked\r\nContent-Length: 3\r\n\r\n",
+            "refused 400 ",
+        ),
+        (
+            b"Content-Length: 0\r\nTransfer-Encoding: chunked\r\n\r\n",
+            "refused 400 ",
+        ),
+        (
+            b"Transfer-Encoding: gzip\r\nContent-Length: 3\r\n\r\n",
+            "refused 501 ",
+        ),
+        (
+            b"Transfer-Encoding: chunked\r\nTransfer-Encoding: chunked\r\n\r\n",
+            "refused 501 ",
+        ),
+        (
+            b"Transfer-Encoding: chunked, chunked\r\n\r\n",
+            "refused 501 ",
+        ),
+        (b"Transfer-Encoding: xchunked\r\n\r\n", "refused 501 "),
+        (b"Transfer-Encoding:\r\n\r\n", "refused 501 "),
+        (b"Transfer-Encoding : chunked\r\n\r\n", "refused 400 "),
+        (
+            b"transfer-encoding: \t CHUNKed\t \r\n\r\n0\r\n\r\n",
+            "|0|2|0 end ",
+        ),
+        (
+            b"Content-Length: 3\r\nContent-Length: 4\r\n\r\nabcd",
+            "refused 400 ",
+        ),
+        (
+            b"Content-Length: 3\r\nContent-Length: 3\r\n\r\nabc",
+            "|0|3|3:abc end ",
+        ),
+        (b"Content-Length: 3, 3\r\n\r\nabc", "refused 400 "),
+        (b"Content-Length: +3\r\n\r\nabc", "refused 400 "),
+        (b"Content-Length: 0x3\r\n\r\nabc", "refused 400 "),
+    ];
+    for (fields, wanted) in rows {
+        let input = behind(rt.alloc(), b"PUT / HTTP/1.1\r\nHost: l\r\n", fields)?;
+        let mut source = source_of(rt.alloc(), &input, 5_000)?;
+        let answers = answers(rt.alloc(), &mut source, 2)?;
+        assert!(rt; answers.starts_with(wanted), "{answers} for {wanted}");
+    }
+    let old = b"PUT / HTTP/1.0\r\nTransfer-Encoding: chunked\r\n\r\n0\r\n\r\n";
+    let mut source = source_of(rt.alloc(), old, 5_000)?;
+    assert_eq!(rt;
+        answers(rt.alloc(), &mut source, 1)?.as_str(),
+        "refused 400 "
+    );
+    Ok(())
+}
+
+/// These bytes, then the same byte so many times, then these bytes.
+fn filled(
+    alloc: Global,
+    front: &[u8],
+    byte: u8,
+    count: usize,
+    end: &[u8],
+) -> Result<Vec<u8>, AllocError> {
+    let mut all = behind(alloc, front, &vec![in alloc; byte; count]?)?;
+    all.extend_from_slice(end)?;
+    Ok(all)
+}
+
+/// Many chunks of one byte, each with a long extension: as sent they take more than a body may.
+fn many_chunks(alloc: Global) -> Result<Vec<u8>, AllocError> {
+    let chunk = filled(alloc, b"1;", b'e', 1_020, b"\r\na\r\n")?;
+    let mut all = Vec::from_slice(alloc, CHUNKED)?;
+    for _ in 0..33_000 {
+        all.extend_from_slice(&chunk)?;
+    }
+    Ok(all)
 }
 
 #[test]
 fn large_inputs_stop_at_the_limits(rt: HostRuntime) -> Result<(), Fail> {
-    let letters = vec![in rt.alloc(); b'A'; HEAD_LIMIT]?;
-    let mut fields = Vec::from_slice(rt.alloc(), b"GET / HTTP/1.0\n")?;
-    for _ in 0..101 {
-        fields.extend_from_slice(b"a:\n")?;
-    }
-    fields.push(b'\n')?;
-    let mut body = Vec::from_slice(rt.alloc(), b"PUT / HTTP/1.0\nContent-Length: 1048576\n\n")?;
-    body.extend_from_slice(vec![in rt.alloc(); b'b'; 1_048_576]?.as_slice())?;
-    let longest = long_head(rt.alloc(), HEAD_LIMIT - 3)?;
-    let too_long = long_head(rt.alloc(), HEAD_LIMIT - 1)?;
+    let alloc = rt.alloc();
+    let get = b"GET / HTTP/1.0\nb:".as_slice();
+    let put = b"PUT / HTTP/1.0\nContent-Length: 8388608\n\n".as_slice();
+    let line = behind(alloc, CHUNKED, b"3;")?;
+    let last = behind(alloc, CHUNKED, b"0\r\n")?;
+    let whole = behind(alloc, CHUNKED, b"800000\r\n")?;
     let rows = [
-        (&letters, 1, "refused 431 "),
-        (&fields, 5_000, "refused 431 "),
-        (&body, 5_000, "|0|1|1048576 "),
-        (&longest, 1, "|0|1|0 "),
-        (&too_long, 1, "refused 431 "),
+        // A head of 16,383, 16,384 and 16,385 bytes, and as many without a head.
+        (filled(alloc, get, b'c', 16_364, b"\n\n")?, "|0|1|0 "),
+        (filled(alloc, get, b'c', 16_365, b"\n\n")?, "|0|1|0 "),
+        (filled(alloc, get, b'c', 16_366, b"\n\n")?, "refused 431 "),
+        (filled(alloc, b"", b'A', 16_383, b"")?, "truncated 16383 "),
+        (filled(alloc, b"", b'A', 16_384, b"")?, "refused 431 "),
+        // A malformed line that ends at the byte 16,384, and one behind it.
+        (
+            filled(alloc, b"GET / HTTP/1.0\n", b'b', 16_368, b"\n")?,
+            "refused 400 ",
+        ),
+        (
+            filled(alloc, b"GET / HTTP/1.0\n", b'b', 16_369, b"\n")?,
+            "refused 431 ",
+        ),
+        // Bodies as long as they may be, by their length and in chunks, and one byte longer.
+        (filled(alloc, put, b'b', 8_388_608, b"")?, "|0|1|8388608 "),
+        (
+            filled(alloc, &whole, b'b', 8_388_608, b"\r\n0\r\n\r\n")?,
+            "/x|0|2|8388608 ",
+        ),
+        (
+            filled(alloc, &whole, b'b', 8_388_608, b"\r\n1\r\n")?,
+            "refused 413 ",
+        ),
+        // Chunk lines of 1,024 and 1,025 bytes; the byte 1,023 is to be the CR.
+        (
+            filled(alloc, &line, b'e', 1_020, b"\r\nabc\r\n0\r\n\r\n")?,
+            "/x|0|2|3:abc ",
+        ),
+        (filled(alloc, &line, b'e', 1_020, b"")?, "truncated 1079 "),
+        (filled(alloc, &line, b'e', 1_021, b"")?, "refused 400 "),
+        // Trailers of 16,384 and 16,385 bytes; a bad byte in the last place goes first.
+        (
+            filled(alloc, &last, b't', 16_380, b"\r\n\r\n")?,
+            "/x|0|2|0 ",
+        ),
+        (filled(alloc, &last, b't', 16_383, b"")?, "truncated 16443 "),
+        (
+            filled(alloc, &last, b't', 16_381, b"\r\n\r")?,
+            "refused 431 ",
+        ),
+        (filled(alloc, &last, b't', 16_383, b"\x01")?, "refused 400 "),
+        (many_chunks(alloc)?, "refused 413 "),
     ];
-    for (input, piece, wanted) in rows {
-        let mut source = source_of(rt.alloc(), input, piece)?;
+    for (input, wanted) in &rows {
+        let mut source = source_of(alloc, input, 5_000)?;
+        assert_eq!(rt; answers(alloc, &mut source, 1)?.as_str(), *wanted);
+    }
+    Ok(())
+}
+
+#[test]
+fn a_head_has_a_hundred_fields_at_the_most(rt: HostRuntime) -> Result<(), Fail> {
+    for (count, wanted) in [(100, "|0|100|0 "), (101, "refused 431 ")] {
+        let mut head = Vec::from_slice(rt.alloc(), b"GET / HTTP/1.0\n")?;
+        for _ in 0..count {
+            head.extend_from_slice(b"a:\n")?;
+        }
+        head.push(b'\n')?;
+        let mut source = source_of(rt.alloc(), &head, 1)?;
         assert_eq!(rt; answers(rt.alloc(), &mut source, 1)?.as_str(), wanted);
+    }
+    Ok(())
+}
+
+#[test]
+fn nothing_is_asked_behind_a_whole_request(rt: HostRuntime) -> Result<(), Fail> {
+    let requests: [&[u8]; 2] = [
+        b"PUT /a HTTP/1.1\r\nHost: l\r\nContent-Length: 2\r\n\r\nxy",
+        b"PUT /a HTTP/1.1\r\nHost: l\r\nTransfer-Encoding: chunked\r\n\r\n2\r\nxy\r\n0\r\n\r\n",
+    ];
+    for request in requests {
+        // One piece holds two requests: the second one is carried, and asks for nothing.
+        let input = behind(rt.alloc(), request, request)?;
+        for calls in [1, 2] {
+            let mut source = source_of(rt.alloc(), &input, 5_000)?;
+            let answers = answers(rt.alloc(), &mut source, calls)?;
+            assert!(rt; answers.starts_with("/a|0|2|2:xy "), "{answers}");
+            assert_eq!(rt; source.calls, 1, "{answers}");
+        }
     }
     Ok(())
 }

@@ -17,7 +17,7 @@ use Rattle.percent_encoding.specs.Percent.{percent_decode}
 use Rattle.percent_encoding.proofs.PercentLemmas.{percent_decode-nil, percent_decode_not_percent}
 use Rattle.http_req.specs.declared.request.Request.{Request}
 use Rattle.http_req.specs.Heads.{front}
-use Rattle.http_req.specs.Outcomes.{Whole, Gets, headed, checked, with_body}
+use Rattle.http_req.specs.Outcomes.{Whole, Gets, headed, CheckedIs, with_body}
 use Rattle.http_req.specs.Requests.{shown, refusal}
 use Rattle.http_req.specs.Targets.{is_slash, is_question, is_filled, is_target, is_unsafe, is_unsafe_byte, path_of, query_of, segments_of}
 use Rattle.http_req.proofs.CheckFacts.{the_rest}
@@ -259,7 +259,7 @@ passes : (url host : List ℕ) (segments : List (List ℕ)) → IsUrl url segmen
 passes url host segments u =
     let b : (rest : List ℕ) × (url ≡ 47 ∷ rest) = begins url segments u in
     let target : is_target url ≡ true = rw b.1 refl in
-    the_rest (get_request url segments host) (omega arith) refl refl refl (omega arith) true true false refl target (url_safe url segments u)
+    the_rest (get_request url segments host) (omega arith) refl refl refl refl (omega arith) true true false refl target (url_safe url segments u)
 
 front_is : (input : List ℕ) → length input ≤ 16384 → front input ≡ input
 unfolding front
@@ -280,6 +280,7 @@ early_gets input request r =
     let text : input ≡ print_request head = r.input_is ∙ sym (printed r.url r.host) in
     let reads : front input ≡ print_request head ++ [] = front_is input r.fits ∙ text ∙ sym (append-nil (print_request head)) in
     let none : refusal (shown head [] peer) ≡ None = ap refusal shows ∙ passes r.url r.host r.segments r.url_is in
-    let is : Whole request (length input) ≡ checked input peer head (refusal (shown head [] peer)) =
-    sym (ap (checked input peer head) none ∙ bodiless input head request (ap length (sym text)) (shows ∙ sym r.request_is)) in
+    let is : CheckedIs (refusal (shown head [] peer)) input peer head (Whole request (length input)) =
+    subst (λ o. CheckedIs o input peer head (Whole request (length input))) (sym none)
+    (sym (bodiless input head request (ap length (sym text)) (shows ∙ sym r.request_is))) in
     subst (λ (q : Request). Gets input q.peer (Whole request (length input))) (sym r.request_is) (headed head [] (is_head r.url r.host r.segments r.url_is host, reads) is)

@@ -1,0 +1,42 @@
+-- How far the reading of a body in chunks has come, and why it stops.
+use Rattle.std.specs.Prelude.{◌≡◌, ℕ, ◌+◌, ◌<◌, ◌≤◌, ◌⊎◌, List, ◌++◌, length, drop, Option, Result, Ok, Err}
+use Rattle.http_req.specs.declared.request.Got.{Got}
+use Rattle.http_req.specs.declared.request.Got.TheVariants as got
+use Rattle.http_req.specs.declared.carry.Stop.{Stop}
+use Rattle.http_req.specs.declared.trailer.TrailerSpot.TheVariants as spot
+use Rattle.http_req.specs.declared.trailer.Trailer.TheVariants as trailer
+use Rattle.http_req.specs.Chunks.{Sent, rejected, partial, put, trailing, ChunksAt}
+use Rattle.http_req.specs.Fetching.{Stopped}
+use Rattle.http_req.specs.Limits.{sent_limit}
+use Rattle.http_req.specs.Readings.{cut_answer}
+use Rattle.http_req.specs.Statuses.{content_too_large}
+use Rattle.http_req.specs.Trailers.{trailer_from}
+
+-- So many bytes of the text are the chunks of this body and the last line, whatever follows the text.
+pub record EndsChunks (text body : List ℕ) (begin : ℕ) : Type 0 where
+  pub within : begin ≤ length text
+  pub ends : (more : List ℕ) → ChunksAt 0 (text ++ more) (put body (trailing (drop begin (text ++ more))))
+
+-- the trailer behind so many bytes of the text ends behind so many
+abbrev pub EndsTrailer : List ℕ → ℕ → ℕ → Type 0
+EndsTrailer text begin size =
+    (taken : ℕ) × (trailer_from spot.Begin 0 (drop begin text) ≡ trailer.Whole taken) × (size ≡ begin + taken)
+
+-- Why no more is asked for: as many bytes are there as may be, or the source has ended or failed.
+abbrev pub Halts : List ℕ → Result (Unit {0}) Stop → ℕ → Got → Type 0
+Halts carry fetched most answer =
+    ((most ≤ length carry) × (answer ≡ got.Refused content_too_large))
+    ⊎ ((length carry < most) × ((how : Stop) × (fetched ≡ Err how) × (answer ≡ cut_answer carry how)))
+
+-- Why a reading of what is sent behind a head of so many bytes stops with this answer, from what all that came is: it is refused;
+-- it isn't whole, where it is as long as it may be, or where no more came; or memory ran out.
+pub data SentStops
+    (Is : Sent → Type 0) (all : List ℕ) (start : ℕ)
+    (rest : Option (List ℕ)) (faults : ℕ) (rest_after : Option (List ℕ)) (faults_after : ℕ) (answer : Got) : Type 0 where
+  by_refusal : (status : ℕ) → Is (rejected status) → answer ≡ got.Refused status
+      → SentStops Is all start rest faults rest_after faults_after answer
+  by_limit : Is partial → start + sent_limit ≤ length all → answer ≡ got.Refused content_too_large
+      → SentStops Is all start rest faults rest_after faults_after answer
+  by_stop : (how : Stop) → Is partial → length all < start + sent_limit → Stopped rest faults how rest_after faults_after
+      → answer ≡ cut_answer all how → SentStops Is all start rest faults rest_after faults_after answer
+  by_memory : answer ≡ got.NoMemory → SentStops Is all start rest faults rest_after faults_after answer
