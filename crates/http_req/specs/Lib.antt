@@ -8,9 +8,9 @@ pub mod Requests
 pub mod ChunkLines
 pub mod Trailers
 pub mod Chunks
-pub mod Bodies
 pub mod Outcomes
 pub mod Readings
 -- What only proofs use.
+pub mod Bodies
 pub mod Fetching
 pub mod Fronts
