@@ -12,8 +12,6 @@ mod reading;
 mod request;
 mod status;
 mod target;
-#[cfg(test)]
-mod tests;
 mod trailer;
 
 pub use carry::Carry;
