@@ -1,0 +1,8 @@
+use Rattle.url_tables.proofs.Best.{best_is_best, none_matches}
+use Rattle.url_tables.proofs.law.routes_are_best.Goals as goal
+
+pub returns-clause-best : goal.returns-clause-best
+returns-clause-best c = best_is_best
+
+pub returns-clause-none : goal.returns-clause-none
+returns-clause-none c = none_matches

@@ -1,0 +1,31 @@
+-- Which filters a request passes at a stage.
+use Rattle.std.specs.Prelude.{ℕ, List, [], ◌∷◌, Bool, true, false, ◌&&◌, ◌||◌, bytes_eq, codes}
+use Rattle.txt_core.specs.PatternLaws.{matches}
+use Rattle.cmd_table.specs.declared.definition.When.{When}
+use Rattle.cmd_table.specs.declared.definition.When.TheVariants.{Preauth, Postauth, Trace}
+use Rattle.cmd_table.specs.declared.definition.Def.{Def}
+use Rattle.cmd_table.specs.declared.definition.Def.TheVariants.{Filter}
+use Rattle.url_tables.specs.Serving.{route_method}
+
+abbrev pub same_stage : When → When → Bool
+same_stage Preauth Preauth = true
+same_stage Postauth Postauth = true
+same_stage Trace Trace = true
+same_stage first second = false
+
+-- A filter is for all methods, or for that of the request.
+abbrev pub is_for : List ℕ → List ℕ → Bool
+is_for registered method = bytes_eq registered (codes "*") || bytes_eq registered (route_method method)
+
+-- one more in front, where it is passed
+abbrev pub put_if : Bool → List (List ℕ) → List (List (List ℕ)) → List (List (List ℕ))
+put_if true words others = words ∷ others
+put_if false words others = others
+
+-- The words of the filters that a request passes at a stage, in the order of their registration: those of this stage and for
+-- this method, whose pattern matches the path, which is shown as a text.
+abbrev pub Filters : When → List ℕ → List ℕ → List Def → List (List (List ℕ))
+Filters when method path [] = []
+Filters when method path (Filter stage registered pattern words ∷ defs) =
+    put_if (same_stage stage when && is_for registered method && matches pattern path) words (Filters when method path defs)
+Filters when method path (def ∷ defs) = Filters when method path defs

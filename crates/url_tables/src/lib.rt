@@ -1,0 +1,17 @@
+//! Which registration serves a request, and which filters a request passes.
+#![tactic(auto)]
+
+mod filters;
+mod law;
+mod routes;
+mod site;
+mod table;
+mod url;
+
+pub use filters::WordsList;
+pub use law::routes_are_best;
+pub use routes::Routes;
+pub use site::Route;
+
+#[cfg(test)]
+mod tests;
