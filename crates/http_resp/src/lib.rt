@@ -12,6 +12,7 @@ mod lines;
 mod replies;
 mod response;
 
+pub use date::fixdate;
 pub use delivery::{Wrote, write_response};
 pub use head::response_bytes;
 pub use lines::head_is_in_lines;
