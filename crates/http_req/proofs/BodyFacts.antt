@@ -1,11 +1,10 @@
 -- How a body in chunks is read, a piece at a time.
-use Rattle.std.proofs.Common.{◌≡◌, ◌≢◌, ℕ, ◌+◌, ◌-◌, ◌<◌, ◌≤◌, ◌⊎◌, inl, inr, Bool, true, false, List, [], ◌∷◌, ◌++◌, length, take, drop, Option, Some, None, Result, Ok, Err, refl, sym, ap, ◌∙◌, subst, arith, append_assoc, append-nil, length-append, length-take, length-drop, drop-drop, take-append-drop}
+use Rattle.std.proofs.Common.{◌≡◌, ◌≢◌, ℕ, ◌+◌, ◌-◌, ◌<◌, ◌≤◌, inl, inr, Bool, true, false, List, [], ◌∷◌, ◌++◌, length, take, drop, Option, Result, Ok, Err, refl, sym, ap, ◌∙◌, subst, arith, append_assoc, append-nil, length-append, length-take, length-drop, drop-drop, take-append-drop}
 use Rattle.std.specs.Prelude.{IfErr, OnOk, ◌*◌, nat_lt, nat_le, if◌then◌else◌}
 use Rattle.std.proofs.lemmas.Bool.Decides.{nat_tests}
 use Rattle.std.proofs.lemmas.List.{take-append-le, drop-append-le, take_all, drop_all}
 use Rattle.http_req.specs.declared.request.Request.{Request}
 use Rattle.http_req.specs.declared.request.Got.{Got}
-use Rattle.http_req.specs.declared.request.Got.TheVariants as got
 use Rattle.http_req.specs.declared.carry.Stop.{Stop}
 use Rattle.http_req.specs.declared.trailer.TrailerSpot.{TrailerSpot}
 use Rattle.http_req.specs.declared.trailer.TrailerSpot.TheVariants as place
@@ -13,13 +12,13 @@ use Rattle.http_req.specs.declared.trailer.TrailerStep.{TrailerStep}
 use Rattle.http_req.specs.declared.trailer.TrailerStep.TheVariants as move
 use Rattle.http_req.specs.declared.trailer.Trailer.{Trailer}
 use Rattle.http_req.specs.declared.trailer.Trailer.TheVariants as trailer
-use Rattle.httparse.specs.Grammar.{RequestHead, print_request}
+use Rattle.httparse.specs.Grammar.{print_request}
 use Rattle.http_req.specs.Bodies.{EndsChunks, EndsTrailer, Halts, SentStops, by_refusal, by_limit, by_stop, by_memory}
-use Rattle.http_req.specs.Chunks.{Piece, chunk, last, refused, less, piece_at, Sent, whole, rejected, partial, put, behind_trailer, trailing, ChunksAt, refuses, ends, trails, continues}
+use Rattle.http_req.specs.Chunks.{chunk, last, refused, less, piece_at, Sent, whole, rejected, partial, put, behind_trailer, trailing, ChunksAt, refuses, ends, trails, continues}
 use Rattle.http_req.specs.Fetching.{Moves, Stopped}
 use Rattle.http_req.specs.Fields.{is_chunked}
-use Rattle.http_req.specs.Outcomes.{Outcome, Whole, Refused, ended, sent_front, with_chunks, BodyIs, Gets}
-use Rattle.http_req.specs.Readings.{cut_answer, Passes, Stops}
+use Rattle.http_req.specs.Outcomes.{Outcome, Whole, Refused, ended, sent_front, with_chunks, Gets}
+use Rattle.http_req.specs.Readings.{Passes, Stops}
 use Rattle.http_req.specs.Requests.{shown}
 use Rattle.http_req.specs.Trailers.{trailer_step, trailer_on, trailer_from}
 use Rattle.http_req.proofs.ChunkFacts.{piece_more, chunk_fits, last_fits, trailer_more, trailer_within}

@@ -1,10 +1,12 @@
 pub mod Answering
 pub mod BodyFacts
+pub mod Carrying
 pub mod CheckFacts
 pub mod ChunkFacts
 pub mod Fetches
 pub mod FieldFacts
 pub mod HeadFacts
+pub mod LineFacts
 pub mod OutcomeFacts
 pub mod Receiving
 pub mod TargetFacts

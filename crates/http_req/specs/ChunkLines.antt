@@ -1,6 +1,6 @@
 -- Chunk lines (RFC 9112, section 7.1): the size of a chunk in 1 to 15 hexadecimal digits, any spaces and tabs, nothing or
 -- a semicolon with any text, and CR LF; at most 1,024 bytes in all.
-use Rattle.std.specs.Prelude.{◌==◌, ℕ, ◌+◌, ◌*◌, ◌≤◌, Bool, ◌&&◌, ◌||◌, List, [], ◌∷◌, nat_lt, nat_le, if◌then◌else◌, ⊤}
+use Rattle.std.specs.Prelude.{◌≡◌, ◌==◌, ℕ, ◌+◌, ◌*◌, ◌≤◌, Bool, ◌&&◌, ◌||◌, List, [], ◌∷◌, ◌++◌, nat_lt, nat_le, if◌then◌else◌, ⊤}
 use Rattle.std.specs.Char.{digit_value}
 use Rattle.http_req.specs.declared.chunk_line.LineSpot.{LineSpot}
 use Rattle.http_req.specs.declared.chunk_line.LineSpot.TheVariants as spot
@@ -73,3 +73,7 @@ abbrev pub IsLineWithin : ℕ → ChunkLine → Type 0
 IsLineWithin most (line.Whole size taken) = taken ≤ most
 IsLineWithin most line.Bad = ⊤
 IsLineWithin most line.Cut = ⊤
+
+-- a whole chunk line begins with the text: some bytes behind it make one
+abbrev pub BeginsLine : List ℕ → Type 0
+BeginsLine text = (more : List ℕ) × (size : ℕ) × (taken : ℕ) × (chunk_line (text ++ more) ≡ line.Whole size taken)

@@ -1,4 +1,10 @@
 //! The reading of a body, by its length or in chunks.
+//!
+//! A byte of a body is copied twice: by the source into what is carried, and from there into the
+//! request. What a buffer moves where it grows comes on top: by the length nothing, since room for the
+//! whole request is taken before its bytes come; in chunks less than one move for each byte of what is
+//! carried and of the body, since both double as they grow. To take a request off the carry moves only
+//! what was read past it, which is less than one piece.
 
 ghost use Rattle.std.specs.Prelude.{◌≡◌, ◌≤◌, ◌<◌, ◌+◌, true, false, List, length, OnOk, IfOk, IfErr, Ok};
 ghost use Rattle.http_req.specs.Bodies.{EndsChunks, EndsTrailer, Halts, SentStops};
@@ -10,7 +16,7 @@ ghost use Rattle.http_req.specs.Outcomes.{sent_front};
 ghost use Rattle.http_req.specs.Readings.{Passes, Received, cut_answer};
 ghost use Rattle.std.specs.Prelude.{drop};
 
-use crate::carry::{Carry, Stop};
+use crate::carry::{Carry, PIECE_SIZE, Stop};
 use crate::chunk::{Chunk, behind, find_chunk};
 use crate::fields::{body_length, is_chunked};
 use crate::request::{Got, Request};
@@ -162,7 +168,7 @@ fn read_trailer<S: Source>(
         }
         at = sent.len();
         may_ask(carry, fetched, start + SENT_LIMIT)?;
-        fetched = carry.fetch(source);
+        fetched = carry.fetch(source, PIECE_SIZE);
     }
 }
 

@@ -1,16 +1,22 @@
 //! Bytes that were read and not used.
 
-ghost use Rattle.std.specs.Prelude.{◌≡◌, ◌≤◌, ◌<◌, [], length, drop, OnOk, OnErr, IfErr};
+ghost use Rattle.std.specs.Prelude.{◌≡◌, ◌≤◌, ◌<◌, [], length, take, drop, OnOk, OnErr, IfErr};
+ghost use Rattle.outside.specs.Reading.{Reads};
 ghost use Rattle.http_req.specs.Limits.{head_limit};
-ghost use Rattle.http_req.specs.Fetching.{Moves, Stopped};
+ghost use Rattle.http_req.specs.Fetching.{Moves, Stopped, count_of};
+ghost use Rattle.http_req.specs.declared.carry.Stop.TheVariants as stop;
 
 use crate::head::HEAD_LIMIT;
 use outside::{ReadAnswer, Source};
 use std::alloc::Global;
 use std::marker::Model;
 
+/// So many bytes are asked of a source at once where it isn't known how many are missing, and the
+/// least where it is.
+pub(crate) const PIECE_SIZE: usize = 4_096;
+
 /// The most bytes that are asked of a source at once.
-const PIECE_SIZE: usize = 4_096;
+const LARGE_PIECE_SIZE: usize = 1_048_576;
 
 /// Bytes that were read from a source and not used yet. Contracts see it as the list of them.
 #[derive(Debug, Drop)]
@@ -62,31 +68,35 @@ impl Carry {
         self.bytes.len()
     }
 
-    /// Takes the bytes of a request off the front.
+    /// Takes the bytes of a request off the front. Only those behind them are moved.
     pub(crate) fn use_up(&mut self, count: usize)
         requires { count ≤ length self.old }
         ensures { self.new ≡ drop count self.old }
     {
-        self.bytes.drain(..count);
+        let len = self.bytes.len();
+        self.bytes.copy_within(count..len, 0);
+        self.bytes.truncate(len - count);
     }
 
-    /// Reads one piece, and puts it at the end.
-    pub(crate) fn fetch<S: Source>(&mut self, source: &mut S) -> Result<(), Stop>
+    /// Reads one piece, of at most so many bytes, and puts it at the end: the source writes it there
+    /// itself, over zeros.
+    pub(crate) fn fetch<S: Source>(&mut self, source: &mut S, most: usize) -> Result<(), Stop>
+        requires room { 0 < most }
         ensures moves { Moves self.old (S.rest source.old) (S.faults source.old) self.new (S.rest source.new) (S.faults source.new) }
         ensures more { OnOk result (length self.old < length self.new) }
         ensures kept { OnErr result (self.new ≡ self.old) }
         ensures stopped { IfErr result (λ stop. Stopped (S.rest source.old) (S.faults source.old) stop (S.rest source.new) (S.faults source.new)) }
     {
-        let mut piece = [0; PIECE_SIZE];
-        if self.bytes.reserve(PIECE_SIZE).is_err() {
+        let start = self.bytes.len();
+        let end = start.saturating_add(most);
+        if end == start || self.bytes.resize(end, 0).is_err() {
             return Err(Stop::NoMemory);
         }
-        match source.read(&mut piece) {
+        let answer = read_behind(source, self.bytes.as_mut_slice(), start);
+        self.bytes.truncate(start + count_of(answer));
+        match answer {
             ReadAnswer::Bytes(0) => Err(Stop::End),
-            ReadAnswer::Bytes(count) => match self.bytes.extend_from_slice(&piece[..count]) {
-                Ok(()) => Ok(()),
-                Err(_) => Err(Stop::NoMemory),
-            },
+            ReadAnswer::Bytes(_) => Ok(()),
             ReadAnswer::Failed => Err(Stop::Fault),
         }
     }
@@ -103,7 +113,7 @@ impl Carry {
         let looked = self.len();
         while self.len() < HEAD_LIMIT {
             let start = self.len();
-            self.fetch(source)?;
+            self.fetch(source, PIECE_SIZE)?;
             if is_worth_a_look(self.bytes(), looked, start) {
                 return Ok(());
             }
@@ -111,17 +121,64 @@ impl Carry {
         Ok(())
     }
 
-    /// Reads pieces until so many bytes are there.
+    /// Reads pieces until so many bytes are there. Room for all of them is taken first, so no byte is
+    /// moved again as they come in.
     pub(crate) fn fetch_up_to<S: Source>(&mut self, source: &mut S, size: usize) -> Result<(), Stop>
         ensures moves { Moves self.old (S.rest source.old) (S.faults source.old) self.new (S.rest source.new) (S.faults source.new) }
         ensures enough { OnOk result (size ≤ length self.new) }
         ensures short { OnErr result (length self.new < size) }
         ensures stopped { IfErr result (λ stop. Stopped (S.rest source.old) (S.faults source.old) stop (S.rest source.new) (S.faults source.new)) }
     {
+        self.make_room(size)?;
+        let mut given = LARGE_PIECE_SIZE;
         while self.len() < size {
-            self.fetch(source)?;
+            let start = self.len();
+            self.fetch(source, piece_size(size - start, given))?;
+            given = self.len() - start;
         }
         Ok(())
+    }
+
+    /// Takes room for so many bytes.
+    fn make_room(&mut self, size: usize) -> Result<(), Stop>
+        ensures kept { self.new ≡ self.old }
+        ensures short { OnErr result (length self.new < size) }
+        ensures stopped { IfErr result (λ why. why ≡ stop.NoMemory) }
+    {
+        let len = self.len();
+        if len < size && self.bytes.reserve(size - len).is_err() {
+            return Err(Stop::NoMemory);
+        }
+        Ok(())
+    }
+}
+
+/// How many bytes to ask for where so many are missing, and the last read gave so many: no more than
+/// twice as many, since what isn't read is zeroed in vain.
+fn piece_size(missing: usize, given: usize) -> usize
+    ensures { 0 < result }
+{
+    missing
+        .min(given.saturating_mul(2))
+        .clamp(PIECE_SIZE, LARGE_PIECE_SIZE)
+}
+
+/// Reads into what stands behind so many bytes of a buffer, and leaves these.
+fn read_behind<S: Source>(source: &mut S, buffer: &mut [u8], start: usize) -> ReadAnswer
+    requires room { start < length buffer.old }
+    ensures reads { Reads (S.rest source.old) (S.faults source.old) (drop start buffer.old) result (drop start buffer.new) (S.rest source.new) (S.faults source.new) }
+    ensures front { take start buffer.new ≡ take start buffer.old }
+{
+    source.read(&mut buffer[start..])
+}
+
+/// How many bytes were read.
+fn count_of(answer: ReadAnswer) -> usize
+    ensures { result ≡ count_of answer }
+{
+    match answer {
+        ReadAnswer::Bytes(count) => count,
+        ReadAnswer::Failed => 0,
     }
 }
 

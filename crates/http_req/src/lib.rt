@@ -8,6 +8,7 @@ mod chunk;
 mod chunk_line;
 mod fields;
 mod head;
+mod law;
 mod reading;
 mod request;
 mod status;
@@ -16,5 +17,6 @@ mod trailer;
 
 pub use carry::Carry;
 pub use head::{FIELD_ROOM, Front, HEAD_LIMIT, find_head};
+pub use law::bad_at_the_first_byte;
 pub use reading::read_request;
 pub use request::{Got, Request};

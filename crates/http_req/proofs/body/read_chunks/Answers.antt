@@ -1,6 +1,6 @@
-use Rattle.std.proofs.Common.{◌≡◌, ◌+◌, ◌-◌, ◌≤◌, ◌<◌, ℕ, List, ◌++◌, length, drop, take, refl, sym, ap, ◌∙◌, subst, arith, length-drop}
+use Rattle.std.proofs.Common.{◌≡◌, ◌+◌, ◌-◌, ◌≤◌, ◌<◌, ℕ, List, length, drop, take, refl, sym, ap, ◌∙◌, subst, arith, length-drop}
 use Rattle.std.proofs.lemmas.Result.{err_from_is_err_and}
-use Rattle.http_req.specs.Bodies.{Halts, SentStops, by_refusal, by_memory}
+use Rattle.http_req.specs.Bodies.{Halts, by_refusal}
 use Rattle.http_req.specs.Chunks.{chunk, last, refused, less, piece_at}
 use Rattle.http_req.specs.Outcomes.{sent_front}
 use Rattle.http_req.proofs.ChunkFacts.{chunk_fits, last_fits}

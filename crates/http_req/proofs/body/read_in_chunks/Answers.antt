@@ -1,7 +1,6 @@
-use Rattle.std.proofs.Common.{◌≡◌, ◌+◌, ◌≤◌, ℕ, List, length, drop, refl, sym, ap, ◌∙◌, subst, arith}
+use Rattle.std.proofs.Common.{◌≡◌, ◌+◌, ◌≤◌, length, drop, refl, sym, subst, arith}
 use Rattle.std.proofs.lemmas.Result.{err_from_is_err_and}
-use Rattle.http_req.specs.declared.request.Request.{Request}
-use Rattle.http_req.specs.Bodies.{SentStops, EndsChunks, EndsTrailer}
+use Rattle.http_req.specs.Bodies.{SentStops}
 use Rattle.http_req.specs.Chunks.{ChunksAt, trailing}
 use Rattle.http_req.specs.Outcomes.{sent_front}
 use Rattle.http_req.proofs.BodyFacts.{start_within, sent_answer, sent_stops_then, trailer_stops, sent_grows, chunks_grow, chunks_whole, trailer_size}

@@ -1,6 +1,5 @@
-use Rattle.std.proofs.Common.{◌≡◌, ◌<◌, ◌^◌, ◌+◌, refl, sym, ◌∙◌, subst, arith}
-use Rattle.http_req.specs.declared.chunk_line.LineSpot.TheVariants as spot
-use Rattle.http_req.proofs.ChunkFacts.{line_next, line_ends, line_within, digit_step, size_grows, never_size}
+use Rattle.std.proofs.Common.{sym, ◌∙◌, arith}
+use Rattle.http_req.proofs.ChunkFacts.{line_next, line_ends, digit_step, size_grows, never_size}
 use Rattle.http_req.proofs.chunk_line.chunk_line.Goals as goal
 use Rattle.http_req.proofs.chunk_line.chunk_line.Goals.{in-Digit, in-Go}
 

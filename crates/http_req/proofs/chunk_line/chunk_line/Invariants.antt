@@ -1,4 +1,4 @@
-use Rattle.std.proofs.Common.{◌≡◌, ◌≤◌, ◌<◌, ◌^◌, drop, length}
+use Rattle.std.proofs.Common.{◌≡◌, ◌<◌, ◌^◌, drop}
 use Rattle.http_req.specs.declared.chunk_line.LineSpot.TheVariants as spot
 use Rattle.http_req.specs.ChunkLines.{line_from, chunk_line}
 use Rattle.http_req.proofs.chunk_line.chunk_line.Given as goal

@@ -1,5 +1,5 @@
 use Rattle.std.proofs.Common.{◌+◌, drop, sym, ◌∙◌, ap, arith}
-use Rattle.std.specs.Prelude.{nat_lt, if◌then◌else◌}
+use Rattle.std.specs.Prelude.{if◌then◌else◌}
 use Rattle.http_req.specs.declared.trailer.Trailer.TheVariants as trailer
 use Rattle.http_req.specs.Trailers.{trailer_from}
 use Rattle.http_req.proofs.CheckFacts.{not_below, below_is}
