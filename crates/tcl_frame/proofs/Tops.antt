@@ -9,9 +9,9 @@ use Rattle.std.proofs.lemmas.Bool.{true≢false}
 use Rattle.std.proofs.lemmas.List.{reverse-append}
 use Rattle.tcl_frame.specs.declared.frame.Frame.{Frame}
 use Rattle.tcl_frame.specs.Variables.{Table}
-use Rattle.tcl_frame.specs.Stack.{Stack}
+use Rattle.tcl_frame.specs.Stack.{Stack, Kept}
 use Rattle.tcl_frame.specs.Names.{Whole, is_opening, is_closed, named_at, named, variable_name, is_element}
-use Rattle.tcl_frame.specs.Frames.{table_of, with_table, linked}
+use Rattle.tcl_frame.specs.Frames.{table_of, with_table, linked, unlinked}
 
 -- a set of names
 abbrev pub Names : Type 0
@@ -43,38 +43,38 @@ module _ {A : Type 0} where
       )
 
 -- a change of the variables of the topmost frame, which doesn't link the name
-top_table : (global : Table) (frame : Frame) (rest : List Frame) (name : List ℕ) (F : Table → Table) → map.contains_key frame.links name ≡ false
-    → ◌≡◌ {A = Stack} (record { global = global; above = record frame { variables = F frame.variables } ∷ rest })
-    (with_table (record { global = global; above = frame ∷ rest }) name (F (table_of (record { global = global; above = frame ∷ rest }) name)))
-top_table global frame rest name F own =
-    subst (λ b. ◌≡◌ {A = Stack} (record { global = global; above = record frame { variables = F frame.variables } ∷ rest })
-    (if b then record { global = F (if b then global else frame.variables); above = frame ∷ rest }
-    else record { global = global; above = record frame { variables = F (if b then global else frame.variables) } ∷ rest })) (sym own) refl
+top_table : (global : Table) (keeps : List Kept) (frame : Frame) (rest : List Frame) (name : List ℕ) (F : Table → Table) → map.contains_key frame.links name ≡ false
+    → ◌≡◌ {A = Stack} (record { global = global; above = record frame { variables = F frame.variables } ∷ rest; keeps = keeps })
+    (with_table (record { global = global; above = frame ∷ rest; keeps = keeps }) name (F (table_of (record { global = global; above = frame ∷ rest; keeps = keeps }) name)))
+top_table global keeps frame rest name F own =
+    subst (λ b. ◌≡◌ {A = Stack} (record { global = global; above = record frame { variables = F frame.variables } ∷ rest; keeps = keeps })
+    (if b then record { global = F (if b then global else frame.variables); above = frame ∷ rest; keeps = keeps }
+    else record { global = global; above = record frame { variables = F (if b then global else frame.variables) } ∷ rest; keeps = keeps })) (sym own) refl
 
 -- the same where the frames are turned round
-pub top_changed : (global : Table) (frames : List Frame) (n : ℕ) (frame : Frame) (stack : Stack) (name : List ℕ) (F : Table → Table) (table : Table)
+pub top_changed : (global : Table) (keeps : List Kept) (frames : List Frame) (n : ℕ) (frame : Frame) (stack : Stack) (name : List ℕ) (F : Table → Table) (table : Table)
     → n ≡ length frames → 0 < n → frame ≡ get_or frames (n - 1) frame
-    → ◌≡◌ {A = Stack} (record { global = global; above = reverse frames }) stack
+    → ◌≡◌ {A = Stack} (record { global = global; above = reverse frames; keeps = keeps }) stack
     → map.contains_key frame.links name ≡ false → table ≡ F frame.variables
-    → ◌≡◌ {A = Stack} (record { global = global; above = reverse (set frames (n - 1) (record frame { variables = table })) }) (with_table stack name (F (table_of stack name)))
-top_changed global frames n frame stack name F table len some there is own new =
+    → ◌≡◌ {A = Stack} (record { global = global; above = reverse (set frames (n - 1) (record frame { variables = table })); keeps = keeps }) (with_table stack name (F (table_of stack name)))
+top_changed global keeps frames n frame stack name F table len some there is own new =
     let turned = last_first frames n frame len some there in
-    ap (λ above. record { global = global; above = above }) (turned.2 (record frame { variables = table }))
-    ∙ ap (λ t. record { global = global; above = record frame { variables = t } ∷ turned.0 }) new
-    ∙ top_table global frame turned.0 name F own
-    ∙ ap (λ s. with_table s name (F (table_of s name))) (ap (λ above. record { global = global; above = above }) (sym turned.1) ∙ is)
+    ap (λ above. record { global = global; above = above; keeps = keeps }) (turned.2 (record frame { variables = table }))
+    ∙ ap (λ t. record { global = global; above = record frame { variables = t } ∷ turned.0; keeps = keeps }) new
+    ∙ top_table global keeps frame turned.0 name F own
+    ∙ ap (λ s. with_table s name (F (table_of s name))) (ap (λ above. record { global = global; above = above; keeps = keeps }) (sym turned.1) ∙ is)
 
 -- the topmost frame links one name more
-pub top_linked : (global : Table) (frames : List Frame) (n : ℕ) (frame : Frame) (stack : Stack) (name : List ℕ) (links : Names)
+pub top_linked : (global : Table) (keeps : List Kept) (frames : List Frame) (n : ℕ) (frame : Frame) (stack : Stack) (name : List ℕ) (links : Names)
     → n ≡ length frames → 0 < n → frame ≡ get_or frames (n - 1) frame
-    → ◌≡◌ {A = Stack} (record { global = global; above = reverse frames }) stack
+    → ◌≡◌ {A = Stack} (record { global = global; above = reverse frames; keeps = keeps }) stack
     → links ≡ map.insert frame.links name tt
-    → ◌≡◌ {A = Stack} (record { global = global; above = reverse (set frames (n - 1) (record frame { links = links })) }) (linked stack name)
-top_linked global frames n frame stack name links len some there is new =
+    → ◌≡◌ {A = Stack} (record { global = global; above = reverse (set frames (n - 1) (record frame { links = links })); keeps = keeps }) (linked stack name)
+top_linked global keeps frames n frame stack name links len some there is new =
     let turned = last_first frames n frame len some there in
-    ap (λ above. record { global = global; above = above }) (turned.2 (record frame { links = links }))
-    ∙ ap (λ l. record { global = global; above = record frame { links = l } ∷ turned.0 }) new
-    ∙ ap (λ s. linked s name) (ap (λ above. record { global = global; above = above }) (sym turned.1) ∙ is)
+    ap (λ above. record { global = global; above = above; keeps = keeps }) (turned.2 (record frame { links = links }))
+    ∙ ap (λ l. record { global = global; above = record frame { links = l } ∷ turned.0; keeps = keeps }) new
+    ∙ ap (λ s. linked s name) (ap (λ above. record { global = global; above = above; keeps = keeps }) (sym turned.1) ∙ is)
 
 -- the name of a whole variable is the name
 named_whole : (closed : Bool) (place : Option ℕ) (name whole : List ℕ) → Whole whole ≡ (if closed then named_at name place else Whole name) → whole ≡ name
@@ -84,3 +84,15 @@ named_whole false place name whole e = ap variable_name e
 
 pub whole_name : (name whole : List ℕ) → Whole whole ≡ named name → whole ≡ name
 whole_name name whole = named_whole (is_closed name) (position is_opening name) name whole
+
+-- the topmost frame doesn't link a name any more
+pub top_unlinked : (global : Table) (keeps : List Kept) (frames : List Frame) (n : ℕ) (frame : Frame) (stack : Stack) (name : List ℕ) (links : Names)
+    → n ≡ length frames → 0 < n → frame ≡ get_or frames (n - 1) frame
+    → ◌≡◌ {A = Stack} (record { global = global; above = reverse frames; keeps = keeps }) stack
+    → links ≡ map.remove frame.links name
+    → ◌≡◌ {A = Stack} (record { global = global; above = reverse (set frames (n - 1) (record frame { links = links })); keeps = keeps }) (unlinked stack name)
+top_unlinked global keeps frames n frame stack name links len some there is new =
+    let turned = last_first frames n frame len some there in
+    ap (λ above. record { global = global; above = above; keeps = keeps }) (turned.2 (record frame { links = links }))
+    ∙ ap (λ l. record { global = global; above = record frame { links = l } ∷ turned.0; keeps = keeps }) new
+    ∙ ap (λ s. unlinked s name) (ap (λ above. record { global = global; above = above; keeps = keeps }) (sym turned.1) ∙ is)

@@ -22,14 +22,14 @@ module _ {V : Type 0} (m : FinMap (slice_cmp nat_cmp) V) (k : List ℕ) (v : V) 
   same_at q y = get_tied nat_list_cmp_total m q k ((Equal-is (slice_cmp nat_cmp q k)).0 y)
 
   -- a key that was put and is taken away, where it had nothing before
-  put_and_taken : map.get m k ≡ None → map.remove (map.insert m k v) k ≡ m
+  pub put_and_taken : map.get m k ≡ None → map.remove (map.insert m k v) k ≡ m
   put_and_taken had = same_map nat_list_cmp_total exact_bytes _ _ (λ q.
       get-remove nat_list_cmp_total (map.insert m k v) k q
       ∙ ap (cond (is_eq (slice_cmp nat_cmp q k)) None) (get-insert nat_list_cmp_total m k v q)
       ∙ second (is_eq (slice_cmp nat_cmp q k)) None (Some v) (map.get m q) (λ y. sym had ∙ same_at q y))
 
   -- a key that was put and then has again what it had before
-  put_and_put : (w : V) → map.get m k ≡ Some w → map.insert (map.insert m k v) k w ≡ m
+  pub put_and_put : (w : V) → map.get m k ≡ Some w → map.insert (map.insert m k v) k w ≡ m
   put_and_put w had = same_map nat_list_cmp_total exact_bytes _ _ (λ q.
       get-insert nat_list_cmp_total (map.insert m k v) k w q
       ∙ ap (cond (is_eq (slice_cmp nat_cmp q k)) (Some w)) (get-insert nat_list_cmp_total m k v q)

@@ -9,9 +9,9 @@ use Rattle.tcl_frame.specs.Variables.{Table, Elements, with_value, without, with
 use Rattle.tcl_frame.specs.Meaning.{Found, found, is_there, is_array_there, value_there, elements_there, no_read, no_write, no_removal, no_array}
 use Rattle.tcl_frame.specs.Stack.{Stack}
 
--- the global frame alone, without variables
+-- the global frame alone, without variables and base scalars
 abbrev pub fresh : Stack
-fresh = record { global = map.empty; above = [] }
+fresh = record { global = map.empty; above = []; keeps = [] }
 
 -- a frame without variables and links
 abbrev pub empty_frame : Frame
@@ -82,6 +82,10 @@ read_fault stack name = no_read (found_in stack (named name))
 abbrev pub write_fault : Stack → List ℕ → Option VarFault
 write_fault stack name = no_write (found_in stack (named name))
 
+-- why a write to the global variable of this name is refused, if it is
+abbrev pub global_fault : Stack → List ℕ → Option VarFault
+global_fault stack name = no_write (found stack.global (named name))
+
 -- why a removal of this name is refused, if it is
 abbrev pub remove_fault : Stack → List ℕ → Option VarFault
 remove_fault stack name = no_removal (found_in stack (named name))
@@ -101,6 +105,10 @@ removed_from stack name = with_table stack (variable_name name) (without (table_
 -- after a write that isn't refused
 abbrev pub written : Stack → List ℕ → List ℕ → Stack
 written stack name value = written_to stack (named name) value
+
+-- after a write to the global variable of this name that isn't refused
+abbrev pub globally_written : Stack → List ℕ → List ℕ → Stack
+globally_written stack name value = record stack { global = with_value stack.global (named name) value }
 
 -- after a removal that isn't refused
 abbrev pub removed : Stack → List ℕ → Stack
@@ -127,3 +135,12 @@ with_link (frame ∷ frames) name = record frame { links = map.insert frame.link
 -- after a link that isn't refused, which in the global frame changes nothing
 abbrev pub linked : Stack → List ℕ → Stack
 linked stack name = record stack { above = with_link stack.above name }
+
+-- the frames, of which the topmost doesn't link this name
+abbrev pub without_link : List Frame → List ℕ → List Frame
+without_link [] name = []
+without_link (frame ∷ frames) name = record frame { links = map.remove frame.links name } ∷ frames
+
+-- after a link was taken away, which in the global frame changes nothing
+abbrev pub unlinked : Stack → List ℕ → Stack
+unlinked stack name = record stack { above = without_link stack.above name }

@@ -3,6 +3,7 @@ pub mod Names
 pub mod Variables
 pub mod Stack
 pub mod Frames
+pub mod Base
 pub mod Meaning
 pub mod Refusal
 pub mod Appending
@@ -10,6 +11,7 @@ pub mod Arrays
 -- What only proofs use.
 pub mod Entries
 pub mod Findings
+pub mod Globals
 pub mod Lending
 pub mod Seen
 pub mod StackCode

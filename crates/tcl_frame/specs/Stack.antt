@@ -1,9 +1,14 @@
 -- The frames of an interpreter.
-use Rattle.std.specs.Prelude.{List}
+use Rattle.std.specs.Prelude.{ℕ, List}
 use Rattle.tcl_frame.specs.Variables.{Table}
 use Rattle.tcl_frame.specs.declared.frame.Frame.{Frame}
 
--- the global variables, and the frames above them, the topmost first
+-- a base scalar that was kept: its name and its value
+abbrev pub Kept : Type 0
+Kept = List ℕ × List ℕ
+
+-- the global variables, the frames above them, the topmost first, and the keeps that stand, the first one first
 pub record Stack : Type 0 where
   pub global : Table
   pub above : List Frame
+  pub keeps : List Kept

@@ -44,6 +44,15 @@ impl<V> Dictionary<V> {
         }
     }
 
+    /// Takes all keys away. It takes no memory.
+    pub fn clear(&mut self)
+    where
+        V: Drop,
+        ensures { self.new ≡ map.empty }
+    {
+        self.values = BTreeMap::new(self.alloc);
+    }
+
     /// How many keys have a value.
     pub fn len(&self) -> usize
         ensures { result ≡ length (map.entries self.now) }

@@ -1,17 +1,20 @@
 //! The variables of an interpreter.
 
-ghost use Rattle.std.specs.Prelude.{◌≡◌, ◌<◌, ◌++◌, IfOk, OnOk, OnErr, length, false};
+ghost use Rattle.std.specs.Prelude.{◌≡◌, ◌≤◌, ◌<◌, ◌++◌, ◌≢◌, IfOk, IfErr, OnOk, OnErr, length, false};
 ghost use Rattle.std.specs.FinMap as map;
 ghost use Rattle.txt_core.specs.Knowing.{Holds};
 ghost use Rattle.tcl_frame.specs.Names.{named, is_element};
-ghost use Rattle.tcl_frame.specs.Frames.{fresh, pushed, popped, table_of, has, is_array, elements_of, read_of, read_fault, write_fault, remove_fault, array_fault, link_fault, written, removed, pairs_written, linked};
+ghost use Rattle.tcl_frame.specs.Frames.{fresh, pushed, popped, links_name, found_in, has, is_array, elements_of, read_of, read_fault, write_fault, global_fault, remove_fault, array_fault, link_fault, written, globally_written, removed, pairs_written, linked, unlinked};
+ghost use Rattle.tcl_frame.specs.Base.{IsAtBase, cleared, kept, unkept};
+ghost use Rattle.tcl_frame.specs.Seen.{name_seen};
+ghost use Rattle.tcl_frame.specs.Findings.{found_seen};
 ghost use Rattle.tcl_frame.specs.Refusal.{IsRefusedFor};
 
 use crate::fault::VarFault;
 use crate::found::Found;
 use crate::frame::Frame;
+use crate::globals::Globals;
 use crate::name::Name;
-use crate::variable::Table;
 use std::alloc::Global;
 use std::marker::Model;
 use txt_core::{Known, NoMemory, Pairs, Text};
@@ -24,12 +27,15 @@ use txt_core::{Known, NoMemory, Pairs, Text};
 /// before the first `(`, the index between it and the last byte. Any other name means a variable,
 /// which is a scalar or an array.
 ///
-/// Contracts see a `Stack`: the global variables, and the frames above them, the topmost first.
-/// What a call does is a function of it and of the name.
+/// Some global scalars may be base scalars (`keep`): they are there with their base values whenever the
+/// frames are cleared, whatever became of them meanwhile.
+///
+/// Contracts see a `Stack`: the global variables, the frames above them, the topmost first, and the
+/// keeps that stand. What a call does is a function of it and of the name.
 #[derive(Debug, Drop)]
 pub struct Frames {
     alloc: Global,
-    global: Table,
+    global: Globals,
     above: Vec<Frame>,
 }
 
@@ -42,17 +48,17 @@ impl Model for Frames {
 
     ghost coded = { stack_code };
 
-    ghost view = { λ a. record { global = a.global; above = reverse a.above.items } };
+    ghost view = { λ a. record { global = a.global.table; above = reverse a.above.items; keeps = a.global.keeps } };
 }
 
 impl Frames {
-    /// The global frame alone, without variables.
+    /// The global frame alone, without variables and base scalars.
     pub fn new(alloc: Global) -> Result<Frames, NoMemory>
         ensures { IfOk result (λ frames. frames ≡ fresh) }
     {
         Ok(Frames {
             alloc,
-            global: Table::new(alloc),
+            global: Globals::new(alloc),
             above: Vec::new(alloc),
         })
     }
@@ -74,6 +80,47 @@ impl Frames {
         self.above.pop();
     }
 
+    /// Leaves one global frame with exactly the base scalars and their base values. It takes no memory
+    /// and can't be refused. Its cost is that of dropping what is cleared away.
+    pub fn clear(&mut self)
+        ensures { self.new ≡ cleared self.old }
+    {
+        self.above.clear();
+        self.global.clear();
+    }
+
+    /// Makes a scalar of this name and value a base scalar, in place of any base scalar of this name:
+    /// from now on it is there whenever the frames are cleared. It is the global variable of this name
+    /// at once. The condition is that only the global frame is there and holds exactly the base scalars
+    /// with their base values, as after `clear`, and that the name hasn't an element's form
+    /// (`is_element_name`). Where memory wants, nothing changes.
+    pub fn keep(&mut self, name: Text, value: Text) -> Result<(), NoMemory>
+        requires base { IsAtBase self.old }
+        requires whole { is_element (named name) ≡ false }
+        ensures ok { OnOk result (self.new ≡ kept self.old name value) }
+        ensures err { OnErr result (self.new ≡ self.old) }
+    {
+        self.global.keep(name, value)
+    }
+
+    /// How many keeps stand. It takes no memory.
+    pub fn kept(&self) -> u64
+        ensures { result ≡ length self.now.keeps }
+    {
+        self.global.kept()
+    }
+
+    /// Takes all keeps but the first ones, so many, back, in the base scalars and the global variables
+    /// alike: a name has the base value again that it had before, or none. It takes no memory and can't
+    /// be refused. The condition is that of `keep` on the frames, and that there are so many keeps.
+    pub fn unkeep(&mut self, kept: u64)
+        requires base { IsAtBase self.old }
+        requires within { kept ≤ length self.old.keeps }
+        ensures { self.new ≡ unkept self.old kept }
+    {
+        self.global.unkeep(kept);
+    }
+
     /// How many frames stand above the global one.
     pub fn depth(&self) -> usize
         ensures { result ≡ length self.now.above }
@@ -81,13 +128,13 @@ impl Frames {
         self.above.len()
     }
 
-    /// The variables among which the variable of this name is looked up.
-    fn table(&self, name: &[u8]) -> &Table
-        ensures { result.now ≡ table_of self.now name.now }
+    /// What a name finds.
+    fn find(&self, name: &Name<'_>) -> Found<'_>
+        ensures { found_seen result ≡ found_in self.now (name_seen name.now) }
     {
         match self.above.last() {
-            Some(frame) if !frame.links.contains(name) => &frame.variables,
-            _ => &self.global,
+            Some(frame) if !frame.links.contains(name.variable()) => frame.variables.find(name),
+            _ => self.global.find(name),
         }
     }
 
@@ -98,8 +145,7 @@ impl Frames {
         ensures value { IfOk result (λ value. value.now ≡ read_of self.now name.now) }
         ensures refused { IsRefusedFor (read_fault self.now name.now) result }
     {
-        let name = Name::new(name.bytes());
-        match self.table(name.variable()).find(&name) {
+        match self.find(&Name::new(name.bytes())) {
             Found::Nothing => Err(VarFault::NoVariable),
             Found::Value(value) => Ok(value),
             Found::AnArray(_) => Err(VarFault::IsArray),
@@ -122,16 +168,14 @@ impl Frames {
     pub fn has(&self, name: &Text) -> bool
         ensures { result ≡ has self.now name.now }
     {
-        let name = Name::new(name.bytes());
-        self.table(name.variable()).find(&name).is_there()
+        self.find(&Name::new(name.bytes())).is_there()
     }
 
     /// Whether the name is an array's.
     pub fn is_array(&self, name: &Text) -> bool
         ensures { result ≡ is_array self.now name.now }
     {
-        let name = Name::new(name.bytes());
-        self.table(name.variable()).find(&name).is_array()
+        self.find(&Name::new(name.bytes())).is_array()
     }
 
     /// The indexes of an array with their values, in byte order of the indexes; none where the
@@ -139,8 +183,7 @@ impl Frames {
     pub fn elements(&self, name: &Text) -> Result<Pairs, NoMemory>
         ensures { IfOk result (λ pairs. pairs ≡ map.entries (elements_of self.now name.now)) }
     {
-        let name = Name::new(name.bytes());
-        match self.table(name.variable()).find(&name) {
+        match self.find(&Name::new(name.bytes())) {
             Found::AnArray(elements) => elements.pairs(),
             _ => Ok(Pairs::new(self.alloc)),
         }
@@ -150,8 +193,7 @@ impl Frames {
     pub fn count(&self, name: &Text) -> usize
         ensures { result ≡ length (map.entries (elements_of self.now name.now)) }
     {
-        let name = Name::new(name.bytes());
-        match self.table(name.variable()).find(&name) {
+        match self.find(&Name::new(name.bytes())) {
             Found::AnArray(elements) => elements.len(),
             _ => 0,
         }
@@ -173,6 +215,20 @@ impl Frames {
             }
             _ => self.global.write(&name, value),
         }
+    }
+
+    /// Gives a global scalar or a global array's element this value, whatever the topmost frame has
+    /// under this name; an absent variable or array is made. `IsArray` comes exactly where the name
+    /// is a global array's, `NotArray` where an element's array is a global scalar. A refusal changes
+    /// nothing.
+    pub fn write_global(&mut self, name: &Text, value: Text) -> Result<(), VarFault>
+        ensures ok { OnOk result (self.new ≡ globally_written self.old name.now value) }
+        ensures refused { IsRefusedFor (global_fault self.old name.now) result }
+        ensures err { OnErr result (self.new ≡ self.old) }
+        ensures depth { length self.new.above ≡ length self.old.above }
+    {
+        let meant = Name::new(name.bytes());
+        self.global.write(&meant, value)
     }
 
     /// Puts bytes behind the value of a scalar or an element, which is empty where the variable, the
@@ -200,11 +256,13 @@ impl Frames {
 
     /// Takes a scalar, an array or an element away; an array stays when its last element goes.
     /// `NoVariable` comes exactly where the variable, the array or the element is absent,
-    /// `NotArray` where an element's array is a scalar. A refusal changes nothing.
+    /// `NotArray` where an element's array is a scalar. A refusal changes nothing. It takes no memory,
+    /// so that `NoMemory` never comes.
     pub fn remove(&mut self, name: &Text) -> Result<(), VarFault>
         ensures ok { OnOk result (self.new ≡ removed self.old name.now) }
         ensures refused { IsRefusedFor (remove_fault self.old name.now) result }
         ensures err { OnErr result (self.new ≡ self.old) }
+        ensures memory { IfErr result (λ fault. fault ≢ VarFault.NoMemory) }
         ensures depth { length self.new.above ≡ length self.old.above }
     {
         let name = Name::new(name.bytes());
@@ -236,6 +294,17 @@ impl Frames {
         }
     }
 
+    /// Whether the topmost frame leaves this name to the global variables: it links the name, or there
+    /// is no frame above the global one. It takes no memory.
+    pub fn is_linked(&self, name: &Text) -> bool
+        ensures { result ≡ links_name self.now.above name.now }
+    {
+        match self.above.last() {
+            Some(frame) => frame.links.contains(name.bytes()),
+            None => true,
+        }
+    }
+
     /// Makes the name mean the global variable of this name, in all calls while this frame is the
     /// topmost, also where that variable is removed and made again. In the global frame it does
     /// nothing. The condition is that the name hasn't an element's form (`is_element_name`).
@@ -257,5 +326,17 @@ impl Frames {
         }
         frame.links.insert(bytes, ())?;
         Ok(())
+    }
+
+    /// Takes a link of the topmost frame away, where it links the name. In the global frame it does
+    /// nothing. It takes no memory.
+    pub fn unlink(&mut self, name: &Text)
+        ensures change { self.new ≡ unlinked self.old name.now }
+        ensures depth { length self.new.above ≡ length self.old.above }
+    {
+        let Some(frame) = self.above.last_mut() else {
+            return;
+        };
+        frame.links.remove(name.bytes());
     }
 }

@@ -1,12 +1,15 @@
 //! The variables of an interpreter: scalars and arrays in frames, of which the lowest is global.
 #![tactic(auto)]
 
+mod base;
 mod dictionary;
 mod fault;
 mod found;
 mod frame;
 mod frames;
+mod globals;
 mod journal;
+mod keep;
 mod law;
 mod name;
 mod table;
@@ -14,5 +17,5 @@ mod variable;
 
 pub use fault::VarFault;
 pub use frames::Frames;
-pub use law::{changes_of_variables, meaning_of_names};
+pub use law::{base_scalars_stand, changes_of_variables, meaning_of_names};
 pub use name::is_element_name;

@@ -1,6 +1,6 @@
 //! Variables by name, without frames.
 
-ghost use Rattle.std.specs.Prelude.{◌≡◌, None, IfOk, OnOk, OnErr};
+ghost use Rattle.std.specs.Prelude.{◌≡◌, ◌≢◌, None, IfOk, IfErr, OnOk, OnErr};
 ghost use Rattle.txt_core.specs.Knowing.{Holds};
 ghost use Rattle.tcl_frame.specs.Variables.{with_value, without, with_array};
 ghost use Rattle.tcl_frame.specs.Appending.{longer, with_longer};
@@ -150,11 +150,13 @@ impl Table {
         }
     }
 
-    /// Takes a variable or an element away. An array stays when its last element goes.
+    /// Takes a variable or an element away. An array stays when its last element goes. It takes no
+    /// memory.
     pub fn take_away(&mut self, name: &Name<'_>) -> Result<(), VarFault>
         ensures ok { OnOk result (self.new ≡ without self.old (name_seen name.now)) }
         ensures refused { IsRefusedFor (no_removal (found self.old (name_seen name.now))) result }
         ensures err { OnErr result (self.new ≡ self.old) }
+        ensures memory { IfErr result (λ fault. fault ≢ VarFault.NoMemory) }
     {
         if let Some(fault) = self.find(name).no_removal() {
             return Err(fault);

@@ -4,3 +4,4 @@ mod Values
 mod Counts
 mod Making
 mod Growing
+mod Linking

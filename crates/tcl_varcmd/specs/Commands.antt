@@ -23,18 +23,6 @@ command_named name =
     else if bytes_eq name (codes "info") then Some Info
     else None
 
--- whether a command takes its names one after the other, so that those before a failing one are done
-abbrev pub goes_in_turn : Option Command → Bool
-goes_in_turn None = false
-goes_in_turn (Some Set) = false
-goes_in_turn (Some Unset) = true
-goes_in_turn (Some Incr) = false
-goes_in_turn (Some Append) = false
-goes_in_turn (Some Lappend) = false
-goes_in_turn (Some Global) = true
-goes_in_turn (Some Array) = false
-goes_in_turn (Some Info) = false
-
 -- whether words go on as this command's: of `info` only `info exists` is a variable command
 abbrev pub goes_on : Option Command → List (List ℕ) → Bool
 goes_on None words = false

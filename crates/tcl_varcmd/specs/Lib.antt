@@ -8,3 +8,4 @@ pub mod Commands
 -- What only proofs use.
 pub mod Reading
 pub mod Growing
+pub mod Linking

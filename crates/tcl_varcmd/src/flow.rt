@@ -1,11 +1,10 @@
 //! Variable commands.
 
-ghost use Rattle.std.specs.Prelude.{◌≡◌, length, Some, false, IsTrue};
+ghost use Rattle.std.specs.Prelude.{◌≡◌, length, Some, IsTrue};
 ghost use Rattle.tcl_frame.specs.Stack.{Stack};
 ghost use Rattle.tcl_varcmd.specs.Answers.{Came, Answers, IfNoMemory};
-ghost use Rattle.natives.specs.Words.{arg};
 ghost use Rattle.txt_core.specs.ErrorTexts.{too_long};
-ghost use Rattle.tcl_varcmd.specs.Commands.{command_came, command_named, goes_in_turn, bounded, var_came, begins_var_command};
+ghost use Rattle.tcl_varcmd.specs.Commands.{command_came, bounded, var_came, begins_var_command};
 
 use crate::array::{array, info};
 use crate::command::{Command, command_in};
@@ -24,7 +23,7 @@ fn answer(
     words: &Words,
 ) -> Result<Text, Fault>
     ensures came { Answers (command_came frames.old (Some command) words.now) result frames.new }
-    ensures kept { goes_in_turn (Some command) ≡ false → IfNoMemory result (frames.new ≡ frames.old) }
+    ensures kept { IfNoMemory result (frames.new ≡ frames.old) }
     ensures depth { length frames.new.above ≡ length frames.old.above }
 {
     match command {
@@ -64,12 +63,12 @@ fn within_limit(answer: Result<Text, Fault>, over: Text) -> Result<Text, Fault>
 /// `Error` exactly where the command's rule has an error, with its text: first a wrong number of
 /// words or an unknown subcommand, then what the arguments, from left to right, don't allow. The
 /// variables are then as they were, but for the names before the failing one in `unset` and
-/// `global`. `NoMemory` for want of memory alone; the variables are then as they were, but for names
-/// that `unset` and `global` had already done, and no frame was pushed or popped.
+/// `global`. `NoMemory` for want of memory alone; the variables are then as they were, in `unset` and
+/// `global` too.
 pub fn var_command(alloc: Global, frames: &mut Frames, words: &Words) -> Result<Text, Fault>
     requires { IsTrue (begins_var_command words.now) }
     ensures came { Answers (var_came frames.old words.now) result frames.new }
-    ensures kept { goes_in_turn (command_named (arg words.now 0)) ≡ false → IfNoMemory result (frames.new ≡ frames.old) }
+    ensures kept { IfNoMemory result (frames.new ≡ frames.old) }
     ensures depth { length frames.new.above ≡ length frames.old.above }
 {
     match command_in(words) {

@@ -7,6 +7,7 @@ mod flow;
 mod message;
 mod names;
 mod part;
+mod room;
 mod scalar;
 mod value;
 mod variable;

@@ -12,15 +12,22 @@ enum Act {
     Read,
     Value,
     Write,
+    WriteGlobal,
     Append,
     Remove,
     Link,
+    Unlink,
+    IsLinked,
     WriteArray,
     Has,
     IsArray,
     Elements,
     Count,
     Depth,
+    Clear,
+    Keep,
+    Kept,
+    Unkeep,
 }
 
 /// A text that says yes or no.
@@ -66,6 +73,23 @@ fn split(alloc: Global, text: &str) -> Result<Words, VarFault> {
     Ok(words)
 }
 
+/// Keeps a base scalar, in frames that are cleared first.
+fn keep(alloc: Global, frames: &mut Frames, name: Text, value: &str) -> Result<(), VarFault> {
+    frames.clear();
+    if !is_element_name(&name) {
+        frames.keep(name, Text::new(alloc, value.as_bytes())?)?;
+    }
+    Ok(())
+}
+
+/// Takes all keeps but so many back, in frames that are cleared first.
+fn unkeep(frames: &mut Frames, kept: u64) {
+    frames.clear();
+    if kept <= frames.kept() {
+        frames.unkeep(kept);
+    }
+}
+
 /// What a call answers, as a text.
 fn answer(
     alloc: Global,
@@ -82,16 +106,23 @@ fn answer(
         Act::Read => return frames.read(&name),
         Act::Value => return Ok(Text::new(alloc, frames.value(&name)?.bytes())?),
         Act::Write => frames.write(&name, Text::new(alloc, value.as_bytes())?)?,
+        Act::WriteGlobal => frames.write_global(&name, Text::new(alloc, value.as_bytes())?)?,
         Act::Append => return frames.append(&name, value.as_bytes(), Known::Nothing),
         Act::Remove => frames.remove(&name)?,
         Act::Link if !is_element_name(&name) => frames.link(&name)?,
         Act::Link => {}
+        Act::Unlink => frames.unlink(&name),
+        Act::IsLinked => return yes(alloc, frames.is_linked(&name)),
         Act::WriteArray => frames.write_array(&name, split(alloc, value)?.as_slice())?,
         Act::Has => return yes(alloc, frames.has(&name)),
         Act::IsArray => return yes(alloc, frames.is_array(&name)),
         Act::Elements => return listed(alloc, frames, &name),
         Act::Count => return marks(alloc, frames.count(&name)),
         Act::Depth => return marks(alloc, frames.depth()),
+        Act::Clear => frames.clear(),
+        Act::Keep => keep(alloc, frames, name, value)?,
+        Act::Kept => return marks(alloc, frames.kept() as usize),
+        Act::Unkeep => unkeep(frames, value.len() as u64),
     }
     Ok(Text::empty(alloc))
 }
@@ -329,5 +360,83 @@ fn many_variables(rt: HostRuntime) -> Result<(), Fail> {
         assert_eq!(rt; frames.read(&name)?.bytes(), name.bytes());
     }
     assert_eq!(rt; frames.has(&write_int(rt.alloc(), 10_000)?), false);
+    Ok(())
+}
+
+#[test]
+fn the_global_frame_from_above(rt: HostRuntime) -> Result<(), Fail> {
+    let rows: &[Row] = &[
+        (Act::Push, "", "", Ok("")),
+        (Act::Write, "x", "own", Ok("")),
+        (Act::WriteGlobal, "x", "1", Ok("")),
+        (Act::WriteGlobal, "x(k)", "1", Err(NotArray)),
+        (Act::WriteGlobal, "a(k)", "2", Ok("")),
+        (Act::WriteGlobal, "a", "2", Err(IsArray)),
+        (Act::Read, "x", "", Ok("own")),
+        (Act::Read, "a(k)", "", Err(NoVariable)),
+        (Act::IsLinked, "a", "", Ok("no")),
+        (Act::Link, "a", "", Ok("")),
+        (Act::IsLinked, "a", "", Ok("yes")),
+        (Act::Read, "a(k)", "", Ok("2")),
+        (Act::Unlink, "a", "", Ok("")),
+        (Act::Read, "a(k)", "", Err(NoVariable)),
+        (Act::Pop, "", "", Ok("")),
+        (Act::Unlink, "x", "", Ok("")),
+        (Act::IsLinked, "x", "", Ok("yes")),
+        (Act::Read, "x", "", Ok("1")),
+        (Act::Push, "", "", Ok("")),
+        (Act::Push, "", "", Ok("")),
+        (Act::Link, "x", "", Ok("")),
+        (Act::Clear, "", "", Ok("")),
+        (Act::Depth, "", "", Ok("")),
+        (Act::Has, "x", "", Ok("no")),
+        (Act::Has, "a", "", Ok("no")),
+        (Act::Push, "", "", Ok("")),
+        (Act::Write, "x", "2", Ok("")),
+        (Act::Read, "x", "", Ok("2")),
+    ];
+    assert_eq!(rt; first_wrong(rt.alloc(), rows)?, None);
+    Ok(())
+}
+
+#[test]
+fn base_scalars(rt: HostRuntime) -> Result<(), Fail> {
+    let rows: &[Row] = &[
+        (Act::Keep, "x", "1", Ok("")),
+        (Act::Keep, "y", "2", Ok("")),
+        (Act::Read, "x", "", Ok("1")),
+        (Act::Append, "x", "0", Ok("10")),
+        (Act::Write, "y(k)", "3", Err(NotArray)),
+        (Act::Remove, "y(k)", "", Err(NotArray)),
+        (Act::WriteArray, "y", "k 3 ", Err(NotArray)),
+        (Act::Remove, "y", "", Ok("")),
+        (Act::Has, "y", "", Ok("no")),
+        (Act::Remove, "y", "", Err(NoVariable)),
+        (Act::Write, "y(k)", "3", Ok("")),
+        (Act::IsArray, "y", "", Ok("yes")),
+        (Act::Clear, "", "", Ok("")),
+        (Act::Read, "x", "", Ok("1")),
+        (Act::Value, "y", "", Ok("2")),
+        (Act::Push, "", "", Ok("")),
+        (Act::Link, "x", "", Ok("")),
+        (Act::Write, "x", "7", Ok("")),
+        (Act::Remove, "x", "", Ok("")),
+        (Act::WriteGlobal, "z", "8", Ok("")),
+        (Act::Clear, "", "", Ok("")),
+        (Act::Read, "x", "", Ok("1")),
+        (Act::Has, "z", "", Ok("no")),
+        (Act::Keep, "x", "4", Ok("")),
+        (Act::Keep, "z", "5", Ok("")),
+        (Act::Kept, "", "", Ok("||||")),
+        (Act::Write, "x", "6", Ok("")),
+        (Act::Unkeep, "", "|||", Ok("")),
+        (Act::Has, "z", "", Ok("no")),
+        (Act::Read, "x", "", Ok("4")),
+        (Act::Unkeep, "", "|", Ok("")),
+        (Act::Read, "x", "", Ok("1")),
+        (Act::Has, "y", "", Ok("no")),
+        (Act::Kept, "", "", Ok("|")),
+    ];
+    assert_eq!(rt; first_wrong(rt.alloc(), rows)?, None);
     Ok(())
 }

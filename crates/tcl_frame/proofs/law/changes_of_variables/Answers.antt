@@ -9,4 +9,5 @@ returns c =
       removed = changes.removed_found;
       removed_apart = changes.removed_apart;
       linked = changes.linked_found;
+      unlinked = changes.unlinked_again;
     }

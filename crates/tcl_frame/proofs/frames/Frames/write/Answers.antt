@@ -11,7 +11,7 @@ returns-in-Some-clause-ok c =
     let meant = c.new-name.ensures ∙ ap named c.bytes.ensures in
     let name = c.variable.ensures ∙ ap variable_name meant in
     on_ok c.write.result _ _ (λ is.
-    top_changed c.self.inside.global c.self.inside.above.items c.self.inside.above.len c.in-Some.frame.now c.args.self.now (variable_name (named c.args.name.now))
+    top_changed c.self.inside.global.table c.self.inside.global.keeps c.self.inside.above.items c.self.inside.above.len c.in-Some.frame.now c.args.self.now (variable_name (named c.args.name.now))
     (λ table. with_value table (named c.args.name.now) c.args.value) c.write.new.self
     c.self.inside.above.ok.0 (c.in-Some.ensures.variant.0 refl) c.in-Some.ensures.value c.self.view_is
     (subst (λ n. map.contains_key c.in-Some.frame.now.links n ≡ false) name (sym c.contains.ensures ∙ c.if-not-contains.true))

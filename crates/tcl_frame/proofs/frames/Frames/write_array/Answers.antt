@@ -10,7 +10,7 @@ pub returns-in-Some-clause-ok : goal.returns-in-Some-clause-ok
 returns-in-Some-clause-ok c =
     let name = whole_name c.args.name.now c.in-Whole.name.now (c.in-Whole.ensures ∙ ap named c.bytes.ensures) in
     on_ok c.write_array.result _ _ (λ is.
-    top_changed c.self.inside.global c.self.inside.above.items c.self.inside.above.len c.in-Some.frame.now c.args.self.now c.args.name.now
+    top_changed c.self.inside.global.table c.self.inside.global.keeps c.self.inside.above.items c.self.inside.above.len c.in-Some.frame.now c.args.self.now c.args.name.now
     (λ table. with_array table c.args.name.now c.args.pairs.now) c.write_array.new.self
     c.self.inside.above.ok.0 (c.in-Some.ensures.variant.0 refl) c.in-Some.ensures.value c.self.view_is
     (subst (λ n. map.contains_key c.in-Some.frame.now.links n ≡ false) name (sym c.contains.ensures ∙ c.if-not-contains.true))

@@ -1,7 +1,0 @@
-use Rattle.std.proofs.Common.{◌≡◌, drop, length}
-use Rattle.tcl_varcmd.specs.Scalars.{global_all}
-use Rattle.tcl_varcmd.proofs.names.link_names.Given as goal
-
--- what is still to be linked comes to what the whole does
-abbrev pub invariant-names : goal.invariant-names
-invariant-names l = (global_all l.frames (drop l.name-index l.names) ≡ global_all l.initial.frames l.names) × (length l.frames.above ≡ length l.initial.frames.above)
