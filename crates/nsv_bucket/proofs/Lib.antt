@@ -1,3 +1,4 @@
+pub mod Growing
 pub mod Found
 pub mod Maps
 pub mod Pairs

@@ -5,7 +5,7 @@ use Rattle.std.specs.FinMap.{get-empty, len-empty}
 use Rattle.std.specs.Option.{unwrap_or}
 use Rattle.std.specs.Map.{lookup}
 use Rattle.std.specs.BTreeMap.{BTreeMap, is_at, WritesThrough}
-use Rattle.nsv_bucket.specs.Arrays.{text_cmp, Array, Arrays, seen, array_of, value_of}
+use Rattle.nsv_bucket.specs.Arrays.{text_cmp, Array, Arrays, seen, array_of, text_at, value_of}
 use Rattle.txt_core.specs.Quoting.{quoting}
 use Rattle.nsv_bucket.specs.Listings.{names_in, pairs_in}
 use Rattle.nsv_bucket.proofs.Maps.{got, one_put, written_back, none_listed}
@@ -44,3 +44,15 @@ written m n name old new h w = one_put m.entries n.entries name new (w.3 (ap is_
 
 pub unwritten : (m n : BTreeMap (List ℕ) Array) (name : List ℕ) (old new : Array) → lookup (is_at (text_cmp name)) m.entries ≡ Some old → WritesThrough text_cmp (text_cmp name) m new n → new ≡ old → seen n ≡ seen m
 unwritten m n name old new h w same = written_back m.entries n.entries (is_at (text_cmp name)) new w.0 (h ∙ ap Some (sym same))
+
+-- the value of a key, by what a look-up in the entries of the array finds
+module _ (es : List (List ℕ × List ℕ)) (array : Array) (key : List ℕ) (view : map.from_entries {R = text_cmp} es ≡ array) where
+  pub value_stands : (text : List ℕ) → lookup (is_at (text_cmp key)) es ≡ Some text → text_at array key ≡ text
+  value_stands text h = ap (λ o. unwrap_or o []) (ap (λ m. map.get m key) (sym view) ∙ got es key ∙ h)
+
+  pub value_lacks : lookup (is_at (text_cmp key)) es ≡ None → text_at array key ≡ []
+  value_lacks h = ap (λ o. unwrap_or o []) (ap (λ m. map.get m key) (sym view) ∙ got es key ∙ h)
+
+-- the value of a key of an absent array
+pub lacks_value : (m : BTreeMap (List ℕ) Array) (name key : List ℕ) → lookup (is_at (text_cmp name)) m.entries ≡ None → text_at (array_of (seen m) name) key ≡ []
+lacks_value m name key h = ap (λ a. text_at a key) (lacks m name h) ∙ ap (λ o. unwrap_or o []) (get-empty text_cmp key)

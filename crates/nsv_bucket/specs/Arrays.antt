@@ -1,5 +1,5 @@
 -- The arrays of a bucket: a finite map from names to arrays, each a finite map from keys to values.
-use Rattle.std.specs.Prelude.{ℕ, List, Option}
+use Rattle.std.specs.Prelude.{ℕ, List, [], Option}
 use Rattle.std.specs.declared.cmp.Ordering.{Ordering}
 use Rattle.std.specs.Ordering.{nat_cmp}
 use Rattle.std.specs.Cmp.Lexicographic.{slice_cmp}
@@ -35,6 +35,10 @@ with_value arrays name key value = map.insert arrays name (map.insert (array_of 
 -- the same arrays, but that the array of this name lacks the key; the array stays, also where it holds no key then
 abbrev pub without_key : Arrays → List ℕ → List ℕ → Arrays
 without_key arrays name key = map.insert arrays name (map.remove (array_of arrays name) key)
+
+-- the value of a key in an array; the empty text where it is absent
+abbrev pub text_at : Array → List ℕ → List ℕ
+text_at array key = unwrap_or (map.get array key) []
 
 -- the arrays that a map of the program holds
 abbrev pub seen : BTreeMap (List ℕ) Array → Arrays

@@ -1,12 +1,11 @@
 -- What the questions do that take a list.
 use Rattle.std.specs.Prelude.{ℕ, ◌%◌, ◌==◌, List, [], ◌∷◌, ◌++◌, length, drop, Bool, false, ◌||◌, if◌then◌else◌}
 use Rattle.std.specs.FinMap as map
-use Rattle.std.specs.Option.{unwrap_or}
 use Rattle.txt_core.specs.Lists.{Listing, elements, bad_at}
 use Rattle.txt_core.specs.Listing.{listing}
 use Rattle.txt_core.specs.Quoting.{quoting}
 use Rattle.nsv_bucket.specs.declared.reply.NsvReply.TheVariants.{Said}
-use Rattle.nsv_bucket.specs.Arrays.{Array, Arrays, array_of, value_of}
+use Rattle.nsv_bucket.specs.Arrays.{Array, Arrays, array_of, text_at}
 use Rattle.nsv_bucket.specs.Questions.{word_at}
 use Rattle.nsv_bucket.specs.Replies.{Outcome, is_too_long, too_long, refused, bad_list, bad_pairs}
 use Rattle.nsv_bucket.specs.Writes.{stored}
@@ -18,7 +17,7 @@ lappended arrays words (bad_at place) = refused arrays (bad_list place)
 lappended arrays words (elements standing) = stored arrays (word_at words 1) (word_at words 2) (quoting (standing ++ drop 3 words))
 
 abbrev pub lappend_step : Arrays → List (List ℕ) → Outcome
-lappend_step arrays words = lappended arrays words (listing (unwrap_or (value_of arrays (word_at words 1) (word_at words 2)) []))
+lappend_step arrays words = lappended arrays words (listing (text_at (array_of arrays (word_at words 1)) (word_at words 2)))
 
 -- whether a list is one of pairs
 abbrev pub is_even : List (List ℕ) → Bool

@@ -6,7 +6,7 @@ use Rattle.std.specs.List.{concat}
 use Rattle.std.specs.Option.{option_map_or, unwrap_or}
 use Rattle.txt_core.specs.Number.{number}
 use Rattle.nsv_bucket.specs.declared.reply.NsvReply.TheVariants.{Said}
-use Rattle.nsv_bucket.specs.Arrays.{Arrays, value_of, with_value, without_key}
+use Rattle.nsv_bucket.specs.Arrays.{Arrays, array_of, text_at, value_of, with_value, without_key}
 use Rattle.nsv_bucket.specs.Questions.{word_at}
 use Rattle.nsv_bucket.specs.Replies.{Outcome, is_too_long, too_long, refused, no_integer}
 use Rattle.nsv_bucket.specs.Reads.{at_array, at_key}
@@ -14,6 +14,10 @@ use Rattle.nsv_bucket.specs.Reads.{at_array, at_key}
 -- the value is stored and answered; one that is too long is refused
 abbrev pub stored : Arrays → List ℕ → List ℕ → List ℕ → Outcome
 stored arrays name key value = if is_too_long value then too_long arrays else (Said value, with_value arrays name key value)
+
+-- the value of a key with these bytes behind it is stored and answered; one that is too long is refused
+abbrev pub grown : Arrays → List ℕ → List ℕ → List ℕ → Outcome
+grown arrays name key more = stored arrays name key (text_at (array_of arrays name) key ++ more)
 
 -- `nsv_set ARRAY KEY VALUE` gives the value
 abbrev pub set_step : Arrays → List (List ℕ) → Outcome
@@ -43,8 +47,7 @@ incr_step arrays words =
 -- `nsv_append ARRAY KEY VALUE VALUE*` puts the values behind the value, or behind the empty text where the key is
 -- absent, and gives the new value
 abbrev pub append_step : Arrays → List (List ℕ) → Outcome
-append_step arrays words =
-    stored arrays (word_at words 1) (word_at words 2) (unwrap_or (value_of arrays (word_at words 1) (word_at words 2)) [] ++ concat (drop 3 words))
+append_step arrays words = grown arrays (word_at words 1) (word_at words 2) (concat (drop 3 words))
 
 -- `nsv_unset ARRAY KEY` removes the key, and gives the empty text
 abbrev pub unset_key : Arrays → List ℕ → List ℕ → Outcome

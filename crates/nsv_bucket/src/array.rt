@@ -1,8 +1,10 @@
 //! One array: values by key.
 
-ghost use Rattle.std.specs.Prelude.{◌≡◌, IfOk, OnOk, OnErr};
+ghost use Rattle.std.specs.Prelude.{◌≡◌, ◌++◌, IfOk, OnOk, OnErr};
 ghost use Rattle.std.specs.FinMap as map;
 ghost use Rattle.std.specs.Option.{option_copied};
+ghost use Rattle.txt_core.specs.Knowing.{Holds};
+ghost use Rattle.nsv_bucket.specs.Arrays.{text_at};
 ghost use Rattle.nsv_bucket.specs.Listings.{names_in, pairs_in};
 ghost use Rattle.nsv_bucket.specs.Undoing.{given_back};
 
@@ -10,7 +12,7 @@ use crate::listing::{names, pairs};
 use std::alloc::Global;
 use std::collections::BTreeMap;
 use std::marker::Model;
-use txt_core::{NoMemory, Text, Words};
+use txt_core::{Known, NoMemory, Text, Words};
 
 /// The values of one array by key. Contracts see the finite map.
 #[derive(Drop)]
@@ -35,6 +37,17 @@ pub(crate) fn copied(alloc: Global, text: &Text) -> Result<Text, NoMemory>
     ensures { IfOk result (λ copy. copy ≡ text.now) }
 {
     text.copy(alloc)
+}
+
+/// The text of these bytes twice, which share them. The condition is that what is known of it is
+/// true.
+pub(crate) fn twice(alloc: Global, bytes: &[u8], known: Known) -> Result<(Text, Text), NoMemory>
+    requires { Holds known bytes.now }
+    ensures { IfOk result (λ texts. (texts.0 ≡ bytes.now) × (texts.1 ≡ bytes.now)) }
+{
+    let mut first = Text::new(alloc, bytes)?.knowing(known);
+    let second = first.share(alloc)?;
+    Ok((first, second))
 }
 
 impl NsvArray {
@@ -85,6 +98,31 @@ impl NsvArray {
         let key = copied(alloc, key)?;
         let before = self.values.insert(key, value)?;
         Ok(before)
+    }
+
+    /// Puts bytes behind the value of a key, or behind the empty text where the key is absent, and
+    /// gives the new value, with which the one that stands shares its bytes. The condition is that what
+    /// is known of it is true. Its only error is want of memory, and the array is then as it was.
+    pub fn append(
+        &mut self,
+        alloc: Global,
+        key: &Text,
+        more: &[u8],
+        known: Known,
+    ) -> Result<Text, NoMemory>
+        requires { Holds known (text_at self.old key.now ++ more.now) }
+        ensures value { IfOk result (λ text. text ≡ text_at self.old key.now ++ more.now) }
+        ensures ok { OnOk result (self.new ≡ map.insert self.old key.now (text_at self.old key.now ++ more.now)) }
+        ensures err { OnErr result (self.new ≡ self.old) }
+    {
+        match self.values.get_mut(key) {
+            Some(text) => text.append_sharing(alloc, more, known),
+            None => {
+                let (value, said) = twice(alloc, more, known)?;
+                self.put(alloc, key, value)?;
+                Ok(said)
+            }
+        }
     }
 
     /// Gives a key that stands this value, or takes the key out where there is none to give. It takes

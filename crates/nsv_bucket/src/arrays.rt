@@ -1,15 +1,16 @@
 //! The arrays of a bucket, by name.
 
-ghost use Rattle.std.specs.Prelude.{◌≡◌, OnOk, OnErr, IsSome};
+ghost use Rattle.std.specs.Prelude.{◌≡◌, ◌++◌, OnOk, OnErr, IfOk, IsSome};
 ghost use Rattle.std.specs.FinMap as map;
 ghost use Rattle.std.specs.Option.{option_copied};
-ghost use Rattle.nsv_bucket.specs.Arrays.{seen, array_of, value_of, with_value, without_key};
+ghost use Rattle.txt_core.specs.Knowing.{Holds};
+ghost use Rattle.nsv_bucket.specs.Arrays.{seen, array_of, text_at, value_of, with_value, without_key};
 ghost use Rattle.nsv_bucket.specs.Lists.{with_pairs};
 
-use crate::array::{NsvArray, copied};
+use crate::array::{NsvArray, copied, twice};
 use std::alloc::Global;
 use std::collections::BTreeMap;
-use txt_core::{NoMemory, Text};
+use txt_core::{Known, NoMemory, Text};
 
 /// Arrays by name.
 pub(crate) type Arrays = BTreeMap<Text, NsvArray>;
@@ -61,6 +62,32 @@ pub(crate) fn put_value(
     match arrays.get_mut(name) {
         Some(array) => array.put(alloc, key, value),
         None => place_first(alloc, arrays, name, key, value),
+    }
+}
+
+/// Puts bytes behind the value of a key of the array of this name, or behind the empty text where the
+/// key is absent, and gives the new value; an absent array is made. The condition is that what is known
+/// of the new value is true. Its only error is want of memory, and the arrays are then as they were.
+pub(crate) fn append_value(
+    alloc: Global,
+    arrays: &mut Arrays,
+    name: &Text,
+    key: &Text,
+    more: &[u8],
+    known: Known,
+) -> Result<Text, NoMemory>
+    requires { Holds known (text_at (array_of (seen arrays.old) name.now) key.now ++ more.now) }
+    ensures value { IfOk result (λ text. text ≡ text_at (array_of (seen arrays.old) name.now) key.now ++ more.now) }
+    ensures ok { OnOk result (seen arrays.new ≡ with_value (seen arrays.old) name.now key.now (text_at (array_of (seen arrays.old) name.now) key.now ++ more.now)) }
+    ensures err { OnErr result (seen arrays.new ≡ seen arrays.old) }
+{
+    match arrays.get_mut(name) {
+        Some(array) => array.append(alloc, key, more, known),
+        None => {
+            let (value, said) = twice(alloc, more, known)?;
+            place_first(alloc, arrays, name, key, value)?;
+            Ok(said)
+        }
     }
 }
 

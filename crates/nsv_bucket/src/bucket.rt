@@ -1,10 +1,10 @@
 //! A bucket of arrays.
 
-ghost use Rattle.std.specs.Prelude.{◌≡◌};
+ghost use Rattle.std.specs.Prelude.{◌≡◌, IfOk, OnOk, OnErr};
 ghost use Rattle.std.specs.FinMap as map;
 ghost use Rattle.std.specs.Option.{option_copied};
 ghost use Rattle.nsv_bucket.specs.Arrays.{value_of};
-ghost use Rattle.nsv_bucket.specs.Steps.{Steps};
+ghost use Rattle.nsv_bucket.specs.Steps.{array_step, Steps};
 
 use crate::arrays::{Arrays, value};
 use crate::question::read_question;
@@ -14,7 +14,7 @@ use std::alloc::Global;
 use std::collections::BTreeMap;
 use std::marker::Model;
 use turn_cell::Obj;
-use txt_core::{Text, Words};
+use txt_core::{NoMemory, Text, Words};
 
 /// Arrays by name, each with its values by key. Contracts see the finite map of finite maps.
 #[derive(Drop)]
@@ -53,14 +53,24 @@ impl Bucket {
         value(&self.arrays, array, key)
     }
 
-    /// Answers words, and does what they ask for.
+    /// Answers words, and does what they ask for. The only error is want of memory, and the bucket is
+    /// then as it was.
+    pub(crate) fn ask(&mut self, words: &Words) -> Result<NsvReply, NoMemory>
+        ensures reply { IfOk result (λ reply. reply ≡ (array_step self.old words.now).0) }
+        ensures ok { OnOk result (self.new ≡ (array_step self.old words.now).1) }
+        ensures err { OnErr result (self.new ≡ self.old) }
+    {
+        let Some(question) = read_question(words) else {
+            return Ok(NsvReply::Failed(Text::empty(self.alloc)));
+        };
+        ask(self.alloc, &mut self.arrays, question, words)
+    }
+
+    /// The same, with a reply of its own for want of memory.
     fn answer(&mut self, words: &Words) -> NsvReply
         ensures { Steps self.old words.now result self.new }
     {
-        let Some(question) = read_question(words) else {
-            return NsvReply::Failed(Text::empty(self.alloc));
-        };
-        match ask(self.alloc, &mut self.arrays, question, words) {
+        match self.ask(words) {
             Ok(reply) => reply,
             Err(_) => NsvReply::NoMemory,
         }

@@ -22,6 +22,6 @@ mod steps;
 mod writes;
 
 pub use bucket::Bucket;
-pub use buckets::bucket_of;
+pub use buckets::{Buckets, bucket_asked, bucket_of};
 pub use law::{each_key_by_itself, steps_are_determined};
 pub use reply::NsvReply;

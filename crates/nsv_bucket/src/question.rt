@@ -50,7 +50,7 @@ pub(crate) fn word(words: &Words, at: usize) -> &Text
 }
 
 /// The bytes of the word at a place; none where there is no word.
-fn bytes_at(words: &Words, at: usize) -> &[u8]
+pub(crate) fn bytes_at(words: &Words, at: usize) -> &[u8]
     ensures { result.now ≡ word_at words.now at }
 {
     match words.get(at) {
@@ -60,7 +60,7 @@ fn bytes_at(words: &Words, at: usize) -> &[u8]
 }
 
 /// Whether the word at a place has these bytes.
-fn is_word(words: &Words, at: usize, name: &[u8]) -> bool
+pub(crate) fn is_word(words: &Words, at: usize, name: &[u8]) -> bool
     ensures { result ≡ bytes_eq (word_at words.now at) name.now }
 {
     bytes_at(words, at) == name
@@ -82,7 +82,7 @@ fn is_asked_of_array(words: &Words, name: &[u8], least: usize, most: usize) -> b
 }
 
 /// Whether the word at a place is the number of a bucket, a digit from 0 to 7.
-fn is_bucket(word: &[u8]) -> bool
+pub(crate) fn is_bucket(word: &[u8]) -> bool
     ensures { result ≡ is_bucket_number word.now }
 {
     word.len() == 1 && word[0] >= b'0' && word[0] <= b'7'

@@ -1,21 +1,23 @@
 //! The questions that write or remove keys.
 
-ghost use Rattle.std.specs.Prelude.{◌≡◌, ◌≤◌, ◌++◌, length, slice_get, IfOk, OnOk, OnErr, codes};
+ghost use Rattle.std.specs.Prelude.{◌≡◌, ◌≤◌, ◌+◌, ◌++◌, length, slice_get, nat_lt, IfOk, IfSome, OnOk, OnErr, codes};
 ghost use Rattle.std.specs.List.{concat};
 ghost use Rattle.std.specs.Option.{unwrap_or};
+ghost use Rattle.txt_core.specs.Knowing.{Holds, IsWrittenList};
+ghost use Rattle.txt_core.specs.Limits.{most_bytes};
 ghost use Rattle.nsv_bucket.specs.Questions.{word_at};
-ghost use Rattle.nsv_bucket.specs.Arrays.{seen, value_of};
-ghost use Rattle.nsv_bucket.specs.Writes.{stored, set_step, sum_of, incr_step, append_step, unset_key, unset_array, unset_step};
+ghost use Rattle.nsv_bucket.specs.Arrays.{seen, array_of, text_at, value_of};
+ghost use Rattle.nsv_bucket.specs.Writes.{stored, grown, set_step, sum_of, incr_step, append_step, unset_key, unset_array, unset_step};
 ghost use Rattle.nsv_bucket.specs.Lists.{lappend_step};
 
 use crate::array::copied;
-use crate::arrays::{Arrays, has_array, put_value, remove_array, remove_key, value};
+use crate::arrays::{Arrays, append_value, has_array, put_value, remove_array, remove_key, value};
 use crate::message::{bad_list, no_array, no_integer, no_key, refuse, refuse_long};
 use crate::question::word;
 use crate::reply::{MOST_BYTES, NsvReply};
 use std::alloc::Global;
-use tcl_list::{ListFault, append_elements};
-use txt_core::{NoMemory, Text, Words, read_int, write_int};
+use tcl_list::{ListFault, append_elements, elements_behind};
+use txt_core::{Known, NoMemory, Text, Words, is_over_limit, read_int, write_int};
 
 /// Stores a value and gives it; one that is too long is refused.
 fn store(
@@ -101,17 +103,58 @@ pub(crate) fn incr(alloc: Global, arrays: &mut Arrays, words: &Words) -> Result<
     }
 }
 
-/// Puts texts at the end of a text.
-fn append_all(value: &mut Text, rest: &[Text]) -> Result<(), NoMemory>
-    ensures { OnOk result (value.new ≡ value.old ++ concat rest.now) }
+/// How many bytes the value of a key has; none where the key is absent.
+fn length_of(arrays: &Arrays, name: &Text, key: &Text) -> usize
+    ensures { result ≡ length (text_at (array_of (seen arrays.now) name.now) key.now) }
 {
-    for more in rest {
-        value.append(more.bytes())?;
+    match value(arrays, name, key) {
+        Some(value) => value.len(),
+        None => 0,
     }
-    Ok(())
 }
 
-/// Answers `nsv_append`: puts the values behind the one that stands.
+/// Whether so many bytes, with a text behind them, are over the limit of a value.
+fn are_too_many(front: usize, text: &Text) -> bool
+    ensures { result ≡ nat_lt most_bytes (front + length text.now) }
+{
+    is_over_limit(front.saturating_add(text.len()))
+}
+
+/// Puts a text behind the value of a key, or behind the empty text where the key is absent, and gives
+/// the new value; one that is too long is refused. The condition is that what is known of it is true.
+fn grow(
+    alloc: Global,
+    arrays: &mut Arrays,
+    name: &Text,
+    key: &Text,
+    more: &Text,
+    known: Known,
+) -> Result<NsvReply, NoMemory>
+    requires { Holds known (text_at (array_of (seen arrays.old) name.now) key.now ++ more.now) }
+    ensures reply { IfOk result (λ reply. reply ≡ (grown (seen arrays.old) name.now key.now more.now).0) }
+    ensures ok { OnOk result (seen arrays.new ≡ (grown (seen arrays.old) name.now key.now more.now).1) }
+    ensures err { OnErr result (seen arrays.new ≡ seen arrays.old) }
+{
+    let front = length_of(arrays, name, key);
+    if are_too_many(front, more) {
+        return refuse_long(alloc);
+    }
+    let said = append_value(alloc, arrays, name, key, more.bytes(), known)?;
+    Ok(NsvReply::Said(said))
+}
+
+/// Texts as one.
+fn joined(alloc: Global, rest: &[Text]) -> Result<Text, NoMemory>
+    ensures { IfOk result (λ text. text ≡ concat rest.now) }
+{
+    let mut text = Text::empty(alloc);
+    for more in rest {
+        text.append(more.bytes())?;
+    }
+    Ok(text)
+}
+
+/// Answers `nsv_append`: puts the values behind the one that stands, in place.
 pub(crate) fn append(
     alloc: Global,
     arrays: &mut Arrays,
@@ -122,17 +165,33 @@ pub(crate) fn append(
     ensures ok { OnOk result (seen arrays.new ≡ (append_step (seen arrays.old) words.now).1) }
     ensures err { OnErr result (seen arrays.new ≡ seen arrays.old) }
 {
-    let mut value = standing(alloc, arrays, words, b"")?;
-    append_all(&mut value, &words.as_slice()[3..])?;
-    store(alloc, arrays, word(words, 1), word(words, 2), value)
+    let more = joined(alloc, &words.as_slice()[3..])?;
+    grow(
+        alloc,
+        arrays,
+        word(words, 1),
+        word(words, 2),
+        &more,
+        Known::Nothing,
+    )
 }
 
-/// Answers `nsv_lappend`: puts the values as elements behind the list that stands.
-pub(crate) fn lappend(
-    alloc: Global,
-    arrays: &mut Arrays,
-    words: &Words,
-) -> Result<NsvReply, NoMemory>
+/// The value of a key, where it is known to be a list of at least one element, as a list is written.
+fn written_list<'a>(arrays: &'a Arrays, name: &Text, key: &Text) -> Option<&'a Text>
+    ensures value { IfSome result (λ list. list.now ≡ text_at (array_of (seen arrays.now) name.now) key.now) }
+    ensures list { IfSome result (λ list. IsWrittenList list.now) }
+{
+    match value(arrays, name, key) {
+        Some(value) => match value.known() {
+            Known::WrittenList => Some(value),
+            Known::Nothing => None,
+        },
+        None => None,
+    }
+}
+
+/// Puts values as elements behind a list, and writes all of its elements.
+fn lappend_anew(alloc: Global, arrays: &mut Arrays, words: &Words) -> Result<NsvReply, NoMemory>
     requires { 4 ≤ length words.now }
     ensures reply { IfOk result (λ reply. reply ≡ (lappend_step (seen arrays.old) words.now).0) }
     ensures ok { OnOk result (seen arrays.new ≡ (lappend_step (seen arrays.old) words.now).1) }
@@ -144,6 +203,27 @@ pub(crate) fn lappend(
         Err(ListFault::Bad { at }) => refuse(alloc, bad_list(alloc, at)?),
         Ok(value) => store(alloc, arrays, word(words, 1), word(words, 2), value),
     }
+}
+
+/// Answers `nsv_lappend`: puts the values as elements behind the list that stands, in place where the
+/// list is known to be one as it is written.
+pub(crate) fn lappend(
+    alloc: Global,
+    arrays: &mut Arrays,
+    words: &Words,
+) -> Result<NsvReply, NoMemory>
+    requires { 4 ≤ length words.now }
+    ensures reply { IfOk result (λ reply. reply ≡ (lappend_step (seen arrays.old) words.now).0) }
+    ensures ok { OnOk result (seen arrays.new ≡ (lappend_step (seen arrays.old) words.now).1) }
+    ensures err { OnErr result (seen arrays.new ≡ seen arrays.old) }
+{
+    let name = word(words, 1);
+    let key = word(words, 2);
+    if let Some(list) = written_list(arrays, name, key) {
+        let more = elements_behind(alloc, list, &words.as_slice()[3..])?;
+        return grow(alloc, arrays, name, key, &more, Known::WrittenList);
+    }
+    lappend_anew(alloc, arrays, words)
 }
 
 /// Removes a key that has to stand.

@@ -1,7 +1,7 @@
 -- What the program's machine does with the events.
 use Rattle.std.proofs.Common.{◌≡◌, ℕ, zero, suc, ◌+◌, ◌<◌, ◌≤◌, List, [], ◌∷◌, ◌++◌, append-nil, length, get_or, set, replicate, true, false, Bool, Some, None, refl, sym, subst, ap, ◌∙◌, arith, slice_get}
 use Rattle.std.proofs.lemmas.Option.{slice_get_within, slice_get-get_or, get_or_from_slice_get}
-use Rattle.nsv_bucket.specs.Arrays.{Arrays}
+use Rattle.nsv_bucket.specs.Buckets.{AllArrays}
 use Rattle.http_req.specs.declared.request.Request.{Request}
 use Rattle.rehearse.specs.declared.machine.Machine.{Machine}
 use Rattle.rehearse.specs.declared.worker.Worker as code_worker
@@ -145,7 +145,7 @@ defines natives machine after block script listing listed fits same settled star
     subst (λ (b : List ℕ). Settles natives (begun_block machine.now.moment machine.now.blueprint b) (objects_at machine.now.blueprint machine.arrays) settled.0 objects) same settled.1 in
     let here : Settles world.now.natives (begun_block world.now.moment world.now.blueprint block) (objects_of world) settled.0 objects =
     subst (λ (n : Now). Settles n.natives (begun_block n.moment n.blueprint block) (record { blueprint = n.blueprint; pages = n.pages; arrays = world.arrays }) settled.0 objects) (sym shows.now)
-    (subst (λ (a : Arrays). Settles natives (begun_block machine.now.moment machine.now.blueprint block) (objects_at machine.now.blueprint a) settled.0 objects) (sym shows.arrays) goes) in
+    (subst (λ (a : AllArrays). Settles natives (begun_block machine.now.moment machine.now.blueprint block) (objects_at machine.now.blueprint a) settled.0 objects) (sym shows.arrays) goes) in
     let moment_is : world.now.moment ≡ after.now.moment = ap (λ (n : Now). n.moment) shows.now ∙ sym moment in
     let natives_are : world.now.natives ≡ natives = ap (λ (n : Now). n.natives) shows.now in (
       settled.0,
@@ -223,7 +223,7 @@ no_request natives machine number input listing never = (λ world shows output n
 abbrev Way : Type 1
 Way = ℕ → Now → Place → List ℕ → Place → Type 0
 
-moves : (natives : List (List ℕ)) (Goes : Way) (machine after : Machine) (number : ℕ) (listing listed : List ℕ) (taken worker : code_worker.Worker) (arrays_after : Arrays) → slice_get machine.workers.items number ≡ Some taken
+moves : (natives : List (List ℕ)) (Goes : Way) (machine after : Machine) (number : ℕ) (listing listed : List ℕ) (taken worker : code_worker.Worker) (arrays_after : AllArrays) → slice_get machine.workers.items number ≡ Some taken
     → Went Goes number (now_of natives machine.now) taken machine.arrays listing worker arrays_after listed
     → after.started ≡ machine.started → after.now ≡ machine.now → after.arrays ≡ arrays_after → after.workers.items ≡ set machine.workers.items number worker
     → (world : World) → Shows natives machine world
@@ -238,7 +238,7 @@ moves natives Goes machine after number listing listed taken worker arrays_after
     let w = went there.0 there.2 in
     let goes : Goes number world.now (record { worker = there.0; arrays = world.arrays }) w.0 (record { worker = w.1; arrays = arrays_after }) =
     subst (λ (n : Now). Goes number n (record { worker = there.0; arrays = world.arrays }) w.0 (record { worker = w.1; arrays = arrays_after })) (sym shows.now)
-    (subst (λ (a : Arrays). Goes number (now_of natives machine.now) (record { worker = there.0; arrays = a }) w.0 (record { worker = w.1; arrays = arrays_after })) (sym shows.arrays) w.2) in (
+    (subst (λ (a : AllArrays). Goes number (now_of natives machine.now) (record { worker = there.0; arrays = a }) w.0 (record { worker = w.1; arrays = arrays_after })) (sym shows.arrays) w.2) in (
       w.0,
       record world { arrays = arrays_after; workers = set world.workers number w.1 },
       record { worker = there.0; place = record { worker = w.1; arrays = arrays_after }; there = there.1; goes = goes; after_is = refl },
@@ -259,14 +259,14 @@ stays natives Goes machine number past world shows output next does =
     let w : number < length machine.workers.items = there_within natives machine.workers.items world.workers number does.worker shows.workers does.there in
     omega (arith, w, past)
 
-pub steps_did : (natives : List (List ℕ)) (machine after : Machine) (number : ℕ) (listing listed : List ℕ) (taken worker : code_worker.Worker) (arrays_after : Arrays) → slice_get machine.workers.items number ≡ Some taken
+pub steps_did : (natives : List (List ℕ)) (machine after : Machine) (number : ℕ) (listing listed : List ℕ) (taken worker : code_worker.Worker) (arrays_after : AllArrays) → slice_get machine.workers.items number ≡ Some taken
     → Went Step number (now_of natives machine.now) taken machine.arrays listing worker arrays_after listed
     → after.started ≡ machine.started → after.now ≡ machine.now → after.arrays ≡ arrays_after → after.workers.items ≡ set machine.workers.items number worker
     → Did natives true (step number) machine listing after listed
 steps_did natives machine after number listing listed taken worker arrays_after found went started now arrays items = λ world shows.
     moves natives Step machine after number listing listed taken worker arrays_after found went started now arrays items world shows
 
-pub runs_did : (natives : List (List ℕ)) (machine after : Machine) (number : ℕ) (listing listed : List ℕ) (taken worker : code_worker.Worker) (arrays_after : Arrays) → slice_get machine.workers.items number ≡ Some taken
+pub runs_did : (natives : List (List ℕ)) (machine after : Machine) (number : ℕ) (listing listed : List ℕ) (taken worker : code_worker.Worker) (arrays_after : AllArrays) → slice_get machine.workers.items number ≡ Some taken
     → Went Runs number (now_of natives machine.now) taken machine.arrays listing worker arrays_after listed
     → after.started ≡ machine.started → after.now ≡ machine.now → after.arrays ≡ arrays_after → after.workers.items ≡ set machine.workers.items number worker
     → Did natives true (run number) machine listing after listed

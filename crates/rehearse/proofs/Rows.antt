@@ -6,10 +6,9 @@ use Rattle.cmd_table.specs.declared.definition.Def.{Def}
 use Rattle.cmd_table.specs.declared.definition.Def.TheVariants.{Proc, Rename}
 use Rattle.outside.specs.declared.question.Answer.TheVariants.{Said, Failed}
 use Rattle.tcl_eval.specs.declared.outcome.Outcome.TheVariants as outcomes
-use Rattle.nsv_bucket.specs.Arrays.{Arrays}
+use Rattle.nsv_bucket.specs.Buckets.{AllArrays, bucket_asked}
 use Rattle.rehearse.specs.Publishing.{misfit_from, is_full, misfit, full, done, publication_answer}
 use Rattle.rehearse.specs.Defining.{told}
-use Rattle.rehearse.specs.Serving.{bucket_asked, is_first}
 use Rattle.cmd_table.specs.Table.{with_command, without_command, command_of}
 use Rattle.cmd_table.specs.Renaming.{rename_answer, renamed}
 use Rattle.rehearse.specs.Events.{Event, workers, clock, define, connect, step, run, file_of, spelled}
@@ -90,12 +89,12 @@ no_third : (output : List ℕ) (after : World) → ¬ (Does two (step 2) output 
 unfolding two first
 no_third output after d = let f : None ≡ Some d.worker = d.there in cc
 
-row_begins : (now : Now) (arrays : Arrays)
+row_begins : (now : Now) (arrays : AllArrays)
     → Step 1 now (record { worker = connected input None; arrays = arrays }) []
     (record { worker = connected [] (Some (begun now (get_request (codes "/c") (codes "c" ∷ []) (codes "l")))); arrays = arrays })
 row_begins now arrays = begins input (get_request (codes "/c") (codes "c" ∷ []) (codes "l")) refl row_input refl refl
 
-row_closes : (now : Now) (arrays : Arrays)
+row_closes : (now : Now) (arrays : AllArrays)
     → Step 12 now (record { worker = connected [] None; arrays = arrays }) (codes "closed 12 ended\n") (record { worker = idle; arrays = arrays })
 unfolding digits
 row_closes now arrays = closes refl refl refl
@@ -174,11 +173,14 @@ row_done = refl
 
 -- ---- buckets
 
-row_first : is_first (bucket_asked (codes "nsv_names" ∷ codes "0" ∷ [])) ≡ true
+row_first : bucket_asked (codes "nsv_names" ∷ codes "0" ∷ []) ≡ 0
 row_first = refl
 
-row_second : is_first (bucket_asked (codes "nsv_names" ∷ codes "1" ∷ codes "a*" ∷ [])) ≡ false
+row_second : bucket_asked (codes "nsv_names" ∷ codes "1" ∷ codes "a*" ∷ []) ≡ 1
 row_second = refl
 
-row_array : is_first (bucket_asked (codes "nsv_get" ∷ codes "a" ∷ codes "k" ∷ [])) ≡ true
+row_array : bucket_asked (codes "nsv_get" ∷ codes "c" ∷ codes "k" ∷ []) ≡ 3
 row_array = refl
+
+row_subcommand : bucket_asked (codes "nsv_array" ∷ codes "get" ∷ codes "ab" ∷ []) ≡ 3
+row_subcommand = refl

@@ -6,7 +6,7 @@ use Rattle.http_resp.specs.declared.response.Response.{Response}
 use Rattle.cmd_table.specs.declared.definition.Def.{Def}
 use Rattle.tcl_eval.specs.State.{State}
 use Rattle.tcl_eval.specs.declared.outcome.Outcome.{Outcome}
-use Rattle.nsv_bucket.specs.Arrays.{Arrays}
+use Rattle.nsv_bucket.specs.Buckets.{AllArrays}
 use Rattle.ictl.specs.Hosts.{HostState}
 use Rattle.ictl.specs.Settle.{Settled as SettledRun, ended as run_ended, asking, exhausted, nested}
 use Rattle.ictl.specs.Main.{Blueprint, asks as at_question, writes as at_response, ends as at_end}
@@ -47,7 +47,7 @@ stands_asking natives run seen question runs =
     ap (define_progress natives seen) (sym (append-nil seen.answers)) ∙ runs.stands [] ∙ asks_law natives question run.interp
 
 -- the run goes on
-pub went_on : (natives : List (List ℕ)) (question : Question) (old new : Run) (next : Next) (answer : Answer) (made : List Def) (blueprint blueprint_after : Blueprint) (arrays arrays_after : Arrays)
+pub went_on : (natives : List (List ℕ)) (question : Question) (old new : Run) (next : Next) (answer : Answer) (made : List Def) (blueprint blueprint_after : Blueprint) (arrays arrays_after : AllArrays)
     → made ≡ (state_of old.interp).made
     → answer ≡ (answer_to natives question made (objects_at blueprint arrays)).0
     → objects_at blueprint_after arrays_after ≡ (answer_to natives question made (objects_at blueprint arrays)).1

@@ -9,7 +9,7 @@ use Rattle.outside.specs.declared.question.Question.{Question}
 use Rattle.http_req.specs.declared.request.Request.{Request}
 use Rattle.http_resp.specs.declared.response.Response.{Response}
 use Rattle.http_resp.specs.ResponseBytes.{response_bytes}
-use Rattle.nsv_bucket.specs.Arrays.{Arrays}
+use Rattle.nsv_bucket.specs.Buckets.{AllArrays}
 use Rattle.ictl.specs.Main.{Blueprint, Progress, asks as at_question, writes as at_response, ends as at_end, Main, behind}
 use Rattle.ictl.specs.Interps.{blueprint_of, stage_state, state_of, questions_left, ending_of, stage_gives, gives, UnlessNoMemory, Stands, StandsAt, StandsOn, Falls}
 use Rattle.ictl.specs.declared.ending.Ending.{Ending}
@@ -55,14 +55,14 @@ stands_ready natives request response interp h =
 
 -- ---- steps
 
-pub rests_step : (number : ℕ) (now : Now) (arrays : Arrays) (listing : List ℕ) → Went Step number now code_workers.Idle arrays listing code_workers.Idle arrays listing
+pub rests_step : (number : ℕ) (now : Now) (arrays : AllArrays) (listing : List ℕ) → Went Step number now code_workers.Idle arrays listing code_workers.Idle arrays listing
 rests_step number now arrays listing = λ before shows. ([], before, rests shows refl refl, shows, sym (append-nil listing))
 
-pub closes_step : (number : ℕ) (now : Now) (arrays : Arrays) (listing listed : List ℕ) → listed ≡ listing ++ closed_output number
+pub closes_step : (number : ℕ) (now : Now) (arrays : AllArrays) (listing listed : List ℕ) → listed ≡ listing ++ closed_output number
     → Went Step number now code_workers.AtEnd arrays listing code_workers.Idle arrays listed
 closes_step number now arrays listing listed told = λ before shows. (closed_output number, idle, closes shows refl refl, refl, told)
 
-pub begins_step : (number : ℕ) (now : Now) (arrays : Arrays) (listing waiting : List ℕ) (serving : Serving)
+pub begins_step : (number : ℕ) (now : Now) (arrays : AllArrays) (listing waiting : List ℕ) (serving : Serving)
     → (request : Request) × IsEarlyRequest waiting request × Serves now.natives serving (begun now request)
     → Went Step number now (code_workers.Waiting waiting) arrays listing (code_workers.Serving serving) arrays listing
 begins_step number now arrays listing waiting serving h = λ before shows. (
@@ -105,7 +105,7 @@ is_spent_as : (natives : List (List ℕ)) (serving : Serving) (request : Open) (
 is_spent_as natives serving request spent serves is = is ∙ spent_same serving.answered (sum_by answer_bytes request.answers) serves.answered
 
 -- the question is answered, and the interpreter goes on
-pub answers_step : (number : ℕ) (now : Now) (arrays arrays_after : Arrays) (listing : List ℕ) (serving after : Serving) (question : Question) (answer : Answer)
+pub answers_step : (number : ℕ) (now : Now) (arrays arrays_after : AllArrays) (listing : List ℕ) (serving after : Serving) (question : Question) (answer : Answer)
     → serving.next ≡ Asks question
     → answer ≡ (reply_to question now.pages arrays).0 → arrays_after ≡ (reply_to question now.pages arrays).1
     → after.moment ≡ serving.moment
@@ -130,7 +130,7 @@ answers_step number now arrays arrays_after listing serving after question answe
     let place : record { worker = connected [] (Some (as_answered request answer)); arrays = arrays_after }
     ≡ record { worker = connected [] (Some (as_answered request (reply_to question now.pages arrays).0)); arrays = (reply_to question now.pages arrays).1 } =
     ap (λ (a : Answer). let p : Place = record { worker = connected [] (Some (as_answered request a)); arrays = arrays_after } in p) answer_is
-    ∙ ap (λ (a : Arrays). let p : Place = record { worker = connected [] (Some (as_answered request (reply_to question now.pages arrays).0)); arrays = a } in p) arrays_are in (
+    ∙ ap (λ (a : AllArrays). let p : Place = record { worker = connected [] (Some (as_answered request (reply_to question now.pages arrays).0)); arrays = a } in p) arrays_are in (
       [],
       connected [] (Some (as_answered request answer)),
       answers [] request question shows.1 (stands_asking now.natives request question serving.interp stands) refl place,
@@ -186,7 +186,7 @@ only_ends natives interp after (Write response) h =
 only_ends natives interp after (Ended outcome) h = refl
 only_ends natives interp after NoMemory h = refl
 
-pub writes_step : (number epoch : ℕ) (now : Now) (arrays : Arrays) (listing listed : List ℕ) (serving after : Serving) (response : Response) (spent : Bool)
+pub writes_step : (number epoch : ℕ) (now : Now) (arrays : AllArrays) (listing listed : List ℕ) (serving after : Serving) (response : Response) (spent : Bool)
     → serving.next ≡ Write response
     → epoch ≡ (blueprint_of serving.interp).epoch
     → spent ≡ nat_lt most_answered serving.answered
@@ -226,7 +226,7 @@ stands_over natives serving request outcome ended serves =
     stands_as natives (progress natives request) serving.next (Ended outcome) serving.interp request.answers ended serves.stands in
     ap (λ (given : List Answer). stand_of (progress natives request given)) (sym (append-nil request.answers)) ∙ ap stand_of (stands [])
 
-pub ends_step : (number : ℕ) (now : Now) (arrays : Arrays) (listing : List ℕ) (serving : Serving) (outcome : _) (spent : Bool) → serving.next ≡ Ended outcome
+pub ends_step : (number : ℕ) (now : Now) (arrays : AllArrays) (listing : List ℕ) (serving : Serving) (outcome : _) (spent : Bool) → serving.next ≡ Ended outcome
     → spent ≡ nat_lt most_answered serving.answered → spent ≡ false
     → Went Step number now (code_workers.Serving serving) arrays listing code_workers.AtEnd arrays listing
 ends_step number now arrays listing serving outcome spent ended spent_is few = λ before shows.
@@ -238,7 +238,7 @@ ends_step number now arrays listing serving outcome spent ended spent_is few = �
       sym (append-nil listing),
     )
 
-pub spends_step : (number : ℕ) (now : Now) (arrays : Arrays) (listing listed : List ℕ) (serving : Serving) (outcome : _) (spent : Bool) → serving.next ≡ Ended outcome
+pub spends_step : (number : ℕ) (now : Now) (arrays : AllArrays) (listing listed : List ℕ) (serving : Serving) (outcome : _) (spent : Bool) → serving.next ≡ Ended outcome
     → spent ≡ nat_lt most_answered serving.answered → spent ≡ true → listed ≡ listing ++ closed_spent_output number
     → Went Step number now (code_workers.Serving serving) arrays listing code_workers.Idle arrays listed
 spends_step number now arrays listing listed serving outcome spent ended spent_is many told = λ before shows.
@@ -277,7 +277,7 @@ pub chain_ends : {number : ℕ} {now : Now} {start after : Place} {output : List
 chain_ends (one step) is = last step is
 chain_ends (next {outputs = second} chain busy step) is = chain_runs second chain busy (last step is)
 
-pub chain_begins : (number : ℕ) (now : Now) (start worker : code_worker.Worker) (arrays arrays_after : Arrays) (listing listed : List ℕ)
+pub chain_begins : (number : ℕ) (now : Now) (start worker : code_worker.Worker) (arrays arrays_after : AllArrays) (listing listed : List ℕ)
     → Went Step number now start arrays listing worker arrays_after listed → Went Chain number now start arrays listing worker arrays_after listed
 chain_begins number now start worker arrays arrays_after listing listed went = λ before shows.
     let w = went before shows in
@@ -289,7 +289,7 @@ shows_busy natives (code_workers.Waiting waiting) seen busy shows e = cc
 shows_busy natives (code_workers.Serving serving) seen busy shows e = let f : connected [] (Some shows.0) ≡ idle = sym shows.1 ∙ e in cc
 shows_busy natives code_workers.AtEnd seen busy shows e = cc
 
-pub chain_more : (number : ℕ) (now : Now) (start worker after : code_worker.Worker) (arrays between arrays_after : Arrays) (listing so_far listed : List ℕ)
+pub chain_more : (number : ℕ) (now : Now) (start worker after : code_worker.Worker) (arrays between arrays_after : AllArrays) (listing so_far listed : List ℕ)
     → ¬ (worker ≡ code_workers.Idle)
     → Went Chain number now start arrays listing worker between so_far → Went Step number now worker between so_far after arrays_after listed
     → Went Chain number now start arrays listing after arrays_after listed
@@ -298,7 +298,7 @@ chain_more number now start worker after arrays between arrays_after listing so_
     let s = step c.1 c.3 in
     (c.0 ++ s.0, s.1, next c.2 (shows_busy now.natives worker c.1 busy c.3) s.2, s.3, s.4 ∙ ap (λ (t : List ℕ). t ++ s.0) c.4 ∙ append_assoc listing c.0 s.0)
 
-pub chain_over : (number : ℕ) (now : Now) (start worker : code_worker.Worker) (arrays arrays_after : Arrays) (listing listed : List ℕ)
+pub chain_over : (number : ℕ) (now : Now) (start worker : code_worker.Worker) (arrays arrays_after : AllArrays) (listing listed : List ℕ)
     → worker ≡ code_workers.Idle → Went Chain number now start arrays listing worker arrays_after listed
     → Went Runs number now start arrays listing code_workers.Idle arrays_after listed
 chain_over number now start worker arrays arrays_after listing listed is chain = λ before shows.

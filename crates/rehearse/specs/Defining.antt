@@ -8,7 +8,7 @@ use Rattle.cmd_table.specs.declared.definition.Def.{Def}
 use Rattle.tcl_eval.specs.State.{State}
 use Rattle.tcl_eval.specs.declared.outcome.Outcome.{Outcome}
 use Rattle.tcl_eval.specs.declared.outcome.Outcome.TheVariants as outcomes
-use Rattle.nsv_bucket.specs.Arrays.{Arrays}
+use Rattle.nsv_bucket.specs.Buckets.{AllArrays}
 use Rattle.ictl.specs.Hosts.{HostState}
 use Rattle.ictl.specs.Main.{Blueprint, Progress, asks, ends, run_budget, first_depth}
 use Rattle.ictl.specs.Defines.{Define}
@@ -43,7 +43,7 @@ define_progress natives run answers = Define natives run.blueprint run.block run
 pub record Objects : Type 0 where
   pub blueprint : Blueprint
   pub pages : Pages
-  pub arrays : Arrays
+  pub arrays : AllArrays
 
 -- the pages or the shared arrays answer; a question to another service is refused
 abbrev pub by_service : Question → Objects → Answer × Objects

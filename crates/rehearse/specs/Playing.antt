@@ -2,7 +2,7 @@
 use Rattle.std.specs.Prelude.{◌≡◌, ℕ, ◌+◌, ◌<◌, ◌≤◌, ◌⊎◌, List, [], ◌∷◌, ◌++◌, length, Bool, true, false, Option, Some, None}
 use Rattle.std.specs.List.{sum_by}
 use Rattle.outside.specs.Faults.{Rose}
-use Rattle.nsv_bucket.specs.Arrays.{Arrays}
+use Rattle.nsv_bucket.specs.Buckets.{AllArrays}
 use Rattle.ictl.specs.Interps.{blueprint_of, questions_left, Stands, StandsAt}
 use Rattle.ictl.specs.Main.{Blueprint}
 use Rattle.ictl.specs.declared.next.Next.{Next}
@@ -71,7 +71,7 @@ pub record Shows (natives : List (List ℕ)) (machine : Machine) (world : World)
 
 -- A worker went from its place to another by Goes, with some output behind the listing.
 abbrev pub Went : (ℕ → Now → Place → List ℕ → Place → Type 0) → ℕ → Now
-    → code_worker.Worker → Arrays → List ℕ → code_worker.Worker → Arrays → List ℕ → Type 0
+    → code_worker.Worker → AllArrays → List ℕ → code_worker.Worker → AllArrays → List ℕ → Type 0
 Went Goes number now worker arrays listing worker_after arrays_after listed =
     (before : Worker) → ShowsWorker now.natives worker before
     → (output : List ℕ) × (after : Worker)
@@ -127,7 +127,7 @@ HasBegun code_workers.AtEnd = Unit {0}
 -- ---- definition runs
 
 -- what was published and the shared arrays, and no page
-abbrev pub objects_at : Blueprint → Arrays → Objects
+abbrev pub objects_at : Blueprint → AllArrays → Objects
 objects_at blueprint arrays = record { blueprint = blueprint; pages = no_pages; arrays = arrays }
 
 -- A run of the program stands for this one and the answers that it has had, with natives of these names.

@@ -1,5 +1,5 @@
 -- Where a request under way stands, and who answers its questions.
-use Rattle.std.specs.Prelude.{ℕ, ◌-◌, ◌==◌, List, [], ◌∷◌, length, slice_index, Bool, true, false, if◌then◌else◌, nat_lt, bytes_eq, codes, Option, None, Some}
+use Rattle.std.specs.Prelude.{ℕ, List, [], ◌∷◌, length, Bool, true, false, nat_lt, Option, None, Some}
 use Rattle.std.specs.List.{sum_by}
 use Rattle.std.specs.FinMap as map
 use Rattle.outside.specs.declared.question.Answer.{Answer}
@@ -10,10 +10,7 @@ use Rattle.outside.specs.declared.question.Service.TheVariants.{Page, Nsv, Sched
 use Rattle.http_resp.specs.declared.response.Response.{Response}
 use Rattle.nsv_bucket.specs.declared.reply.NsvReply.{NsvReply}
 use Rattle.nsv_bucket.specs.declared.reply.NsvReply.TheVariants.{Said, Failed, NoMemory}
-use Rattle.nsv_bucket.specs.Arrays.{Arrays}
-use Rattle.nsv_bucket.specs.Buckets.{bucket_of}
-use Rattle.nsv_bucket.specs.Questions.{is_bucket_number}
-use Rattle.nsv_bucket.specs.Steps.{array_step}
+use Rattle.nsv_bucket.specs.Buckets.{AllArrays, buckets_step}
 use Rattle.ictl.specs.Main.{Blueprint, Progress, asks, writes, ends, Main, behind}
 use Rattle.rehearse.specs.World.{Open, Pages}
 
@@ -72,37 +69,6 @@ answer_of (Said text) = answers.Said text
 answer_of (Failed text) = answers.Failed text
 answer_of NoMemory = answers.Failed []
 
--- Shared arrays lie in eight buckets, each in that of its name. So far all lie in bucket 0, and the others stay empty.
-
--- the bucket that a word names: the number that it is, where it is the number of a bucket
-abbrev pub bucket_named : List ℕ → Option ℕ
-bucket_named word = if is_bucket_number word then Some (slice_index word 0 - 48) else None
-
--- the bucket of the array that these words begin with; bucket 0 where there is no word
-abbrev pub bucket_of_first : List (List ℕ) → ℕ
-bucket_of_first (array ∷ more) = bucket_of array
-bucket_of_first [] = 0
-
--- The bucket to which words are put. Those of `nsv_names` name it by their second word. Those of `nsv_array` are about the
--- array that is their third word, and all others about the array that is their second. Where that word is absent it is bucket 0.
-abbrev pub bucket_asked : List (List ℕ) → Option ℕ
-bucket_asked (name ∷ second ∷ more) =
-    if bytes_eq name (codes "nsv_names") then bucket_named second
-    else if bytes_eq name (codes "nsv_array") then Some (bucket_of_first more)
-    else Some (bucket_of second)
-bucket_asked words = Some 0
-
--- whether it is bucket 0
-abbrev pub is_first : Option ℕ → Bool
-is_first (Some bucket) = bucket == 0
-is_first None = false
-
--- The reply of the bucket to which the words are put, and the arrays after it. Only bucket 0 holds arrays: any other, and
--- one that there isn't, replies as one that holds none, and changes nothing.
-abbrev pub bucket_step : Arrays → List (List ℕ) → NsvReply × Arrays
-bucket_step arrays words =
-    if is_first (bucket_asked words) then array_step arrays words else ((array_step map.empty words).0, arrays)
-
 -- the path that is asked for: the one word; the empty text where there is no word
 abbrev pub path_asked : List (List ℕ) → List ℕ
 path_asked (path ∷ more) = path
@@ -113,10 +79,11 @@ abbrev pub page_answer : Option (List ℕ) → Answer
 page_answer (Some page) = answers.Page page
 page_answer None = answers.NoPage
 
--- What a service answers, and the arrays after it: the shared arrays by their step, the pages with the page of the path. A
--- question to any other service is refused, with an empty text; publications are answered where blocks are run (Defining).
-abbrev pub served_by : Service → Pages → Arrays → List (List ℕ) → Answer × Arrays
-served_by Nsv pages arrays words = (answer_of (bucket_step arrays words).0, (bucket_step arrays words).1)
+-- What a service answers, and the arrays after it: the shared arrays by the step of the bucket to which the words are
+-- put, the pages with the page of the path. A question to any other service is refused, with an empty text; publications
+-- are answered where blocks are run (Defining).
+abbrev pub served_by : Service → Pages → AllArrays → List (List ℕ) → Answer × AllArrays
+served_by Nsv pages arrays words = (answer_of (buckets_step arrays words).0, (buckets_step arrays words).1)
 served_by Page pages arrays words = (page_answer (map.get pages (path_asked words)), arrays)
 served_by Schedule pages arrays words = (answers.Failed [], arrays)
 served_by Publish pages arrays words = (answers.Failed [], arrays)
@@ -124,5 +91,5 @@ served_by Save pages arrays words = (answers.Failed [], arrays)
 served_by Inner pages arrays words = (answers.Failed [], arrays)
 
 -- what the pages or the shared arrays answer a question, and the arrays after it
-abbrev pub reply_to : Question → Pages → Arrays → Answer × Arrays
+abbrev pub reply_to : Question → Pages → AllArrays → Answer × AllArrays
 reply_to question pages arrays = served_by question.service pages arrays question.words

@@ -4,7 +4,7 @@ use Rattle.outside.specs.declared.question.Question.{Question}
 use Rattle.http_req.specs.declared.request.Request.{Request}
 use Rattle.http_resp.specs.declared.response.Response.{Response}
 use Rattle.http_resp.specs.ResponseBytes.{response_bytes}
-use Rattle.nsv_bucket.specs.Arrays.{Arrays}
+use Rattle.nsv_bucket.specs.Buckets.{AllArrays}
 use Rattle.rehearse.specs.Requests.{IsEarlyRequest}
 use Rattle.rehearse.specs.Serving.{asking, ready, over, stands_at, has_spent, reply_to}
 use Rattle.rehearse.specs.World.{Pages, Open, Worker, idle, connected, Now, begun, as_answered, as_written, response_output, closed_output, closed_spent_output}
@@ -12,7 +12,7 @@ use Rattle.rehearse.specs.World.{Pages, Open, Worker, idle, connected, Now, begu
 -- A worker, and the shared arrays.
 pub record Place : Type 0 where
   pub worker : Worker
-  pub arrays : Arrays
+  pub arrays : AllArrays
 
 -- the worker is this one now, and the arrays are as they were
 abbrev pub with_worker : Place → Worker → Place

@@ -4,7 +4,8 @@ use Rattle.std.specs.FinMap as map
 use Rattle.std.specs.FinMap.{FinMap}
 use Rattle.outside.specs.declared.question.Answer.{Answer}
 use Rattle.http_req.specs.declared.request.Request.{Request}
-use Rattle.nsv_bucket.specs.Arrays.{text_cmp, Arrays}
+use Rattle.nsv_bucket.specs.Arrays.{text_cmp}
+use Rattle.nsv_bucket.specs.Buckets.{AllArrays, no_arrays}
 use Rattle.ictl.specs.Main.{Blueprint}
 use Rattle.rehearse.specs.Events.{newline}
 
@@ -45,8 +46,8 @@ pub record World : Type 0 where
   -- an event came
   pub started : Bool
   pub now : Now
-  -- the shared arrays
-  pub arrays : Arrays
+  -- the shared arrays, bucket by bucket
+  pub arrays : AllArrays
   -- by their numbers, from 0
   pub workers : List Worker
 
@@ -60,7 +61,7 @@ abbrev pub opening : List (List ℕ) → World
 opening natives = record {
   started = false;
   now = record { natives = natives; moment = 0; pages = no_pages; blueprint = record { epoch = 0; definitions = [] } };
-  arrays = map.empty;
+  arrays = no_arrays;
   workers = idle ∷ [];
 }
 

@@ -13,7 +13,7 @@ use crate::objects::reply;
 use cmd_table::{Defs, Steps};
 use ictl::{Interp, Next};
 use natives::Natives;
-use nsv_bucket::Bucket;
+use nsv_bucket::Buckets;
 use outside::{Answer, Question, Service};
 use std::alloc::Global;
 use std::sync::ledger::Ledger;
@@ -35,7 +35,7 @@ fn answer<L: Ledger>(
     made: &Defs,
     epoch: &mut u64,
     blueprint: &mut Blueprint,
-    arrays: &mut Bucket,
+    arrays: &mut Buckets,
     steps: &mut Steps<L>,
 ) -> Result<Answer, NoMemory>
     ensures answer { IfOk result (λ answer. answer ≡ (answer_to (names_of natives.now) question made.now (objects_at blueprint.old arrays.old)).0) }
@@ -60,7 +60,7 @@ impl Run {
         natives: &Natives,
         question: Question,
         blueprint: &mut Blueprint,
-        arrays: &mut Bucket,
+        arrays: &mut Buckets,
         steps: &mut Steps<L>,
     ) -> Result<Next, NoMemory>
         requires { IsAsking self.old.interp }
@@ -103,7 +103,7 @@ fn finish<L: Ledger>(
     run: &mut Run,
     first: Next,
     blueprint: &mut Blueprint,
-    arrays: &mut Bucket,
+    arrays: &mut Buckets,
     listing: &mut Text,
     steps: &mut Steps<L>,
 ) -> Result<(), NoMemory>
@@ -131,7 +131,7 @@ pub fn define<L: Ledger>(
     block: &Text,
     moment: u64,
     blueprint: &mut Blueprint,
-    arrays: &mut Bucket,
+    arrays: &mut Buckets,
     listing: &mut Text,
     steps: &mut Steps<L>,
 ) -> Result<(), NoMemory>

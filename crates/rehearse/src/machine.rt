@@ -16,7 +16,7 @@ use crate::waiting::Waiting;
 use crate::worker::Worker;
 use cmd_table::Steps;
 use natives::Natives;
-use nsv_bucket::Bucket;
+use nsv_bucket::Buckets;
 use std::alloc::Global;
 use std::mem;
 use std::sync::ledger::Ledger;
@@ -36,7 +36,7 @@ pub struct Machine {
     /// What the clock shows, and what was published.
     pub now: Now,
     /// The shared arrays.
-    pub arrays: Bucket,
+    pub arrays: Buckets,
     /// By their numbers, from 0.
     pub workers: Vec<Worker>,
 }
@@ -80,7 +80,7 @@ impl Machine {
                 moment: 0,
                 blueprint: Blueprint::new(alloc),
             },
-            arrays: Bucket::new(alloc),
+            arrays: Buckets::new(alloc),
             workers,
         })
     }

@@ -13,13 +13,12 @@ use cmd_table::{Defs, Steps};
 use http_resp::response_bytes;
 use ictl::{Interp, Next, copy_defs};
 use natives::Natives;
-use nsv_bucket::{Bucket, NsvReply};
+use nsv_bucket::{Buckets, NsvReply};
 use outside::{Answer, Question, Service};
 use std::alloc::Global;
 use std::mem;
 use std::sync::ledger::Ledger;
 use tcl_eval::Outcome;
-use turn_cell::Obj;
 use txt_core::{NoMemory, Text, read_int_bytes, write_int};
 
 /// What was published: how often, and the script of all definitions.
@@ -52,7 +51,7 @@ enum Worker {
 struct World {
     moment: u64,
     published: Published,
-    arrays: Bucket,
+    arrays: Buckets,
     workers: Vec<Worker>,
     listing: Text,
 }
@@ -265,7 +264,7 @@ impl World {
                 epoch: 0,
                 script: Text::empty(alloc),
             },
-            arrays: Bucket::new(alloc),
+            arrays: Buckets::new(alloc),
             workers,
             listing: Text::empty(alloc),
         })
@@ -282,13 +281,7 @@ impl World {
             let said = format!(in alloc; "{epoch}")?;
             return Ok(Answer::Said(Text::new(alloc, said.as_bytes())?));
         }
-        if let [name, bucket, ..] = question.words.as_slice()
-            && name.bytes() == b"nsv_names".as_slice()
-            && bucket.bytes() != b"0".as_slice()
-        {
-            return Ok(Answer::Said(Text::empty(alloc)));
-        }
-        match self.arrays.act(question.words) {
+        match self.arrays.ask(&question.words)? {
             NsvReply::Said(text) => Ok(Answer::Said(text)),
             NsvReply::Failed(text) => Ok(Answer::Failed(text)),
             NsvReply::NoMemory => Err(NoMemory),

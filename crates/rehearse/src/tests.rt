@@ -65,6 +65,15 @@ define 320~proc over {} {ns_return 200 text/plain [nsv_set c n 92233720368547758
 define 77~proc h {} {ns_return 200 text/plain [nsv_incr c n]}~ns_register_proc GET /h h~clock 1~connect 0 28~GET /h HTTP/1.1^~Host: l^~^~~step 0~clock 253402300799~define 40~proc h {} {ns_return 200 text/plain new}~step 0~step 0~step 0~step 0~run 0~connect 0 28~GET /h HTTP/1.1^~Host: l^~^~~run 0~
 define 44~nsv_set c n 1; proc p {} {}; nsv_set c n pub~define 27~proc q {} {}; error [bad x]~define 16~proc r {} {r}; r~define 89~proc p {} {ns_return 200 text/plain [nsv_get c n]}~nsv_set c m 1~ns_register_proc GET / p~connect 0 27~GET / HTTP/1.1^~Host: l^~^~~run 0~"#;
 
+/// A file, written so too: the arrays `a`, `c` and `h` lie in the buckets 1, 3 and 0. One worker asks the buckets 0
+/// and 1 for their names, the other makes the three arrays, the first asks the rest; then it asks all again.
+const NAMES: &str =
+    r#"workers 2~define 183~proc n {} {ns_return 200 text/plain [nsv_names]}~proc s {} {ns_return 200 text/plain [nsv_set a k 1][nsv_set c k 1][nsv_set h k 1]}~ns_register_proc GET /n n~ns_register_proc GET /s s~connect 0 28~GET /n HTTP/1.1^~Host: l^~^~~connect 1 28~GET /s HTTP/1.1^~Host: l^~^~~step 0~step 0~step 0~run 1~run 0~connect 0 28~GET /n HTTP/1.1^~Host: l^~^~~run 0~"#;
+
+/// What comes of it, written so too.
+const NAMES_LISTING: &str =
+    r#"defined 1~response 1 1 157~HTTP/1.1 200 OK^~Date: Thu, 01 Jan 1970 00:00:00 GMT^~Server: AOLserver-profile/1^~Content-Type: text/plain^~Content-Length: 3^~Connection: keep-alive^~^~111~closed 1 ended~response 0 1 155~HTTP/1.1 200 OK^~Date: Thu, 01 Jan 1970 00:00:00 GMT^~Server: AOLserver-profile/1^~Content-Type: text/plain^~Content-Length: 1^~Connection: keep-alive^~^~c~closed 0 ended~response 0 1 159~HTTP/1.1 200 OK^~Date: Thu, 01 Jan 1970 00:00:00 GMT^~Server: AOLserver-profile/1^~Content-Type: text/plain^~Content-Length: 5^~Connection: keep-alive^~^~a c h~closed 0 ended~"#;
+
 /// The bytes that a line of these writes.
 fn meant(alloc: Global, line: &str) -> Result<Text, AllocError> {
     let mut bytes = Vec::new(alloc);
@@ -158,6 +167,20 @@ fn check_both<L: Ledger, R: Abort + AllocGlobal>(
     let (answer, written) = rehearsed_at_once(alloc, file, steps)?;
     let (want, listing) = plain::play(alloc, &Natives::new(alloc), file, steps)?;
     assert_eq!(rt; answer, want);
+    assert_eq!(rt; written.bytes(), listing.bytes());
+    Ok(())
+}
+
+/// The names of arrays that lie in several buckets.
+fn check_names<L: Ledger, R: Abort + AllocGlobal>(
+    rt: &R,
+    steps: &mut Steps<L>,
+) -> Result<(), Fail> {
+    let file = meant(rt.alloc(), NAMES)?;
+    let listing = meant(rt.alloc(), NAMES_LISTING)?;
+    check_both(rt, file.bytes(), steps)?;
+    let (answer, written) = rehearsed_at_once(rt.alloc(), file.bytes(), steps)?;
+    assert_eq!(rt; answer, Rehearsal::Done);
     assert_eq!(rt; written.bytes(), listing.bytes());
     Ok(())
 }
@@ -347,6 +370,7 @@ fn check_machines<L: Ledger, R: Abort + AllocGlobal>(rt: &R, blank: Blank) -> Re
     requires some { 0 < blank.parts }
 {
     let mut steps = Steps::<L>::new(blank);
+    check_names(rt, &mut steps)?;
     check_files(rt, &mut steps)
 }
 

@@ -9,7 +9,7 @@ ghost use Rattle.natives.specs.Names.{names_of};
 ghost use Rattle.rehearse.specs.Requests.{IsEarlyRequest};
 ghost use Rattle.rehearse.specs.Steps.{Step, Runs};
 ghost use Rattle.rehearse.specs.World.{Now as SeenNow, begun, no_pages, response_output};
-ghost use Rattle.nsv_bucket.specs.Arrays.{Arrays as SeenArrays};
+ghost use Rattle.nsv_bucket.specs.Buckets.{AllArrays as SeenArrays};
 ghost use Rattle.rehearse.specs.Playing.{now_of, Went, Serves, IsReady, IsBusy, HasBegun, HasNone, steps_left};
 ghost use Rattle.rehearse.specs.declared.worker.Worker.TheVariants.{Idle as is_idle, Serving as is_serving, AtEnd as is_at_end};
 
@@ -22,7 +22,7 @@ use cmd_table::Steps;
 use http_resp::{Response, response_bytes};
 use ictl::{Interp, Next};
 use natives::Natives;
-use nsv_bucket::Bucket;
+use nsv_bucket::Buckets;
 use std::alloc::Global;
 use std::sync::ledger::Ledger;
 use txt_core::{NoMemory, Text};
@@ -104,7 +104,7 @@ fn serve<L: Ledger>(
     natives: &Natives,
     number: u64,
     serving: Serving,
-    arrays: &mut Bucket,
+    arrays: &mut Buckets,
     listing: &mut Text,
     steps: &mut Steps<L>,
 ) -> Result<Worker, NoMemory>
@@ -215,7 +215,7 @@ impl Worker {
         natives: &Natives,
         number: u64,
         now: &Now,
-        arrays: &mut Bucket,
+        arrays: &mut Buckets,
         listing: &mut Text,
         steps: &mut Steps<L>,
     ) -> Result<Worker, NoMemory>
@@ -248,7 +248,7 @@ impl Worker {
         natives: &Natives,
         number: u64,
         now: &Now,
-        arrays: &mut Bucket,
+        arrays: &mut Buckets,
         listing: &mut Text,
         steps: &mut Steps<L>,
     ) -> Result<(), NoMemory>

@@ -2,7 +2,7 @@
 
 ghost use Rattle.turn_cell.specs.Cells.{IsOf};
 
-use nsv_bucket::{Bucket, NsvReply, bucket_of, each_key_by_itself, steps_are_determined};
+use nsv_bucket::{Bucket, Buckets, NsvReply, bucket_of, each_key_by_itself, steps_are_determined};
 use std::alloc::Global;
 use std::process::Abort;
 use std::sync::Wait;
@@ -224,11 +224,100 @@ fn ask_in_two<R: Threads + Wait + Sync>(
 }
 
 #[test]
-fn each_array_lies_in_the_first_bucket(rt: HostRuntime) -> Result<(), Fail> {
-    let names: [&[u8]; 4] = [b"", b"c", b"counters", b"\xff"];
-    for name in names {
-        assert_eq!(rt; bucket_of(&Text::new(rt.alloc(), name)?), 0);
+fn each_array_lies_in_the_bucket_of_its_name(rt: HostRuntime) -> Result<(), Fail> {
+    let names: [(&[u8], u8); 6] = [
+        (b"", 0),
+        (b"c", 3),
+        (b"a", 1),
+        (b"ab", 3),
+        (b"counters", 3),
+        (b"\xff", 7),
+    ];
+    for (name, bucket) in names {
+        assert_eq!(rt; bucket_of(&Text::new(rt.alloc(), name)?), bucket);
     }
+    Ok(())
+}
+
+/// Whether all buckets answer a line so.
+fn answer(alloc: Global, buckets: &mut Buckets, line: &[u8], want: Want<'_>) -> Result<bool, Fail> {
+    Ok(is(&buckets.ask(&words_of(alloc, line)?)?, want))
+}
+
+#[test]
+fn eight_buckets(rt: HostRuntime) -> Result<(), Fail> {
+    let alloc = rt.alloc();
+    let mut buckets = Buckets::new(alloc);
+    let rows: [(&[u8], Want<'_>); 12] = [
+        (b"nsv_set c k 1", Says(b"1")),
+        (b"nsv_set a k 2", Says(b"2")),
+        (b"nsv_array set ab {k 3}", Says(b"")),
+        (b"nsv_names 0", Says(b"")),
+        (b"nsv_names 1", Says(b"a")),
+        (b"nsv_names 3", Says(b"ab c")),
+        (b"nsv_names 3 c*", Says(b"c")),
+        (b"nsv_names 7", Says(b"")),
+        (b"nsv_names 8", Fails(b"")),
+        (b"nsv_get ab k", Says(b"3")),
+        (b"nsv_array names c", Says(b"k")),
+        (b"nsv_array", Fails(b"")),
+    ];
+    for (line, want) in rows {
+        assert!(rt; answer(alloc, &mut buckets, line, want)?);
+    }
+    let value = buckets
+        .get(3)
+        .value(&Text::new(alloc, b"c")?, &Text::new(alloc, b"k")?);
+    assert!(rt; matches!(value, Some(text) if text.bytes() == b"1".as_slice()));
+    Ok(())
+}
+
+/// Whether a reply is a value of this length.
+fn has_length(reply: &NsvReply, length: usize) -> bool {
+    match reply {
+        NsvReply::Said(text) => text.len() == length,
+        _ => false,
+    }
+}
+
+/// Whether a line, asked so often, makes a value of this length longer by so many bytes each time.
+fn grows(
+    alloc: Global,
+    bucket: &mut Bucket,
+    line: &[u8],
+    mut length: usize,
+    by: usize,
+    times: usize,
+) -> Result<bool, Fail> {
+    for _ in 0..times {
+        length = length.saturating_add(by);
+        let reply = bucket.act(words_of(alloc, line)?);
+        if !has_length(&reply, length) {
+            return Ok(false);
+        }
+    }
+    Ok(true)
+}
+
+/// A value of nearly a megabyte to which is appended a hundred thousand times: where each turn copied it,
+/// that would be 90 billion bytes.
+#[test]
+fn long_values_grow_in_place(rt: HostRuntime) -> Result<(), Fail> {
+    let alloc = rt.alloc();
+    let mut bucket = Bucket::new(alloc);
+    let reply = bucket.act(append_of(alloc, 900_000)?);
+    assert!(rt; has_length(&reply, 900_000));
+    assert!(rt;
+        grows(
+            alloc,
+            &mut bucket,
+            b"nsv_append a k {}",
+            900_000,
+            0,
+            100_000
+        )?
+    );
+    assert!(rt; grows(alloc, &mut bucket, b"nsv_lappend a k x", 900_000, 2, 20_000)?);
     Ok(())
 }
 

@@ -5,3 +5,5 @@
 mod buckets;
 #[cfg(test)]
 mod schedules;
+#[cfg(test)]
+mod shared_arrays;

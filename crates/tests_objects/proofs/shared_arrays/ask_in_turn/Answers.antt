@@ -1,0 +1,7 @@
+use Rattle.tests_objects.proofs.shared_arrays.ask_in_turn.Goals as goal
+
+pub loop-turn-preserved : goal.loop-turn-preserved
+loop-turn-preserved g c = record {
+  cells = c.in_ok-number.ensures.cells;
+  units = c.in_ok-number.ensures.units c.args.units c.loop-turn.invariant.units;
+}

@@ -1,0 +1,248 @@
+//! Four threads on the shared arrays: what no clause says of the calls.
+
+ghost use Rattle.std.specs.Prelude.{ℕ, ◌≡◌, ◌+◌, ◌-◌, ◌<◌, ◌≤◌, length, IfOk};
+ghost use Rattle.std.specs.Thread.{IsSync};
+ghost use Rattle.nsv_shared.specs.Cells.{AreOf, HaveJust};
+
+use nsv_bucket::{Buckets, NsvReply};
+use nsv_shared::{Nsv, NsvPass};
+use std::alloc::Global;
+use std::sync::Wait;
+use std::test::*;
+use std::thread::{Threads, join};
+use txt_core::{NoMemory, Text, Words, read_int};
+
+/// How often each thread asks.
+const TIMES: usize = 10_000;
+
+/// `nsv_incr ARRAY n`
+fn increment(alloc: Global, array: &[u8]) -> Result<Words, NoMemory> {
+    let mut words = Words::new(alloc);
+    for word in [b"nsv_incr".as_slice(), array, b"n".as_slice()] {
+        if words.push(Text::new(alloc, word)?).is_err() {
+            return Err(NoMemory);
+        }
+    }
+    Ok(words)
+}
+
+/// The number that a reply gives; 0 where it gives none.
+fn number(reply: &NsvReply) -> i64 {
+    match reply {
+        NsvReply::Said(text) => read_int(text).unwrap_or(0),
+        _ => 0,
+    }
+}
+
+/// Asks once, and gives the number that is replied.
+fn ask<R: Wait>(
+    rt: &R,
+    alloc: Global,
+    nsv: &Nsv,
+    pass: &mut NsvPass,
+    array: &[u8],
+) -> Result<i64, NoMemory>
+    requires { AreOf nsv.now pass.old }
+    ensures cells { AreOf nsv.now pass.new }
+    ensures units { (units : ℕ) → HaveJust units pass.old → HaveJust units pass.new }
+{
+    let words = increment(alloc, array)?;
+    Ok(number(&nsv.ask(rt, pass, words).reply))
+}
+
+/// The passes of a thread that has asked, and whether each number was greater than the one before it
+/// of the same array.
+#[derive(Drop)]
+struct Asked {
+    pass: NsvPass,
+    rising: bool,
+}
+
+/// Asks of these arrays, at most eight, in turn.
+fn ask_in_turn<R: Wait>(
+    rt: &R,
+    alloc: Global,
+    nsv: &Nsv,
+    pass: NsvPass,
+    units: u64,
+    arrays: &[&[u8]],
+) -> Result<Asked, NoMemory>
+    requires cells { AreOf nsv.now pass }
+    requires units { HaveJust units pass }
+    requires some { (0 < length arrays.now) × (length arrays.now ≤ 8) }
+    ensures { IfOk result (λ asked. AreOf nsv.now asked.pass × HaveJust units asked.pass) }
+{
+    let mut pass = pass;
+    let mut rising = true;
+    let mut last = [0; 8];
+    for turn in 0..TIMES {
+        let at = turn % arrays.len();
+        let number = ask(rt, alloc, nsv, &mut pass, arrays[at])?;
+        rising = rising && last[at] < number;
+        last[at] = number;
+    }
+    Ok(Asked { pass, rising })
+}
+
+/// Passes for another thread.
+fn part(nsv: &Nsv, pass: &mut NsvPass, units: u64) -> Result<NsvPass, NoMemory>
+    requires cells { AreOf nsv.now pass.old }
+    requires units { (2 ≤ units) × HaveJust units pass.old }
+    ensures cells { AreOf nsv.now pass.new }
+    ensures left { HaveJust (units - 1) pass.new }
+    ensures right { IfOk result (λ parts. AreOf nsv.now parts × HaveJust 1 parts) }
+{
+    nsv.split(pass)
+}
+
+/// The passes take in others.
+fn take_in(nsv: &Nsv, pass: &mut NsvPass, other: NsvPass, units: u64, more: u64)
+    requires cells { AreOf nsv.now pass.old × AreOf nsv.now other }
+    requires units { HaveJust units pass.old × HaveJust more other }
+    ensures cells { AreOf nsv.now pass.new }
+    ensures units { HaveJust (units + more) pass.new }
+{
+    nsv.join(pass, other);
+}
+
+/// Two threads ask at once, and their passes are joined.
+fn ask_in_two<R: Threads + Wait + Sync>(
+    rt: &R,
+    alloc: Global,
+    nsv: &Nsv,
+    one: NsvPass,
+    other: NsvPass,
+    units: u64,
+    arrays: &[&[u8]],
+) -> Result<Asked, NoMemory>
+    requires cells { AreOf nsv.now one × AreOf nsv.now other }
+    requires units { HaveJust units one × HaveJust 1 other }
+    requires some { (0 < length arrays.now) × (length arrays.now ≤ 8) }
+    ensures { IfOk result (λ asked. AreOf nsv.now asked.pass × HaveJust (units + 1) asked.pass) }
+{
+    let (one, other) = join(
+        rt,
+        move ||
+            requires { IsSync R.row × AreOf nsv.now one × HaveJust units one × ((0 < length arrays.now) × (length arrays.now ≤ 8)) }
+            ensures { IfOk result (λ asked. AreOf nsv.entry.now asked.pass × HaveJust units asked.pass) }
+        { ask_in_turn(rt, alloc, nsv, one, units, arrays) },
+        move ||
+            requires { IsSync R.row × AreOf nsv.now other × HaveJust 1 other × ((0 < length arrays.now) × (length arrays.now ≤ 8)) }
+            ensures { IfOk result (λ asked. AreOf nsv.entry.now asked.pass × HaveJust 1 asked.pass) }
+        { ask_in_turn(rt, alloc, nsv, other, 1, arrays) },
+    );
+    let Asked { mut pass, rising } = one?;
+    let Asked {
+        pass: second,
+        rising: also,
+    } = other?;
+    take_in(nsv, &mut pass, second, units, 1);
+    Ok(Asked {
+        pass,
+        rising: rising && also,
+    })
+}
+
+/// Four threads ask at once: what the buckets hold at the end, and whether each thread's numbers rose.
+fn ask_in_four<R: Threads + Wait + Sync>(
+    rt: &R,
+    alloc: Global,
+    arrays: &[&[u8]],
+) -> Result<(Buckets, bool), NoMemory>
+    requires some { (0 < length arrays.now) × (length arrays.now ≤ 8) }
+{
+    let (nsv, mut first) = Nsv::new(alloc)?;
+    let second = part(&nsv, &mut first, 65_536)?;
+    let third = part(&nsv, &mut first, 65_535)?;
+    let fourth = part(&nsv, &mut first, 65_534)?;
+    let shared = &nsv;
+    let (front, back) = join(
+        rt,
+        move ||
+            requires { IsSync R.row × AreOf shared.now first × AreOf shared.now second × (HaveJust 65533 first × HaveJust 1 second) × ((0 < length arrays.now) × (length arrays.now ≤ 8)) }
+            ensures { IfOk result (λ asked. AreOf shared.entry.now asked.pass × HaveJust 65534 asked.pass) }
+        { ask_in_two(rt, alloc, shared, first, second, 65_533, arrays) },
+        move ||
+            requires { IsSync R.row × AreOf shared.now third × AreOf shared.now fourth × (HaveJust 1 third × HaveJust 1 fourth) × ((0 < length arrays.now) × (length arrays.now ≤ 8)) }
+            ensures { IfOk result (λ asked. AreOf shared.entry.now asked.pass × HaveJust 2 asked.pass) }
+        { ask_in_two(rt, alloc, shared, third, fourth, 1, arrays) },
+    );
+    let Asked { mut pass, rising } = front?;
+    let Asked {
+        pass: rest,
+        rising: also,
+    } = back?;
+    take_in(&nsv, &mut pass, rest, 65_534, 2);
+    Ok((nsv.close(rt, pass), rising && also))
+}
+
+/// Whether the bucket with this number holds this number for the array.
+fn holds(
+    alloc: Global,
+    buckets: &Buckets,
+    at: u8,
+    array: &[u8],
+    want: i64,
+) -> Result<bool, NoMemory>
+    requires { at < 8 }
+{
+    let array = Text::new(alloc, array)?;
+    let key = Text::new(alloc, b"n")?;
+    Ok(match buckets.get(at).value(&array, &key) {
+        Some(value) => read_int(value) == Some(want),
+        None => false,
+    })
+}
+
+#[test]
+fn four_threads_on_one_array(rt: HostRuntime) -> Result<(), Fail> {
+    let (buckets, rising) = ask_in_four(&rt, rt.alloc(), &[b"c".as_slice()])?;
+    assert!(rt; rising);
+    assert!(rt; holds(rt.alloc(), &buckets, 3, b"c", 40_000)?);
+    Ok(())
+}
+
+#[test]
+fn four_threads_on_eight_buckets(rt: HostRuntime) -> Result<(), Fail> {
+    let arrays = [
+        b"h".as_slice(),
+        b"a".as_slice(),
+        b"b".as_slice(),
+        b"c".as_slice(),
+        b"d".as_slice(),
+        b"e".as_slice(),
+        b"f".as_slice(),
+        b"g".as_slice(),
+    ];
+    let (buckets, rising) = ask_in_four(&rt, rt.alloc(), &arrays)?;
+    assert!(rt; rising);
+    for (at, array) in arrays.iter().enumerate() {
+        assert!(rt; holds(rt.alloc(), &buckets, (at % 8) as u8, array, 5_000)?);
+    }
+    Ok(())
+}
+
+/// Where asking for a line goes: the bucket, and the place in its history.
+fn place<R: Wait>(
+    rt: &R,
+    alloc: Global,
+    nsv: &Nsv,
+    pass: &mut NsvPass,
+    array: &[u8],
+) -> Result<(u8, u64), NoMemory>
+    requires { AreOf nsv.now pass.old }
+    ensures { AreOf nsv.now pass.new }
+{
+    let turn = nsv.ask(rt, pass, increment(alloc, array)?);
+    Ok((turn.bucket, turn.place))
+}
+
+#[test]
+fn places_by_bucket(rt: HostRuntime) -> Result<(), Fail> {
+    let alloc = rt.alloc();
+    let (nsv, mut pass) = Nsv::new(alloc)?;
+    assert_eq!(rt; place(&rt, alloc, &nsv, &mut pass, b"c")?, (3, 0));
+    assert_eq!(rt; place(&rt, alloc, &nsv, &mut pass, b"a")?, (1, 0));
+    assert_eq!(rt; place(&rt, alloc, &nsv, &mut pass, b"ab")?, (3, 1));
+    Ok(())
+}
