@@ -1,0 +1,10 @@
+pub mod Fields
+pub mod OneMoreField
+pub mod Taken
+pub mod WordsAt
+pub mod Escaping
+pub mod Exits
+pub mod Finding
+pub mod Placing
+pub mod Showing
+pub mod Telling

@@ -1,0 +1,198 @@
+//! The commands on channels.
+
+ghost use Rattle.std.specs.Prelude.{◌≡◌, ◌≢◌, [], None, Err, Ok, IfOk, IfErr, OnOk};
+ghost use Rattle.std.specs.List.{list_any};
+ghost use Rattle.http_req.specs.Targets.{is_unsafe_byte};
+ghost use Rattle.chan_core.specs.Chans.{channel, left_in, with_left};
+ghost use Rattle.conn_host.specs.Answers.{Comes, Ends};
+ghost use Rattle.conn_host.specs.ChannelCommands.{behind_slash, is_bad_segment, is_page_path, open_page, opens, line_length, page_answered, gets, read, eof, close};
+
+use crate::checks::{count, require_count, require_fit, word};
+use crate::error::too_many_channels;
+use crate::host::ConnHost;
+use crate::id::{channel_at, channel_id};
+use crate::refusal::{Refusal, refuse};
+use crate::reply::done;
+use chan_core::{ChanFault, Chans};
+use natives::word_at;
+use outside::{Answer, Question, Service};
+use tcl_host::HostReply;
+use txt_core::{NoMemory, Text, Words, error_text, is_too_long, write_int};
+
+/// The length of the line where there is none.
+const NO_LINE: i64 = -1;
+
+/// What a call on a channel that is open came to: its only fault is want of memory.
+fn kept<T>(came: Result<T, ChanFault>) -> Result<T, NoMemory>
+    requires channel { came ≢ Err ChanFault.NoChannel }
+    requires room { came ≢ Err ChanFault.Full }
+    ensures ok { IfOk result (λ value. came ≡ Ok value) }
+    ensures err { IfErr result (λ _. came ≡ Err ChanFault.NoMemory) }
+{
+    match came {
+        Ok(value) => Ok(value),
+        Err(_) => Err(NoMemory),
+    }
+}
+
+/// Whether a byte stands here that no segment of a path may hold.
+fn has_unsafe_byte(segment: &[u8]) -> bool
+    ensures { result ≡ list_any is_unsafe_byte segment.now }
+{
+    segment
+        .iter()
+        .any(|byte| *byte == b'/' || *byte == b'\\' || *byte == 0)
+}
+
+/// Whether no path of a page has this segment.
+fn is_bad_segment(segment: &[u8]) -> bool
+    ensures { result ≡ is_bad_segment segment.now }
+{
+    segment.is_empty()
+        || segment == b".".as_slice()
+        || segment == b"..".as_slice()
+        || has_unsafe_byte(segment)
+}
+
+/// A path without the slash that it may begin with.
+fn behind_slash(path: &[u8]) -> &[u8]
+    ensures { result.now ≡ behind_slash path.now }
+{
+    match path.split_first() {
+        Some((b'/', rest)) => rest,
+        _ => path,
+    }
+}
+
+/// Whether this is the path of a page.
+fn is_page_path(path: &[u8]) -> bool
+    ensures { result ≡ is_page_path path.now }
+{
+    !behind_slash(path)
+        .split(|byte| *byte == b'/')
+        .any(is_bad_segment)
+}
+
+/// `open PATH` asks for the page.
+pub fn open(host: &mut ConnHost, words: &Words) -> Result<HostReply, Refusal>
+    ensures { Comes result host.new (open_page words.now host.old) }
+{
+    let alloc = host.alloc;
+    require_count(alloc, 2, 2, words)?;
+    require_fit(alloc, is_page_path(word(words, 1)), words, 1)?;
+    let mut asked = Words::new(alloc);
+    asked.add(word_at(words, 1).copy(alloc)?)?;
+    Ok(HostReply::Ask(Question {
+        service: Service::Page,
+        words: asked,
+    }))
+}
+
+/// Opens a channel on a page, where one more may be.
+fn opens(host: &mut ConnHost, page: &Text) -> Result<Text, Refusal>
+    ensures { Ends result host.new (opens page.now host.old) }
+{
+    let alloc = host.alloc;
+    match host.channels.open(page.copy(alloc)?) {
+        Ok(number) => Ok(channel_id(alloc, number)?),
+        Err(ChanFault::Full) => Err(refuse(too_many_channels(alloc))),
+        Err(_) => Err(Refusal::NoMemory),
+    }
+}
+
+/// Goes on with an `open` whose page was asked for.
+pub fn page_answered(host: &mut ConnHost, words: &Words, answer: &Answer) -> Result<Text, Refusal>
+    ensures { Ends result host.new (page_answered words.now answer.now host.old) }
+{
+    let alloc = host.alloc;
+    let path = word(words, 1);
+    match answer {
+        Answer::Page(page) => {
+            if is_too_long(page) {
+                return Err(refuse(error_text::page_too_long(alloc, path)));
+            }
+            opens(host, page)
+        }
+        Answer::NoPage => Err(refuse(error_text::no_page(alloc, path))),
+        Answer::PageFault => Err(refuse(error_text::page_fault(alloc, path))),
+        Answer::Failed(why) => Err(refuse(why.copy(alloc))),
+        Answer::Said(_) => Err(Refusal::Error(Text::empty(alloc))),
+    }
+}
+
+/// How many bytes a line has; -1 where there is none.
+fn line_length(line: &Option<Text>) -> i64
+    ensures { result ≡ line_length line.now }
+{
+    match line {
+        Some(line) => line.bytes().len() as i64,
+        None => NO_LINE,
+    }
+}
+
+/// `gets ID ?NAME?` takes a line.
+pub fn gets(host: &mut ConnHost, words: &Words) -> Result<HostReply, Refusal>
+    ensures { Comes result host.new (gets words.now host.old) }
+{
+    let alloc = host.alloc;
+    require_count(alloc, 2, 3, words)?;
+    let channel = channel_at(host, words, 1)?;
+    let line = kept(host.channels.gets(channel))?;
+    let length = line_length(&line);
+    let line = line.unwrap_or(Text::empty(alloc));
+    if words.len() == 2 {
+        return Ok(done(line));
+    }
+    Ok(HostReply::Store {
+        name: word_at(words, 2).copy(alloc)?,
+        value: line,
+        result: write_int(alloc, length)?,
+    })
+}
+
+/// Takes all bytes that are left of a channel that is open.
+fn read_all(channels: &mut Chans, number: u64) -> Result<Text, NoMemory>
+    requires { channel channels.old number ≢ None }
+    ensures bytes { IfOk result (λ bytes. bytes ≡ left_in channels.old number) }
+    ensures left { OnOk result (channels.new ≡ with_left channels.old number []) }
+{
+    let bytes = kept(channels.read(number, u64::MAX))?;
+    prove!(bytes.bytes().len() < usize::MAX);
+    Ok(bytes)
+}
+
+/// `read ID ?N?` takes the bytes that are left, at most so many.
+pub fn read(host: &mut ConnHost, words: &Words) -> Result<Text, Refusal>
+    ensures { Ends result host.new (read words.now host.old) }
+{
+    let alloc = host.alloc;
+    require_count(alloc, 2, 3, words)?;
+    let channel = channel_at(host, words, 1)?;
+    if words.len() == 2 {
+        return Ok(read_all(&mut host.channels, channel)?);
+    }
+    let most = count(alloc, words, 2)?;
+    Ok(kept(host.channels.read(channel, most))?)
+}
+
+/// `eof ID` tells whether no byte is left.
+pub fn eof(host: &mut ConnHost, words: &Words) -> Result<Text, Refusal>
+    ensures { Ends result host.new (eof words.now host.old) }
+{
+    let alloc = host.alloc;
+    require_count(alloc, 2, 2, words)?;
+    let channel = channel_at(host, words, 1)?;
+    let at_end = kept(host.channels.eof(channel))?;
+    Ok(Text::new(alloc, if at_end { b"1" } else { b"0" })?)
+}
+
+/// `close ID` closes the channel.
+pub fn close(host: &mut ConnHost, words: &Words) -> Result<Text, Refusal>
+    ensures { Ends result host.new (close words.now host.old) }
+{
+    let alloc = host.alloc;
+    require_count(alloc, 2, 2, words)?;
+    let channel = channel_at(host, words, 1)?;
+    kept(host.channels.close(channel))?;
+    Ok(Text::empty(alloc))
+}

@@ -1,0 +1,182 @@
+//! The commands that give the response.
+
+ghost use Rattle.std.specs.Prelude.{◌≡◌, ◌∷◌, IfOk, codes, is_some};
+ghost use Rattle.std.specs.List.{list_all, list_any};
+ghost use Rattle.txt_core.specs.ErrorTexts.{no_connection};
+ghost use Rattle.natives.specs.Words.{arg};
+ghost use Rattle.conn_host.specs.Answers.{Ends, Finds, Passes};
+ghost use Rattle.conn_host.specs.Conns.{output_fields};
+ghost use Rattle.conn_host.specs.Responding.{is_control, is_shown, is_kind, is_url, status, typed, redirection, not_found, respond, ns_return, ns_returnredirect, ns_returnnotfound};
+
+use crate::checks::{integer, require_count, require_fit, word};
+use crate::host::ConnHost;
+use crate::refusal::{Refusal, refuse};
+use http_resp::{Response, plain};
+use std::alloc::Global;
+use txt_core::{NoMemory, Pairs, Text, Words, error_text};
+
+/// The statuses of responses.
+const LEAST_STATUS: i64 = 200;
+
+const GREATEST_STATUS: i64 = 599;
+
+const FOUND: u16 = 302;
+
+const NOT_FOUND: u16 = 404;
+
+/// Whether a byte is below 32 or 127.
+fn is_control(byte: u8) -> bool
+    ensures { result ≡ is_control byte }
+{
+    byte <= 31 || byte == 127
+}
+
+/// Whether a byte may stand in a URL.
+fn is_shown(byte: u8) -> bool
+    ensures { result ≡ is_shown byte }
+{
+    byte >= 33 && byte <= 126
+}
+
+/// Whether a text has a byte that no type may have.
+fn has_control(text: &[u8]) -> bool
+    ensures { result ≡ list_any is_control text.now }
+{
+    text.iter().any(|byte| is_control(*byte))
+}
+
+/// Whether a text may be the type of a response.
+fn is_kind(text: &[u8]) -> bool
+    ensures { result ≡ is_kind text.now }
+{
+    !has_control(text)
+}
+
+/// Whether each byte may stand in a URL.
+fn all_shown(text: &[u8]) -> bool
+    ensures { result ≡ list_all is_shown text.now }
+{
+    text.iter().all(|byte| is_shown(*byte))
+}
+
+/// Whether a text is a URL.
+fn is_url(text: &[u8]) -> bool
+    ensures { result ≡ is_url text.now }
+{
+    !text.is_empty() && all_shown(text)
+}
+
+/// The status that the second word is.
+#[tactic(auto, using(crate::proofs::Finding::missing))]
+fn status(alloc: Global, words: &Words) -> Result<u16, Refusal>
+    ensures { Finds result (status words.now) }
+{
+    let number = integer(alloc, words, 1)?;
+    let fits = number >= LEAST_STATUS && number <= GREATEST_STATUS;
+    require_fit(alloc, fits, words, 1)?;
+    Ok(number as u16)
+}
+
+/// Goes on where the run has a connection.
+pub fn require_connection(host: &ConnHost) -> Result<(), Refusal>
+    ensures { Passes result (is_some host.now.request) no_connection }
+{
+    if host.request.is_none() {
+        return Err(refuse(error_text::no_connection(host.alloc)));
+    }
+    Ok(())
+}
+
+/// Gives a response, where none was given.
+#[tactic(auto, using(crate::proofs::Exits::exits))]
+fn respond(host: &mut ConnHost, response: Response) -> Result<Text, Refusal>
+    ensures { Ends result host.new (respond response host.old) }
+{
+    if host.response.is_some() {
+        return Err(refuse(error_text::response_given(host.alloc)));
+    }
+    host.response = Some(response);
+    Ok(Text::empty(host.alloc))
+}
+
+/// The response of this status with the type and the body that the words say.
+fn typed(host: &ConnHost, status: u16, words: &Words) -> Result<Response, NoMemory>
+    ensures { IfOk result (λ response. response ≡ typed status (arg words.now 2) words.now host.now) }
+{
+    Ok(Response {
+        status,
+        fields: host.output_fields()?,
+        kind: Text::new(host.alloc, word(words, 2))?,
+        body: Text::new(host.alloc, word(words, 3))?,
+    })
+}
+
+/// `ns_return STATUS TYPE TEXT`.
+#[tactic(auto, using(crate::proofs::Exits::exits))]
+pub fn ns_return(host: &mut ConnHost, words: &Words) -> Result<Text, Refusal>
+    ensures { Ends result host.new (ns_return words.now host.old) }
+{
+    let alloc = host.alloc;
+    require_count(alloc, 4, 4, words)?;
+    require_connection(host)?;
+    let status = status(alloc, words)?;
+    require_fit(alloc, is_kind(word(words, 2)), words, 2)?;
+    let response = typed(host, status, words)?;
+    respond(host, response)
+}
+
+/// The field Location of a URL, and behind it the output fields.
+fn located(host: &ConnHost, url: &[u8]) -> Result<Pairs, NoMemory>
+    ensures { IfOk result (λ fields. fields ≡ (codes "Location", url.now) ∷ output_fields host.now) }
+{
+    let mut fields = Pairs::new(host.alloc);
+    fields.add((
+        Text::new(host.alloc, b"Location")?,
+        Text::new(host.alloc, url)?,
+    ))?;
+    host.add_output_fields(&mut fields)?;
+    Ok(fields)
+}
+
+/// The plain reply of 302 with these fields.
+fn redirection(host: &ConnHost, url: &[u8]) -> Result<Response, NoMemory>
+    ensures { IfOk result (λ response. response ≡ redirection url.now host.now) }
+{
+    let mut response = plain(host.alloc, FOUND)?;
+    response.fields = located(host, url)?;
+    Ok(response)
+}
+
+/// `ns_returnredirect URL`.
+#[tactic(auto, using(crate::proofs::Exits::exits))]
+pub fn ns_returnredirect(host: &mut ConnHost, words: &Words) -> Result<Text, Refusal>
+    ensures { Ends result host.new (ns_returnredirect words.now host.old) }
+{
+    let alloc = host.alloc;
+    require_count(alloc, 2, 2, words)?;
+    require_connection(host)?;
+    let url = word(words, 1);
+    require_fit(alloc, is_url(url), words, 1)?;
+    let response = redirection(host, url)?;
+    respond(host, response)
+}
+
+/// The plain reply of 404 with the output fields.
+fn not_found(host: &ConnHost) -> Result<Response, NoMemory>
+    ensures { IfOk result (λ response. response ≡ not_found host.now) }
+{
+    let mut response = plain(host.alloc, NOT_FOUND)?;
+    response.fields = host.output_fields()?;
+    Ok(response)
+}
+
+/// `ns_returnnotfound`.
+#[tactic(auto, using(crate::proofs::Exits::exits))]
+pub fn ns_returnnotfound(host: &mut ConnHost, words: &Words) -> Result<Text, Refusal>
+    ensures { Ends result host.new (ns_returnnotfound words.now host.old) }
+{
+    require_count(host.alloc, 1, 1, words)?;
+    require_connection(host)?;
+    let response = not_found(host)?;
+    respond(host, response)
+}
