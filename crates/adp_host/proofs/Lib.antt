@@ -1,0 +1,2 @@
+pub mod WordsAt
+pub mod Joining

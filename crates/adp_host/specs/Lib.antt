@@ -1,0 +1,10 @@
+-- What a reader believes.
+pub mod States
+pub mod Checks
+pub mod Output
+pub mod Includes
+pub mod Arguments
+pub mod Leaving
+pub mod Leaf
+-- What the program answers, in the words of the rules.
+pub mod Answers

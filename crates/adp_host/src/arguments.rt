@@ -1,0 +1,57 @@
+//! The commands on the arguments of the innermost open page.
+
+ghost use Rattle.std.specs.Prelude.{◌≡◌};
+ghost use Rattle.adp_host.specs.States.{PageState, arguments};
+ghost use Rattle.adp_host.specs.Answers.{EndsWith};
+ghost use Rattle.adp_host.specs.Arguments.{argument, argument_text, ns_adp_argc, ns_adp_argv};
+
+use crate::checks::{arg, integer, is_counted, page_arguments, require_words};
+use crate::host::AdpHost;
+use crate::refusal::Refusal;
+use std::alloc::Global;
+use tcl_list::quote;
+use txt_core::{Text, Words, write_natural};
+
+/// `ns_adp_argc` gives how many arguments the page has.
+pub fn ns_adp_argc(host: &AdpHost, words: &Words) -> Result<Text, Refusal>
+    ensures { EndsWith result host.now (ns_adp_argc words.now host.now) }
+{
+    let alloc = host.alloc;
+    require_words(alloc, is_counted(words, 1, 1), words)?;
+    let args = page_arguments(host)?;
+    Ok(write_natural(alloc, args.len() as u64)?)
+}
+
+/// The argument at a place; empty where there is none.
+fn argument(args: &[Text], place: i64) -> &[u8]
+    ensures { result.now ≡ argument args.now place }
+{
+    if place < 0 {
+        return &[];
+    }
+    match args.get(place as usize) {
+        Some(found) => found.bytes(),
+        None => &[],
+    }
+}
+
+/// All arguments as a list, or the one at the place that the second word is.
+fn argument_text(alloc: Global, args: &Words, words: &Words) -> Result<Text, Refusal>
+    ensures { (host : PageState) → args.now ≡ arguments host → EndsWith result host (argument_text words.now host) }
+{
+    if words.len() == 1 {
+        return Ok(quote(alloc, args)?);
+    }
+    let place = integer(alloc, arg(words, 1))?;
+    Ok(Text::new(alloc, argument(args.as_slice(), place))?)
+}
+
+/// `ns_adp_argv ?PLACE?` gives the list of the page's arguments, or the one at a place.
+pub fn ns_adp_argv(host: &AdpHost, words: &Words) -> Result<Text, Refusal>
+    ensures { EndsWith result host.now (ns_adp_argv words.now host.now) }
+{
+    let alloc = host.alloc;
+    require_words(alloc, is_counted(words, 1, 2), words)?;
+    let args = page_arguments(host)?;
+    argument_text(alloc, args, words)
+}
