@@ -1,0 +1,7 @@
+mod Slots
+mod Tables
+mod Rows
+mod Misfits
+mod Spelling
+mod Keeping
+mod Words
