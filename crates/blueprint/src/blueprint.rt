@@ -105,8 +105,8 @@ fn add_all_copies(alloc: Global, all: &mut Defs, lists: &[Defs]) -> Result<(), N
 }
 
 impl Blueprint {
-    /// A blueprint without definitions, at epoch 0. Its built-in names are those of 33 built-ins and of
-    /// the natives. The only error is want of memory.
+    /// A blueprint without definitions, at epoch 0. Its built-in names are those of a command table: of
+    /// the language, of the server and of the natives. The only error is want of memory.
     pub fn new(alloc: Global, natives: &Natives) -> Result<Blueprint, NoMemory>
         ensures { IfOk result (λ made. made ≡ fresh (native_names natives.now)) }
     {

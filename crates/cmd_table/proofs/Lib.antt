@@ -6,3 +6,4 @@ mod Renames
 mod Taking
 mod States
 mod Applying
+mod Places

@@ -24,23 +24,24 @@ test_at : (k n : List ℕ) (o : Ordering) → name_order k n ≡ o → bytes_eq 
 test_at k n o at = sym (is_eq-slice_cmp k n) ∙ ap is_eq at
 
 -- two entries whose first can't be the one that is asked for
-front : (k q n : List ℕ) (v x : Cmd) (rest : Option Cmd) (s : Bool) → bytes_eq k q ≡ s → bytes_eq k n ≡ false → cond (bytes_eq q n) (Some x) (cond s (Some v) rest) ≡ cond s (Some v) (cond (bytes_eq q n) (Some x) rest)
+front : {X : Type 0} (k q n : List ℕ) (v x : X) (rest : Option X) (s : Bool) → bytes_eq k q ≡ s → bytes_eq k n ≡ false → cond (bytes_eq q n) (Some x) (cond s (Some v) rest) ≡ cond s (Some v) (cond (bytes_eq q n) (Some x) rest)
 front k q n v x rest true same apart = let e = sym (nat_list_eq_equiv.congr k q n same) ∙ apart in rw e refl
 front k q n v x rest false same apart = refl
 
 -- two entries of one name
-both : (k q n : List ℕ) (v x : Cmd) (rest : Option Cmd) (s : Bool) → bytes_eq k q ≡ s → bytes_eq k n ≡ true → cond (bytes_eq q n) (Some v) rest ≡ cond s (Some v) (cond (bytes_eq q n) (Some x) rest)
+both : {X : Type 0} (k q n : List ℕ) (v x : X) (rest : Option X) (s : Bool) → bytes_eq k q ≡ s → bytes_eq k n ≡ true → cond (bytes_eq q n) (Some v) rest ≡ cond s (Some v) (cond (bytes_eq q n) (Some x) rest)
 both k q n v x rest true same is = let e = sym (nat_list_eq_equiv.congr k q n same) ∙ is in rw e refl
 both k q n v x rest false same is = let e = nat_list_eq_equiv.symm q n ∙ (sym (nat_list_eq_equiv.congr k n q is) ∙ same) in rw e refl
 
-put_step : (k q n : List ℕ) (v x : Cmd) (es : Table) (o : Ordering) → name_order k n ≡ o
+put_step : {X : Type 0} (k q n : List ℕ) (v x : X) (es : List (List ℕ × X)) (o : Ordering) → name_order k n ≡ o
     → lookup (bytes_eq q) (insert_entry name_order es k v) ≡ cond (bytes_eq k q) (Some v) (lookup (bytes_eq q) es)
     → lookup (bytes_eq q) (match_ordering o ((k, v) ∷ (n, x) ∷ es) ((n, v) ∷ es) ((n, x) ∷ insert_entry name_order es k v)) ≡ cond (bytes_eq k q) (Some v) (cond (bytes_eq q n) (Some x) (lookup (bytes_eq q) es))
-put_step k q n v x es Less at ih = ap (λ (b : Bool). cond b (Some v) (cond (bytes_eq q n) (Some x) (lookup (bytes_eq q) es))) (nat_list_eq_equiv.symm q k)
-put_step k q n v x es Equal at ih = both k q n v x (lookup (bytes_eq q) es) (bytes_eq k q) refl (test_at k n Equal at)
-put_step k q n v x es Greater at ih = ap (λ (r : Option Cmd). cond (bytes_eq q n) (Some x) r) ih ∙ front k q n v x (lookup (bytes_eq q) es) (bytes_eq k q) refl (test_at k n Greater at)
+put_step {X} k q n v x es Less at ih = ap (λ (b : Bool). cond b (Some v) (cond (bytes_eq q n) (Some x) (lookup (bytes_eq q) es))) (nat_list_eq_equiv.symm q k)
+put_step {X} k q n v x es Equal at ih = both k q n v x (lookup (bytes_eq q) es) (bytes_eq k q) refl (test_at k n Equal at)
+put_step {X} k q n v x es Greater at ih = ap (λ (r : Option X). cond (bytes_eq q n) (Some x) r) ih ∙ front k q n v x (lookup (bytes_eq q) es) (bytes_eq k q) refl (test_at k n Greater at)
 
-lookup_put : (k q : List ℕ) (v : Cmd) (es : Table) → lookup (bytes_eq q) (insert_entry name_order es k v) ≡ cond (bytes_eq k q) (Some v) (lookup (bytes_eq q) es)
+-- what is found after an entry was put
+pub lookup_put : {X : Type 0} (k q : List ℕ) (v : X) (es : List (List ℕ × X)) → lookup (bytes_eq q) (insert_entry name_order es k v) ≡ cond (bytes_eq k q) (Some v) (lookup (bytes_eq q) es)
 lookup_put k q v [] = ap (λ (b : Bool). cond b (Some v) None) (nat_list_eq_equiv.symm q k)
 lookup_put k q v (e ∷ es) = put_step k q e.0 v e.1 es (name_order k e.0) refl (lookup_put k q v es)
 
@@ -72,7 +73,7 @@ built_found table (n ∷ names) name =
     ∙ (ap (λ (r : Option Cmd). cond (has_name names name) (Some (commands.Built name)) r) (putting table n name (commands.Built n))
     ∙ built_step n name (bytes_eq n name) (has_name names name) (command_of table name) refl)
 
-nothing_found : (name : List ℕ) → command_of [] name ≡ None
+pub nothing_found : (name : List ℕ) → command_of [] name ≡ None
 unfolding command_of
 nothing_found name = refl
 

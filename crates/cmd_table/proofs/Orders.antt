@@ -60,7 +60,7 @@ unfolding IsStrictlySortedBy
 out_in_order test [] s = tt
 out_in_order test (e ∷ es) s = out_step e.0 e.1 es (remove_entry test es) (test e.0) (out_above e.0 test es s.0) s.1 (out_in_order test es s.1)
 
-with_in_order : (t : Table) (name : List ℕ) (cmd : Cmd) → IsInOrder t → IsInOrder (with_command t name cmd)
+pub with_in_order : (t : Table) (name : List ℕ) (cmd : Cmd) → IsInOrder t → IsInOrder (with_command t name cmd)
 unfolding with_command
 with_in_order t name cmd s = put_in_order name cmd t s
 
@@ -95,7 +95,7 @@ names_in_order : (t : Table) (names : List (List ℕ)) → IsInOrder t → IsInO
 names_in_order t [] s = s
 names_in_order t (name ∷ names) s = names_in_order (with_command t name (commands.Built name)) names (with_in_order t name (commands.Built name) s)
 
-nothing_in_order : IsInOrder []
+pub nothing_in_order : IsInOrder []
 unfolding IsStrictlySortedBy
 nothing_in_order = tt
 

@@ -62,7 +62,7 @@ pub taken_back : (row : Row) (w : Option Cmd) (es : Slots) → AreInOrder es →
 taken_back row w es s noted = taken_back_at row.name w es row.before s (sym noted)
 
 -- the last change is the first to be taken back
-undone_last : (rows : List Row) (row : Row) (es : Slots) → undone (rows ++ row ∷ []) es ≡ undone rows (back row es)
+pub undone_last : (rows : List Row) (row : Row) (es : Slots) → undone (rows ++ row ∷ []) es ≡ undone rows (back row es)
 undone_last [] row es = refl
 undone_last (first ∷ rows) row es = ap (back first) (undone_last rows row es)
 

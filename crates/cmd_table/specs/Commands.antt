@@ -11,14 +11,30 @@ use Rattle.cmd_table.specs.declared.renaming.Renamed.{Renamed}
 use Rattle.cmd_table.specs.declared.renaming.Renamed.TheVariants.{Done, NoOld, NewExists}
 use Rattle.cmd_table.specs.Renaming.{rename_answer, renamed, rename_writes}
 
--- the names of the built-ins that are no natives
-unfoldable pub built_ins : List (List ℕ)
-built_ins =
+-- the names of the commands of the language that are no natives
+unfoldable pub language_names : List (List ℕ)
+language_names =
     codes "set" ∷ codes "unset" ∷ codes "incr" ∷ codes "append" ∷ codes "lappend" ∷ codes "global" ∷ codes "array" ∷ codes "info"
     ∷ codes "proc" ∷ codes "rename" ∷ codes "if" ∷ codes "while" ∷ codes "for" ∷ codes "foreach" ∷ codes "switch" ∷ codes "catch"
-    ∷ codes "eval" ∷ codes "expr" ∷ codes "return" ∷ codes "break" ∷ codes "continue" ∷ codes "error"
-    ∷ codes "ns_return" ∷ codes "ns_register_proc" ∷ codes "nsv_set" ∷ codes "nsv_get" ∷ codes "nsv_exists" ∷ codes "nsv_incr"
-    ∷ codes "nsv_append" ∷ codes "nsv_lappend" ∷ codes "nsv_unset" ∷ codes "nsv_names" ∷ codes "nsv_array" ∷ []
+    ∷ codes "eval" ∷ codes "expr" ∷ codes "return" ∷ codes "break" ∷ codes "continue" ∷ codes "error" ∷ []
+
+-- The names of the commands of the server: of sets and channels, of the connection, of texts and moments, of
+-- pages, of definitions, interpreters and the schedule, of shared arrays.
+unfoldable pub server_names : List (List ℕ)
+server_names =
+    codes "ns_set" ∷ codes "open" ∷ codes "gets" ∷ codes "read" ∷ codes "eof" ∷ codes "close"
+    ∷ codes "ns_conn" ∷ codes "ns_queryget" ∷ codes "ns_return" ∷ codes "ns_returnredirect" ∷ codes "ns_returnnotfound"
+    ∷ codes "ns_urlencode" ∷ codes "ns_urldecode" ∷ codes "ns_time" ∷ codes "ns_httptime"
+    ∷ codes "ns_adp_append" ∷ codes "ns_adp_puts" ∷ codes "ns_adp_include" ∷ codes "ns_adp_argc"
+    ∷ codes "ns_adp_argv" ∷ codes "ns_adp_return" ∷ codes "ns_adp_break" ∷ codes "ns_adp_abort"
+    ∷ codes "ns_register_proc" ∷ codes "ns_register_filter" ∷ codes "ns_ictl" ∷ codes "ns_eval"
+    ∷ codes "ns_schedule_proc" ∷ codes "ns_unschedule_proc"
+    ∷ codes "nsv_set" ∷ codes "nsv_get" ∷ codes "nsv_exists" ∷ codes "nsv_incr" ∷ codes "nsv_append"
+    ∷ codes "nsv_lappend" ∷ codes "nsv_unset" ∷ codes "nsv_names" ∷ codes "nsv_array" ∷ []
+
+-- the names of the built-ins that are no natives
+unfoldable pub built_ins : List (List ℕ)
+built_ins = language_names ++ server_names
 
 -- a table in which these names have their built-ins, whatever they had before; all other names have theirs
 abbrev pub with_built : Table → List (List ℕ) → Table

@@ -1,10 +1,12 @@
 -- What makes a command table a finite map.
 use Rattle.std.specs.Prelude.{◌≡◌, ◌≤◌, ◌++◌, ◌↔◌, ℕ, List, Some, None, IsTrue, if◌then◌else◌}
 use Rattle.std.specs.Str.{bytes_eq}
+use Rattle.std.specs.List.Sorted.{IsStrictlySortedBy}
 use Rattle.natives.specs.Names.{has_name}
 use Rattle.cmd_table.specs.declared.command.Cmd.{Cmd}
 use Rattle.cmd_table.specs.declared.definition.Def.{Def}
-use Rattle.cmd_table.specs.Table.{Table, IsInOrder, command_of, with_command, without_command, State, mark_of, back_at, Keeps}
+use Rattle.cmd_table.specs.Table.{Table, name_order, IsInOrder, command_of, with_command, without_command, State, mark_of, back_at, Keeps}
+use Rattle.cmd_table.specs.Places.{has_place, placed}
 use Rattle.cmd_table.specs.declared.command.Cmd.TheVariants as commands
 use Rattle.cmd_table.specs.Commands.{built_ins, built, Commands, Applies, fits}
 
@@ -39,3 +41,15 @@ BackKeepsMarks = (state : State) (mark earlier : ℕ) → earlier ≤ mark → m
 -- what is kept from one state to the next, and from there to a third one, is kept from the first to the third
 abbrev pub KeepingGoesOn : Type 0
 KeepingGoesOn = (first second third : State) → Keeps first second → Keeps second third → Keeps first third
+
+-- the names that have a place stand in their order, each once
+abbrev pub PlacesAreInOrder : Type 0
+PlacesAreInOrder = (state : State) → IsStrictlySortedBy name_order (placed state)
+
+-- they are exactly those that have a command now, or had one before a change that can be taken back
+abbrev pub PlacesAreOfCommands : Type 0
+PlacesAreOfCommands = (state : State) (name : List ℕ) → has_name (placed state) name ≡ has_place state name
+
+-- taken back to where an earlier state was, a table has the places that it had there
+abbrev pub PlacesGoBack : Type 0
+PlacesGoBack = (old new : State) → Keeps old new → placed (back_at new (mark_of old)) ≡ placed old

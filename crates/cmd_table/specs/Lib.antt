@@ -2,6 +2,7 @@
 pub mod Table
 pub mod Renaming
 pub mod Commands
+pub mod Places
 pub mod Laws
 -- What only proofs use.
 pub mod Slots

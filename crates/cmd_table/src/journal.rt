@@ -1,11 +1,13 @@
 //! What was done to the slots of a command table, so that it can be taken back.
 
-ghost use Rattle.std.specs.Prelude.{◌≡◌, ◌<◌, ◌+◌, ◌++◌, ◌∷◌, [], length, OnOk, OnErr};
+ghost use Rattle.std.specs.Prelude.{◌≡◌, ◌<◌, ◌+◌, ◌++◌, ◌∷◌, ◌||◌, [], length, IsTrue, OnOk, OnErr};
+ghost use Rattle.std.specs.Option.{is_some};
 ghost use Rattle.std.specs.Map.{set_value};
 ghost use Rattle.std.specs.BTreeMap.{is_at};
 ghost use Rattle.cmd_table.specs.Table.{name_order};
+ghost use Rattle.cmd_table.specs.Places.{has_command};
 ghost use Rattle.cmd_table.specs.Slots.{present, with_option, AreInOrder};
-ghost use Rattle.cmd_table.specs.Journal.{back, past_of};
+ghost use Rattle.cmd_table.specs.Journal.{back, past_of, ArePlaced};
 
 use crate::command::Cmd;
 use crate::slots::Slots;
@@ -24,8 +26,8 @@ pub(crate) type Journal = Vec<Row>;
 
 /// Gives a name this command, or takes away what it has where there is none to give, and notes it.
 /// The journal's room is taken first, so that what is changed is noted in any case; the old entry
-/// moves into it. A name whose command is taken away keeps its slot, which is then empty. Where
-/// memory wants, nothing changes.
+/// moves into it. A name whose command is taken away keeps its slot, which is then empty; only one
+/// that has a command can be taken away. Where memory wants, nothing changes.
 pub(crate) fn change(
     alloc: Global,
     slots: &mut Slots,
@@ -33,11 +35,14 @@ pub(crate) fn change(
     name: Text,
     cmd: Option<Cmd>,
 ) -> Result<(), NoMemory>
-    requires { AreInOrder slots.old.entries }
+    requires ordered { AreInOrder slots.old.entries }
+    requires placed { ArePlaced journal.old.items slots.old.entries }
+    requires some { IsTrue (is_some cmd || has_command (present slots.old.entries) name) }
     ensures table { OnOk result (present slots.new.entries ≡ with_option (present slots.old.entries) name cmd) }
     ensures past { OnOk result (past_of journal.new.items slots.new.entries ≡ past_of journal.old.items slots.old.entries ++ present slots.old.entries ∷ []) }
     ensures err { OnErr result ((journal.new.items ≡ journal.old.items) × (slots.new.entries ≡ slots.old.entries)) }
     ensures ordered { AreInOrder slots.new.entries }
+    ensures placed { ArePlaced journal.new.items slots.new.entries }
 {
     journal.reserve(1)?;
     let key = name.copy(alloc)?;
@@ -50,8 +55,10 @@ pub(crate) fn change(
 pub(crate) fn take_back(slots: &mut Slots, journal: &mut Journal)
     requires some { 0 < length journal.old.items }
     requires ordered { AreInOrder slots.old.entries }
+    requires placed { ArePlaced journal.old.items slots.old.entries }
     ensures past { past_of journal.old.items slots.old.entries ≡ past_of journal.new.items slots.new.entries ++ present slots.new.entries ∷ [] }
     ensures ordered { AreInOrder slots.new.entries }
+    ensures placed { ArePlaced journal.new.items slots.new.entries }
 {
     if let Some(row) = journal.pop() {
         put_back(slots, row);

@@ -1,6 +1,6 @@
 //! Laws of command tables.
 
-ghost use Rattle.cmd_table.specs.Laws.{PuttingSetsOneName, RemovingDropsOneName, CommandsAreInOrder, BuiltInsAreThere, FitsWhereApplies, MarkIsNow, BackKeepsMarks, KeepingGoesOn};
+ghost use Rattle.cmd_table.specs.Laws.{PuttingSetsOneName, RemovingDropsOneName, CommandsAreInOrder, BuiltInsAreThere, FitsWhereApplies, MarkIsNow, BackKeepsMarks, KeepingGoesOn, PlacesAreInOrder, PlacesAreOfCommands, PlacesGoBack};
 
 /// A table is a finite map: a change of a name changes what this name stands for, and no other; what
 /// definitions make of the built-in names has each name once, in byte order; and they begin with the
@@ -23,4 +23,13 @@ pub fn marks_stay()
     ensures now { MarkIsNow }
     ensures back { BackKeepsMarks }
     ensures goes_on { KeepingGoesOn }
+{}
+
+/// The names that have a place stand in byte order, each once: exactly those that have a command now, or
+/// had one before a change that can still be taken back. Where all marks of a state were kept and it
+/// is taken back to, it has the places that it had.
+pub fn places_are_of_commands()
+    ensures order { PlacesAreInOrder }
+    ensures commands { PlacesAreOfCommands }
+    ensures back { PlacesGoBack }
 {}

@@ -4,6 +4,7 @@
 mod command;
 mod copy;
 mod definition;
+mod filling;
 mod journal;
 mod law;
 mod renaming;
@@ -14,7 +15,9 @@ mod table;
 pub use command::Cmd;
 pub use copy::{copy_def, copy_defs};
 pub use definition::{Def, Defs, When};
-pub use law::{definitions_fit_where_they_apply, marks_stay, tables_are_maps};
+pub use law::{
+    definitions_fit_where_they_apply, marks_stay, places_are_of_commands, tables_are_maps,
+};
 pub use renaming::Renamed;
 pub use steps::Steps;
 pub use table::CmdTable;

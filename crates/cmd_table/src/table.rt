@@ -1,64 +1,28 @@
 //! The command table of an interpreter.
 
-ghost use Rattle.std.specs.Prelude.{◌≡◌, ◌≤◌, ◌<◌, ◌+◌, IfOk, OnOk, OnErr, IsSome, [], None, length, map};
-ghost use Rattle.std.specs.Option.{option_copied};
+ghost use Rattle.std.specs.Prelude.{◌≡◌, ◌≤◌, ◌<◌, ◌+◌, ◌||◌, IfOk, OnOk, OnErr, IsSome, IsTrue, [], None, length};
+ghost use Rattle.std.specs.Option.{option_copied, is_some};
 ghost use Rattle.cmd_table.specs.Table.{command_of, with_command, without_command, names_of, IsInOrder, changed, mark_of, back_at, Keeps};
+ghost use Rattle.cmd_table.specs.Places.{has_command, placed};
 ghost use Rattle.cmd_table.specs.Renaming.{rename_answer, renamed, renaming_steps};
 ghost use Rattle.cmd_table.specs.Slots.{with_option};
-ghost use Rattle.cmd_table.specs.Commands.{built_ins, built, with_built, defined, fits, Applies, writes, writes_at};
+ghost use Rattle.cmd_table.specs.Commands.{built_ins, built, defined, fits, Applies, writes, writes_at};
 ghost use Rattle.natives.specs.Names.{names_of as native_names};
 
 use crate::command::Cmd;
 use crate::copy::copy_cmd;
 use crate::definition::Def;
+use crate::filling::{fill_built_ins, fill_natives, no_slots};
 use crate::journal::{Journal, change, take_back};
 use crate::renaming::Renamed;
 use crate::slots::{Slots, find, present_names};
 use crate::steps::Steps;
 use natives::Natives;
 use std::alloc::Global;
-use std::collections::BTreeMap;
 use std::marker::Model;
 use std::sync::ledger::Ledger;
 use tcl_frame::is_element_name;
 use txt_core::{NoMemory, Text, Words};
-
-/// The names of the built-ins that are no natives.
-const BUILT_INS: [&str; 33] = [
-    "set",
-    "unset",
-    "incr",
-    "append",
-    "lappend",
-    "global",
-    "array",
-    "info",
-    "proc",
-    "rename",
-    "if",
-    "while",
-    "for",
-    "foreach",
-    "switch",
-    "catch",
-    "eval",
-    "expr",
-    "return",
-    "break",
-    "continue",
-    "error",
-    "ns_return",
-    "ns_register_proc",
-    "nsv_set",
-    "nsv_get",
-    "nsv_exists",
-    "nsv_incr",
-    "nsv_append",
-    "nsv_lappend",
-    "nsv_unset",
-    "nsv_names",
-    "nsv_array",
-];
 
 /// Commands by their names: a finite map that can be taken back to what it was at a mark. Contracts
 /// see it as the names with their commands, in the order of the names, beside what they were before
@@ -75,13 +39,13 @@ pub struct CmdTable {
 impl Model for CmdTable {
     ghost use Rattle.cmd_table.specs.Table.{State};
     ghost use Rattle.cmd_table.specs.Slots.{present, AreInOrder};
-    ghost use Rattle.cmd_table.specs.Journal.{past_of};
+    ghost use Rattle.cmd_table.specs.Journal.{past_of, ArePlaced};
 
     ghost Value = { State };
 
     ghost view = { λ a. record { past = past_of a.journal.items a.slots.entries; table = present a.slots.entries } };
 
-    ghost invariant = { λ a. AreInOrder a.slots.entries };
+    ghost invariant = { λ a. AreInOrder a.slots.entries × ArePlaced a.journal.items a.slots.entries };
 }
 
 impl CmdTable {
@@ -99,77 +63,14 @@ impl CmdTable {
         ensures least { steps.old ≤ steps.new }
         ensures most { steps.new ≤ steps.old + (length built_ins + length (native_names natives.now)) }
     {
-        let mut table = CmdTable {
+        let mut slots = no_slots(alloc);
+        fill_built_ins(alloc, &mut slots, steps)?;
+        fill_natives(alloc, &mut slots, natives, steps)?;
+        Ok(CmdTable {
             alloc,
-            slots: BTreeMap::new(alloc),
+            slots,
             journal: Vec::new(alloc),
-        };
-        table.put_built_ins(steps)?;
-        table.put_natives(natives, steps)?;
-        table.forget();
-        Ok(table)
-    }
-
-    /// What was changed up to here can't be taken back any more.
-    fn forget(&mut self)
-        ensures table { self.new.table ≡ self.old.table }
-        ensures past { self.new.past ≡ [] }
-    {
-        self.journal.clear();
-    }
-
-    /// Gives the name of each built-in that is no native its built-in.
-    #[tactic(auto, unfolding(crate::specs::Commands::built_ins))]
-    fn put_built_ins<L: Ledger>(&mut self, steps: &mut Steps<L>) -> Result<(), NoMemory>
-        ensures table { OnOk result (self.new.table ≡ with_built self.old.table built_ins) }
-        ensures steps { OnOk result (steps.new ≡ steps.old + length built_ins) }
-        ensures least { steps.old ≤ steps.new }
-        ensures most { steps.new ≤ steps.old + length built_ins }
-    {
-        let names: [&str; 33] = BUILT_INS;
-        self.put_names(names.as_slice(), steps)
-    }
-
-    /// Gives each of these names its built-in.
-    fn put_names<L: Ledger>(&mut self, names: &[&str], steps: &mut Steps<L>) -> Result<(), NoMemory>
-        ensures table { OnOk result (self.new.table ≡ with_built self.old.table (map (λ name. name.now) names.now)) }
-        ensures steps { OnOk result (steps.new ≡ steps.old + length names.now) }
-        ensures least { steps.old ≤ steps.new }
-        ensures most { steps.new ≤ steps.old + length names.now }
-    {
-        for name in names {
-            self.put_built(name.as_bytes(), steps)?;
-        }
-        Ok(())
-    }
-
-    /// Gives the name of each of the natives its built-in.
-    fn put_natives<L: Ledger>(
-        &mut self,
-        natives: &Natives,
-        steps: &mut Steps<L>,
-    ) -> Result<(), NoMemory>
-        ensures table { OnOk result (self.new.table ≡ with_built self.old.table (native_names natives.now)) }
-        ensures steps { OnOk result (steps.new ≡ steps.old + length (native_names natives.now)) }
-        ensures least { steps.old ≤ steps.new }
-        ensures most { steps.new ≤ steps.old + length (native_names natives.now) }
-    {
-        for at in 0..natives.len() {
-            if let Some(native) = natives.get(at) {
-                self.put_built(native.name().bytes(), steps)?;
-            }
-        }
-        Ok(())
-    }
-
-    /// Gives a name its built-in.
-    fn put_built<L: Ledger>(&mut self, name: &[u8], steps: &mut Steps<L>) -> Result<(), NoMemory>
-        ensures table { OnOk result (self.new.table ≡ with_command self.old.table name.now (Cmd.Built name.now)) }
-        ensures steps { OnOk result (steps.new ≡ steps.old + 1) }
-        ensures err { OnErr result ((self.new ≡ self.old) × (steps.new ≡ steps.old)) }
-    {
-        let built = Cmd::Built(Text::new(self.alloc, name)?);
-        self.put(Text::new(self.alloc, name)?, built, steps)
+        })
     }
 
     /// The command of a name; `None` exactly where the table hasn't the name.
@@ -185,6 +86,15 @@ impl CmdTable {
         ensures ordered { IsInOrder self.now.table }
     {
         present_names(self.alloc, &self.slots)
+    }
+
+    /// How many names have a place in the table: those that have a command, and those that had one
+    /// before a change that can still be taken back. It takes no memory. So a table that was taken
+    /// back to a mark has as many as at the mark.
+    pub fn slots(&self) -> usize
+        ensures { result ≡ length (placed self.now) }
+    {
+        self.slots.len()
     }
 
     /// The mark to which the table can be taken back from now on (`undo`). It takes no memory.
@@ -216,8 +126,9 @@ impl CmdTable {
         take_back(&mut self.slots, &mut self.journal);
     }
 
-    /// Gives a name this command, or none.
+    /// Gives a name this command, or takes the one away that it has.
     fn change(&mut self, name: Text, cmd: Option<Cmd>) -> Result<(), NoMemory>
+        requires { IsTrue (is_some cmd || has_command self.old.table name) }
         ensures ok { OnOk result (self.new ≡ changed self.old (with_option self.old.table name cmd)) }
         ensures err { OnErr result (self.new ≡ self.old) }
     {
@@ -338,6 +249,7 @@ impl CmdTable {
 
     /// Removes a name.
     fn remove<L: Ledger>(&mut self, name: &Text, steps: &mut Steps<L>) -> Result<(), NoMemory>
+        requires { IsSome (command_of self.old.table name.now) }
         ensures table { OnOk result (self.new.table ≡ without_command self.old.table name.now) }
         ensures steps { OnOk result (steps.new ≡ steps.old + 1) }
         ensures err { OnErr result ((self.new ≡ self.old) × (steps.new ≡ steps.old)) }
@@ -380,6 +292,7 @@ impl CmdTable {
     /// Takes the command of a name away and gives another name this one, or does neither where memory
     /// wants.
     fn move_one(&mut self, old: Text, new: Text, cmd: Cmd) -> Result<(), NoMemory>
+        requires { IsSome (command_of self.old.table old) }
         ensures ok { OnOk result (self.new ≡ changed (changed self.old (without_command self.old.table old)) (with_command (without_command self.old.table old) new cmd)) }
         ensures err { OnErr result (self.new ≡ self.old) }
     {

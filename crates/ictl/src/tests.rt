@@ -326,7 +326,7 @@ c ns_return 200 a b; while 1 {} => 500 budget spent~ ended"#;
 
 /// Definition runs, one a line: the script, an arrow, and what is asked and how it ends.
 const DEFINITIONS: &str = r#"return x => 0 x
-info commands => 0 append array break c catch continue error eval expr for foreach global if incr info lappend ns_register_proc ns_return nsv_append nsv_array nsv_exists nsv_get nsv_incr nsv_lappend nsv_names nsv_set nsv_unset proc rename return set switch unset while
+info commands => 0 append array break c catch close continue eof error eval expr for foreach gets global if incr info lappend ns_adp_abort ns_adp_append ns_adp_argc ns_adp_argv ns_adp_break ns_adp_include ns_adp_puts ns_adp_return ns_conn ns_eval ns_httptime ns_ictl ns_queryget ns_register_filter ns_register_proc ns_return ns_returnnotfound ns_returnredirect ns_schedule_proc ns_set ns_time ns_unschedule_proc ns_urldecode ns_urlencode nsv_append nsv_array nsv_exists nsv_get nsv_incr nsv_lappend nsv_names nsv_set nsv_unset open proc read rename return set switch unset while
 catch {ns_return 200 a b} m; return $m => 0 no connection
 c => 0 old
 error no => 1 no
