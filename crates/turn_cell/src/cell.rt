@@ -1,5 +1,5 @@
 //! A cell, its passes, and the calls on them.
-ghost use Rattle.std.specs.Prelude.{◌≡◌, ◌+◌, ◌-◌, ◌≤◌, ◌<◌, None, Some, IsOk, IfOk};
+ghost use Rattle.std.specs.Prelude.{◌≡◌, ◌+◌, ◌-◌, ◌≤◌, ◌<◌, None, Some, IsOk, IfOk, MatchOption};
 ghost use Rattle.crossbeam_queue.specs.Passes.{view, IsPassOf, ruled_capacity};
 ghost use Rattle.turn_cell.specs.Passes.{turn_of, with_turn};
 ghost use Rattle.turn_cell.specs.Steps.{Takes};
@@ -9,6 +9,7 @@ use crate::rule::{ByTurns, InOrder, Merge, OneUnit, Opening, Put, Said, Take};
 use crate::view::{Kept, View};
 use crossbeam_queue::RuledArrayQueue;
 use crossbeam_utils::Backoff;
+use crossbeam_utils::sync::EventCount;
 use std::alloc::Global;
 use std::marker::Brand;
 use std::snapshot::Snapshot;
@@ -39,12 +40,16 @@ pub struct Pass<O: Obj> {
 /// A cell with one object, which any number of threads use by turns.
 ///
 /// It is shared by reference, and each thread has a pass of its own. A turn takes the object out of
-/// a queue with room for one, makes one call on it and puts it back, so calls don't overlap, and a
-/// thread that finds the queue empty tries again. Of all turns there is one legal history, from the
-/// state in which the object was put in.
+/// a queue with room for one, makes one call on it and puts it back, so calls don't overlap. A thread
+/// that finds the queue empty spins for a moment, yields a few times and then sleeps until another
+/// thread has put the object back. Of all turns there is one legal history, from the state in which
+/// the object was put in.
 #[derive(Drop)]
 pub struct TurnCell<O: Obj> {
     queue: Queue<O>,
+    // Told of after each turn. It is a hint, on which no clause rests: a thread that wakes looks at the
+    // queue again.
+    free: EventCount,
     ghost one: { ruled_capacity queue ≡ 1 },
 }
 
@@ -73,7 +78,10 @@ impl<O: Obj> TurnCell<O> {
             object: opening,
         };
         match queue.try_push_as::<Opening<O>>(&mut seat, first) {
-            Ok(()) => Ok((TurnCell { queue }, Pass { seat })),
+            Ok(()) => {
+                let free = EventCount::new();
+                Ok((TurnCell { queue, free }, Pass { seat }))
+            }
             // A new queue that nobody shares has room and nobody in the way.
             Err(_) => Err(NoMemory),
         }
@@ -125,7 +133,7 @@ impl<O: Obj> TurnCell<O> {
         ensures cell { IsOf self.now pass.new }
         ensures turn { Turns O.allowed O.reaches O.step (pass_view pass.old) result.place call result.reply (pass_view pass.new) }
     {
-        let Kept { count, mut object } = take::<O, R>(rt, &self.queue, &mut pass.seat);
+        let Kept { count, mut object } = take::<O, R>(rt, &self.queue, &self.free, &mut pass.seat);
         let before = Snapshot::of(&object);
         let said = Snapshot::of(&call);
         let reply = object.act(call);
@@ -139,6 +147,7 @@ impl<O: Obj> TurnCell<O> {
             &reply,
             object,
         );
+        self.free.notify_one();
         Turned {
             place: count,
             reply,
@@ -173,8 +182,9 @@ fn one_more<R: Wait>(rt: &R, count: u64) -> u64
     unreachable!()
 }
 
-// Takes the object as soon as it finds it in the queue.
-fn take<O: Obj, R: Wait>(rt: &R, queue: &Queue<O>, seat: &mut Seat<O>) -> Kept<O>
+// Takes the object as soon as it finds it in the queue. Where it isn't there for long it sleeps until a
+// turn ends; since it looks once more after it has announced its sleep, it misses no end of a turn.
+fn take<O: Obj, R: Wait>(rt: &R, queue: &Queue<O>, free: &EventCount, seat: &mut Seat<O>) -> Kept<O>
     requires queue { IsPassOf queue.now seat.old }
     requires free { (0 < (view seat.old).units) × ((view seat.old).held ≡ None) }
     ensures queue { IsPassOf queue.now seat.new }
@@ -182,12 +192,30 @@ fn take<O: Obj, R: Wait>(rt: &R, queue: &Queue<O>, seat: &mut Seat<O>) -> Kept<O
 {
     let backoff = Backoff::new();
     for _ in rt.forever() {
-        if let Some(kept) = queue.pop_as::<Take<O>, R>(rt, seat) {
+        if let Some(kept) = try_take::<O, R>(rt, queue, seat) {
             return kept;
         }
-        backoff.snooze();
+        if backoff.is_completed() {
+            let sleep = free.prepare_wait();
+            if let Some(kept) = try_take::<O, R>(rt, queue, seat) {
+                return kept;
+            }
+            sleep.wait(rt);
+        } else {
+            backoff.snooze();
+        }
     }
     unreachable!()
+}
+
+// Takes the object where it is in the queue.
+fn try_take<O: Obj, R: Wait>(rt: &R, queue: &Queue<O>, seat: &mut Seat<O>) -> Option<Kept<O>>
+    requires queue { IsPassOf queue.now seat.old }
+    requires free { (0 < (view seat.old).units) × ((view seat.old).held ≡ None) }
+    ensures queue { IsPassOf queue.now seat.new }
+    ensures answer { MatchOption result (view seat.new ≡ view seat.old) (λ kept. Takes O.allowed O.reaches O.step (view seat.old) kept (view seat.new)) }
+{
+    queue.pop_as::<Take<O>, R>(rt, seat)
 }
 
 // Puts the object back after this call. There is room, since the pass has taken the object.

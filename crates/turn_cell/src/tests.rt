@@ -1,5 +1,6 @@
 //! A counter in a cell: what no clause says of the calls.
-ghost use Rattle.std.specs.Prelude.{◌≡◌, IfOk};
+ghost use Rattle.std.specs.Prelude.{◌≡◌, ◌≤◌, ◌+◌, IfOk};
+ghost use Rattle.std.specs.List.{All};
 ghost use Rattle.turn_cell.specs.Cells.{IsOf, pass_view};
 ghost use Rattle.turn_cell.specs.Counts.{TakesCount};
 
@@ -7,7 +8,7 @@ use super::*;
 use std::alloc::Global;
 use std::sync::Wait;
 use std::test::*;
-use std::thread::{Threads, join};
+use std::thread::{self, Threads, join};
 use txt_core::NoMemory;
 
 /// A count, which stops at 2^64 - 1.
@@ -133,6 +134,93 @@ fn count_in_four<R: Threads + Wait + Sync>(rt: &R, alloc: Global) -> Result<(u64
 #[test]
 fn four_threads(rt: HostRuntime) -> Result<(), Fail> {
     assert_eq!(rt; count_in_four(&rt, rt.alloc())?, (400, true));
+    Ok(())
+}
+
+/// A thread's part of a count by many.
+#[derive(Drop)]
+struct Part {
+    pass: Pass<Counter>,
+    rising: bool,
+}
+
+impl Part {
+    /// Counts so often.
+    fn count<R: Wait>(&mut self, rt: &R, cell: &TurnCell<Counter>, times: u64)
+        requires { IsOf cell.now self.old.pass }
+        ensures { IsOf cell.now self.new.pass }
+    {
+        let mut last = 0;
+        for _done in 0..times {
+            let reply = cell.turn(rt, &mut self.pass, Increment).reply;
+            self.rising = self.rising && last < reply;
+            last = reply;
+        }
+    }
+}
+
+/// A part for each of so many threads.
+fn parts_of(
+    alloc: Global,
+    cell: &TurnCell<Counter>,
+    pass: &mut Pass<Counter>,
+    threads: u16,
+) -> Result<Vec<Part>, NoMemory>
+    requires cell { IsOf cell.now pass.old }
+    requires units { threads + 2 ≤ (pass_view pass.old).units }
+    ensures cell { IsOf cell.now pass.new }
+    ensures parts { IfOk result (λ parts. All (λ part. IsOf cell.now part.pass) parts.items) }
+{
+    let mut parts = Vec::new(alloc);
+    for _number in 0..threads {
+        parts.push(Part {
+            pass: cell.split(pass)?,
+            rising: true,
+        })?;
+    }
+    Ok(parts)
+}
+
+/// Each part counts in a thread of its own.
+fn count_each<R: Threads + Wait + Sync>(
+    rt: &R,
+    cell: &TurnCell<Counter>,
+    parts: &mut [Part],
+    times: u64,
+)
+    requires { All (λ part. IsOf cell.now part.pass) parts.old }
+{
+    let threads = parts.len().max(1);
+    thread::for_each_mut(rt, parts, threads, &|_, part| part.count(rt, cell, times));
+}
+
+/// The count after so many threads have counted so often each and one has counted once more, and
+/// whether each thread's replies rose.
+fn count_by<R: Threads + Wait + Sync>(
+    rt: &R,
+    alloc: Global,
+    threads: u16,
+    times: u64,
+) -> Result<(u64, bool), NoMemory>
+    requires { threads ≤ 16 }
+{
+    let (cell, mut pass) = TurnCell::new(alloc, Counter { value: 0 })?;
+    let mut parts = parts_of(alloc, &cell, &mut pass, threads)?;
+    count_each(rt, &cell, parts.as_mut_slice(), times);
+    let mut rising = true;
+    for part in &parts {
+        rising = rising && part.rising;
+    }
+    Ok((cell.turn(rt, &mut pass, Increment).reply, rising))
+}
+
+/// With more threads than processors, a thread that has the object is often stopped, and those that
+/// wait for it fall asleep.
+#[test]
+fn by_one_by_four_and_by_sixteen(rt: HostRuntime) -> Result<(), Fail> {
+    assert_eq!(rt; count_by(&rt, rt.alloc(), 1, 80_000)?, (80_001, true));
+    assert_eq!(rt; count_by(&rt, rt.alloc(), 4, 20_000)?, (80_001, true));
+    assert_eq!(rt; count_by(&rt, rt.alloc(), 16, 5_000)?, (80_001, true));
     Ok(())
 }
 
