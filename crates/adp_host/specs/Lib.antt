@@ -6,5 +6,5 @@ pub mod Includes
 pub mod Arguments
 pub mod Leaving
 pub mod Leaf
--- What the program answers, in the words of the rules.
+-- What checks answer, in the words of the rules.
 pub mod Answers

@@ -1,14 +1,14 @@
 //! The commands on the arguments of the innermost open page.
 
 ghost use Rattle.std.specs.Prelude.{◌≡◌};
+ghost use Rattle.tcl_host.specs.Outcomes.{EndsWith};
 ghost use Rattle.adp_host.specs.States.{PageState, arguments};
-ghost use Rattle.adp_host.specs.Answers.{EndsWith};
 ghost use Rattle.adp_host.specs.Arguments.{argument, argument_text, ns_adp_argc, ns_adp_argv};
 
 use crate::checks::{arg, integer, is_counted, page_arguments, require_words};
 use crate::host::AdpHost;
-use crate::refusal::Refusal;
 use std::alloc::Global;
+use tcl_host::Refusal;
 use tcl_list::quote;
 use txt_core::{Text, Words, write_natural};
 

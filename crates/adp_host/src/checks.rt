@@ -8,8 +8,8 @@ ghost use Rattle.adp_host.specs.Answers.{Finds, Passes, Refused};
 ghost use Rattle.adp_host.specs.Checks.{integer, is_counted, unfit};
 
 use crate::host::AdpHost;
-use crate::refusal::{Refusal, refuse};
 use std::alloc::Global;
+use tcl_host::{Refusal, refuse};
 use txt_core::{NoMemory, Text, Words, error_text, read_int_bytes};
 
 /// The word at a place; the empty text where there is none.

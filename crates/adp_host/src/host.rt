@@ -3,11 +3,10 @@
 use crate::answering::{answer, dispatch};
 use crate::leaving::page_left;
 use crate::output::put_out;
-use crate::reply::{reply_of, text_reply};
 use outside::Answer;
 use std::alloc::Global;
 use std::marker::Model;
-use tcl_host::HostReply;
+use tcl_host::{HostReply, reply_of, text_reply};
 use txt_core::{Sequence, Text, Words};
 
 /// Does the commands of pages, and keeps what the pages put out, how many errors they met, and which

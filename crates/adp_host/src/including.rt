@@ -1,66 +1,16 @@
 //! Pages in pages.
 
 ghost use Rattle.std.specs.Prelude.{◌≡◌, IfOk};
-ghost use Rattle.std.specs.List.{list_any};
 ghost use Rattle.tcl_host.specs.Answers.{RepliesTo};
-ghost use Rattle.adp_host.specs.Answers.{Comes, ComesTo};
-ghost use Rattle.adp_host.specs.Includes.{behind_slash, page_path, is_bad_byte, is_bad_segment, is_page_path, ns_adp_include, enters_page, page_answered};
+ghost use Rattle.tcl_host.specs.Outcomes.{Comes, ComesTo};
+ghost use Rattle.adp_host.specs.Includes.{ns_adp_include, enters_page, page_answered};
 
 use crate::checks::{arg, behind_name, require_fit, require_page, require_words};
 use crate::host::AdpHost;
-use crate::refusal::{Refusal, refuse};
 use adp_parse::pieces;
 use outside::{Answer, Question, Service};
-use std::alloc::Global;
-use tcl_host::HostReply;
+use tcl_host::{HostReply, Refusal, is_page_path, page_path, refuse};
 use txt_core::{NoMemory, Text, Words, error_text, is_too_long};
-
-/// Whether a segment has a byte that no path of a page has.
-fn has_bad_byte(segment: &[u8]) -> bool
-    ensures { result ≡ list_any is_bad_byte segment.now }
-{
-    segment.iter().any(|byte| *byte == b'\\' || *byte == 0)
-}
-
-/// Whether no path of a page has this segment.
-fn is_bad_segment(segment: &[u8]) -> bool
-    ensures { result ≡ is_bad_segment segment.now }
-{
-    segment == b"".as_slice()
-        || segment == b".".as_slice()
-        || segment == b"..".as_slice()
-        || has_bad_byte(segment)
-}
-
-/// A path without the slash that it may begin with.
-fn behind_slash(path: &[u8]) -> &[u8]
-    ensures { result.now ≡ behind_slash path.now }
-{
-    match path.split_first() {
-        Some((b'/', rest)) => rest,
-        _ => path,
-    }
-}
-
-/// Whether what is written is the path of a page.
-fn is_page_path(written: &[u8]) -> bool
-    ensures { result ≡ is_page_path written.now }
-{
-    let mut bad = false;
-    for segment in behind_slash(written).split(|byte| *byte == b'/') {
-        bad = bad || is_bad_segment(segment);
-    }
-    !bad
-}
-
-/// The path of a page: a slash is put in front of what is written where it lacks one.
-fn page_path(alloc: Global, written: &[u8]) -> Result<Text, NoMemory>
-    ensures { IfOk result (λ path. path ≡ page_path written.now) }
-{
-    let mut path = Text::new(alloc, b"/")?;
-    path.append(behind_slash(written))?;
-    Ok(path)
-}
 
 /// `ns_adp_include FILE WORD..` asks for the page.
 pub fn ns_adp_include(host: &mut AdpHost, words: &Words) -> Result<HostReply, Refusal>

@@ -9,8 +9,6 @@ mod host;
 mod including;
 mod leaving;
 mod output;
-mod refusal;
-mod reply;
 #[cfg(test)]
 mod tests;
 mod verb;

@@ -7,8 +7,8 @@ use Rattle.conn_host.proofs.Exits.{not_fit_there}
 use Rattle.conn_host.specs.Responding.{status_of}
 use Rattle.conn_host.specs.RequestCommands.{bytes_from}
 use Rattle.conn_host.specs.TextCommands.{up_to_last}
-use Rattle.conn_host.specs.declared.refusal.Refusal.{Refusal}
-use Rattle.conn_host.specs.declared.refusal.Refusal.TheVariants.{Error, NoMemory}
+use Rattle.tcl_host.specs.declared.refusal.Refusal.{Refusal}
+use Rattle.tcl_host.specs.declared.refusal.Refusal.TheVariants.{Error, NoMemory}
 
 pub no_status : (e : Refusal) (checked : Checked ℤ) (words : List (List ℕ)) → Finds {A = ℤ} (Err e) checked → Finds {A = ℕ} (Err e) (status_of checked words)
 no_status (Error text) (Ok n) words failed = absurd (cc)

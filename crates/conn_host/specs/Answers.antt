@@ -1,24 +1,8 @@
--- What the program answers, in the words of the rules. Want of memory says nothing.
+-- What checks answer, in the words of the rules. Want of memory says nothing.
 use Rattle.std.specs.Prelude.{◌≡◌, ℕ, Bool, true, false, List, Result, Ok, Err, ⊤}
-use Rattle.tcl_host.specs.Leaf.{Leaf, says}
-use Rattle.tcl_host.specs.Answers.{Replies}
-use Rattle.tcl_host.specs.declared.host.HostReply.{HostReply}
-use Rattle.conn_host.specs.Conns.{ConnState}
+use Rattle.tcl_host.specs.declared.refusal.Refusal.{Refusal}
+use Rattle.tcl_host.specs.declared.refusal.Refusal.TheVariants.{Error, NoMemory}
 use Rattle.conn_host.specs.Checks.{Checked}
-use Rattle.conn_host.specs.declared.refusal.Refusal.{Refusal}
-use Rattle.conn_host.specs.declared.refusal.Refusal.TheVariants.{Error, NoMemory}
-
--- what a command came to, with the host's state after it: a reply, or an error
-abbrev pub Comes : Result HostReply Refusal → ConnState → Leaf ConnState → Type 0
-Comes (Ok reply) host leaf = Replies reply host leaf
-Comes (Err (Error message)) host leaf = leaf ≡ says 1 message host
-Comes (Err NoMemory) host leaf = Unit {0}
-
--- the same of a command that never does more than to end with a result
-abbrev pub Ends : Result (List ℕ) Refusal → ConnState → Leaf ConnState → Type 0
-Ends (Ok result) host leaf = leaf ≡ says 0 result host
-Ends (Err (Error message)) host leaf = leaf ≡ says 1 message host
-Ends (Err NoMemory) host leaf = Unit {0}
 
 -- what a check found, or the error
 abbrev pub Finds : {A : Type 0} → Result A Refusal → Checked A → Type 0

@@ -1,15 +1,14 @@
 -- The commands on channels. A channel is a page that is read from its front.
-use Rattle.std.specs.Prelude.{ℕ, ℤ, pos, negsuc, List, [], ◌∷◌, ◌++◌, length, take, drop, slice_set, Bool, not, ◌||◌, ◌==◌, nat_lt, codes, if◌then◌else◌, Option, Some, None, unwrap_or, Ok, Err}
+use Rattle.std.specs.Prelude.{ℕ, ℤ, pos, negsuc, List, [], ◌∷◌, ◌++◌, length, take, drop, slice_set, ◌==◌, nat_lt, codes, if◌then◌else◌, Option, Some, None, unwrap_or, Ok, Err}
 use Rattle.std.specs.Fmt.{signed_decimal}
-use Rattle.std.specs.List.{list_any, slice_split}
 use Rattle.txt_core.specs.Limits.{is_long}
 use Rattle.txt_core.specs.ErrorTexts.{no_page, page_fault, page_too_long}
 use Rattle.outside.specs.declared.question.Answer.{Answer}
 use Rattle.outside.specs.declared.question.Answer.TheVariants.{Said, Failed, Page, NoPage, PageFault}
 use Rattle.outside.specs.declared.question.Service.TheVariants as service
-use Rattle.http_req.specs.Targets.{is_slash, is_filled, is_unsafe}
 use Rattle.chan_core.specs.Chans.{left_in, open_count, with_left}
 use Rattle.chan_core.specs.Lines.{line_of, behind_line}
+use Rattle.tcl_host.specs.PagePaths.{is_page_path}
 use Rattle.tcl_host.specs.Leaf.{Leaf, wants, stores}
 use Rattle.natives.specs.Words.{arg}
 use Rattle.conn_host.specs.Conns.{ConnState, with_channels}
@@ -26,19 +25,6 @@ abbrev pub leaving : ConnState → ℕ → List ℕ → ConnState
 leaving host number bytes = with_channels host (with_left host.channels number bytes)
 
 -- ---- `open`
-
--- a path without the slash that it may begin with
-abbrev pub behind_slash : List ℕ → List ℕ
-behind_slash [] = []
-behind_slash (byte ∷ path) = if is_slash byte then path else byte ∷ path
-
--- a segment that no path of a page has: it is empty, `.` or `..`, or holds a backslash or byte 0
-abbrev pub is_bad_segment : List ℕ → Bool
-is_bad_segment segment = not (is_filled segment) || is_unsafe segment
-
--- the path of a page: none of its segments is such a one
-abbrev pub is_page_path : List ℕ → Bool
-is_page_path path = not (list_any is_bad_segment (slice_split is_slash (behind_slash path)))
 
 -- the second word is the path of a page
 abbrev pub page_path : List (List ℕ) → Checked (List ℕ)

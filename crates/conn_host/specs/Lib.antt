@@ -11,5 +11,5 @@ pub mod RequestCommands
 pub mod Responding
 pub mod TextCommands
 pub mod Leaf
--- What the program answers, in the words of the rules.
+-- What checks answer, in the words of the rules.
 pub mod Answers

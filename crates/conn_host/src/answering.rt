@@ -1,20 +1,18 @@
 //! The commands by their names.
 
-ghost use Rattle.conn_host.specs.Answers.{Comes};
+ghost use Rattle.tcl_host.specs.Outcomes.{Comes};
 ghost use Rattle.conn_host.specs.Leaf.{conn_call, conn_answer};
 
 use crate::channel::{close, eof, gets, open, page_answered, read};
 use crate::checks::word;
 use crate::encoding::{ns_httptime, ns_time, ns_urldecode, ns_urlencode};
 use crate::host::ConnHost;
-use crate::refusal::Refusal;
-use crate::reply::ended;
 use crate::requested::{ns_conn, ns_queryget};
 use crate::responding::{ns_return, ns_returnnotfound, ns_returnredirect};
 use crate::setting::ns_set;
 use crate::verb::{Verb, find_verb};
 use outside::Answer;
-use tcl_host::HostReply;
+use tcl_host::{HostReply, Refusal, ended};
 use txt_core::Words;
 
 /// Does a command.

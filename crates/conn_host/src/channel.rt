@@ -1,22 +1,18 @@
 //! The commands on channels.
 
 ghost use Rattle.std.specs.Prelude.{◌≡◌, ◌≢◌, [], None, Err, Ok, IfOk, IfErr, OnOk};
-ghost use Rattle.std.specs.List.{list_any};
-ghost use Rattle.http_req.specs.Targets.{is_unsafe_byte};
 ghost use Rattle.chan_core.specs.Chans.{channel, left_in, with_left};
-ghost use Rattle.conn_host.specs.Answers.{Comes, Ends};
-ghost use Rattle.conn_host.specs.ChannelCommands.{behind_slash, is_bad_segment, is_page_path, open_page, opens, line_length, page_answered, gets, read, eof, close};
+ghost use Rattle.tcl_host.specs.Outcomes.{Comes, EndsWith};
+ghost use Rattle.conn_host.specs.ChannelCommands.{open_page, opens, line_length, page_answered, gets, read, eof, close};
 
 use crate::checks::{count, require_count, require_fit, word};
 use crate::error::too_many_channels;
 use crate::host::ConnHost;
 use crate::id::{channel_at, channel_id};
-use crate::refusal::{Refusal, refuse};
-use crate::reply::done;
 use chan_core::{ChanFault, Chans};
 use natives::word_at;
 use outside::{Answer, Question, Service};
-use tcl_host::HostReply;
+use tcl_host::{HostReply, Refusal, done, is_page_path, refuse};
 use txt_core::{NoMemory, Text, Words, error_text, is_too_long, write_int};
 
 /// The length of the line where there is none.
@@ -33,44 +29,6 @@ fn kept<T>(came: Result<T, ChanFault>) -> Result<T, NoMemory>
         Ok(value) => Ok(value),
         Err(_) => Err(NoMemory),
     }
-}
-
-/// Whether a byte stands here that no segment of a path may hold.
-fn has_unsafe_byte(segment: &[u8]) -> bool
-    ensures { result ≡ list_any is_unsafe_byte segment.now }
-{
-    segment
-        .iter()
-        .any(|byte| *byte == b'/' || *byte == b'\\' || *byte == 0)
-}
-
-/// Whether no path of a page has this segment.
-fn is_bad_segment(segment: &[u8]) -> bool
-    ensures { result ≡ is_bad_segment segment.now }
-{
-    segment.is_empty()
-        || segment == b".".as_slice()
-        || segment == b"..".as_slice()
-        || has_unsafe_byte(segment)
-}
-
-/// A path without the slash that it may begin with.
-fn behind_slash(path: &[u8]) -> &[u8]
-    ensures { result.now ≡ behind_slash path.now }
-{
-    match path.split_first() {
-        Some((b'/', rest)) => rest,
-        _ => path,
-    }
-}
-
-/// Whether this is the path of a page.
-fn is_page_path(path: &[u8]) -> bool
-    ensures { result ≡ is_page_path path.now }
-{
-    !behind_slash(path)
-        .split(|byte| *byte == b'/')
-        .any(is_bad_segment)
 }
 
 /// `open PATH` asks for the page.
@@ -90,7 +48,7 @@ pub fn open(host: &mut ConnHost, words: &Words) -> Result<HostReply, Refusal>
 
 /// Opens a channel on a page, where one more may be.
 fn opens(host: &mut ConnHost, page: &Text) -> Result<Text, Refusal>
-    ensures { Ends result host.new (opens page.now host.old) }
+    ensures { EndsWith result host.new (opens page.now host.old) }
 {
     let alloc = host.alloc;
     match host.channels.open(page.copy(alloc)?) {
@@ -102,7 +60,7 @@ fn opens(host: &mut ConnHost, page: &Text) -> Result<Text, Refusal>
 
 /// Goes on with an `open` whose page was asked for.
 pub fn page_answered(host: &mut ConnHost, words: &Words, answer: &Answer) -> Result<Text, Refusal>
-    ensures { Ends result host.new (page_answered words.now answer.now host.old) }
+    ensures { EndsWith result host.new (page_answered words.now answer.now host.old) }
 {
     let alloc = host.alloc;
     let path = word(words, 1);
@@ -163,7 +121,7 @@ fn read_all(channels: &mut Chans, number: u64) -> Result<Text, NoMemory>
 
 /// `read ID ?N?` takes the bytes that are left, at most so many.
 pub fn read(host: &mut ConnHost, words: &Words) -> Result<Text, Refusal>
-    ensures { Ends result host.new (read words.now host.old) }
+    ensures { EndsWith result host.new (read words.now host.old) }
 {
     let alloc = host.alloc;
     require_count(alloc, 2, 3, words)?;
@@ -177,7 +135,7 @@ pub fn read(host: &mut ConnHost, words: &Words) -> Result<Text, Refusal>
 
 /// `eof ID` tells whether no byte is left.
 pub fn eof(host: &mut ConnHost, words: &Words) -> Result<Text, Refusal>
-    ensures { Ends result host.new (eof words.now host.old) }
+    ensures { EndsWith result host.new (eof words.now host.old) }
 {
     let alloc = host.alloc;
     require_count(alloc, 2, 2, words)?;
@@ -188,7 +146,7 @@ pub fn eof(host: &mut ConnHost, words: &Words) -> Result<Text, Refusal>
 
 /// `close ID` closes the channel.
 pub fn close(host: &mut ConnHost, words: &Words) -> Result<Text, Refusal>
-    ensures { Ends result host.new (close words.now host.old) }
+    ensures { EndsWith result host.new (close words.now host.old) }
 {
     let alloc = host.alloc;
     require_count(alloc, 2, 2, words)?;

@@ -6,8 +6,8 @@ ghost use Rattle.natives.specs.Words.{arg};
 ghost use Rattle.conn_host.specs.Answers.{Finds, Passes, Refuses};
 ghost use Rattle.conn_host.specs.Checks.{integer, count, unfit};
 
-use crate::refusal::{Refusal, refuse};
 use std::alloc::Global;
+use tcl_host::{Refusal, refuse};
 use txt_core::{NoMemory, Text, Words, error_text, read_int_bytes};
 
 /// The word at a place; the empty text where there is none.

@@ -1,16 +1,17 @@
 //! The commands on texts of URLs and on moments.
 
 ghost use Rattle.std.specs.Prelude.{◌≡◌, map, IfOk};
-ghost use Rattle.conn_host.specs.Answers.{Ends, Finds};
+ghost use Rattle.tcl_host.specs.Outcomes.{EndsWith};
+ghost use Rattle.conn_host.specs.Answers.{Finds};
 ghost use Rattle.conn_host.specs.TextCommands.{encoded, moment, ns_urlencode, ns_urldecode, ns_time, ns_httptime};
 ghost use Rattle.form_urlencoded.specs.Form.{decode, plus_to_space};
 
 use crate::checks::{count, require_count, require_fit, word};
 use crate::host::ConnHost;
-use crate::refusal::Refusal;
 use http_resp::fixdate;
 use percent_encoding::{AsciiSet, NON_ALPHANUMERIC, ascii_set, percent_decode, percent_encode};
 use std::alloc::Global;
+use tcl_host::Refusal;
 use txt_core::{LAST_MOMENT, NoMemory, Text, Words, write_natural};
 
 /// The bytes that are escaped: all but letters, digits and `-_.~`.
@@ -55,7 +56,7 @@ fn decoded(alloc: Global, bytes: &[u8]) -> Result<Text, NoMemory>
 /// `ns_urlencode TEXT`.
 #[tactic(auto, using(crate::proofs::Exits::exits))]
 pub fn ns_urlencode(host: &mut ConnHost, words: &Words) -> Result<Text, Refusal>
-    ensures { Ends result host.new (ns_urlencode words.now host.old) }
+    ensures { EndsWith result host.new (ns_urlencode words.now host.old) }
 {
     require_count(host.alloc, 2, 2, words)?;
     Ok(encoded(host.alloc, word(words, 1))?)
@@ -64,7 +65,7 @@ pub fn ns_urlencode(host: &mut ConnHost, words: &Words) -> Result<Text, Refusal>
 /// `ns_urldecode TEXT`.
 #[tactic(auto, using(crate::proofs::Exits::exits))]
 pub fn ns_urldecode(host: &mut ConnHost, words: &Words) -> Result<Text, Refusal>
-    ensures { Ends result host.new (ns_urldecode words.now host.old) }
+    ensures { EndsWith result host.new (ns_urldecode words.now host.old) }
 {
     require_count(host.alloc, 2, 2, words)?;
     Ok(decoded(host.alloc, word(words, 1))?)
@@ -73,7 +74,7 @@ pub fn ns_urldecode(host: &mut ConnHost, words: &Words) -> Result<Text, Refusal>
 /// `ns_time` gives the moment of the run.
 #[tactic(auto, using(crate::proofs::Exits::exits))]
 pub fn ns_time(host: &mut ConnHost, words: &Words) -> Result<Text, Refusal>
-    ensures { Ends result host.new (ns_time words.now host.old) }
+    ensures { EndsWith result host.new (ns_time words.now host.old) }
 {
     require_count(host.alloc, 1, 1, words)?;
     Ok(write_natural(host.alloc, host.moment)?)
@@ -92,7 +93,7 @@ fn moment(alloc: Global, words: &Words) -> Result<u64, Refusal>
 /// `ns_httptime MOMENT` gives the moment as a date of HTTP.
 #[tactic(auto, using(crate::proofs::Exits::exits))]
 pub fn ns_httptime(host: &mut ConnHost, words: &Words) -> Result<Text, Refusal>
-    ensures { Ends result host.new (ns_httptime words.now host.old) }
+    ensures { EndsWith result host.new (ns_httptime words.now host.old) }
 {
     require_count(host.alloc, 2, 2, words)?;
     let moment = moment(host.alloc, words)?;

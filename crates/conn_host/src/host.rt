@@ -6,7 +6,6 @@ ghost use Rattle.conn_host.specs.Conns.{unnamed};
 
 use crate::answering::{answer, dispatch};
 use crate::form::form_of;
-use crate::reply::reply_of;
 use chan_core::Chans;
 use http_req::Request;
 use http_resp::Response;
@@ -14,7 +13,7 @@ use ns_sets::{SetFault, Sets};
 use outside::Answer;
 use std::alloc::Global;
 use std::marker::Model;
-use tcl_host::HostReply;
+use tcl_host::{HostReply, reply_of};
 use txt_core::{NoMemory, Pairs, Text, Words};
 
 /// The set of the request's fields.

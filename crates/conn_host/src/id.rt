@@ -10,8 +10,8 @@ ghost use Rattle.conn_host.specs.Ids.{id_of, set_id, channel_id, written_so, num
 use crate::checks::word;
 use crate::error::{no_channel, no_set};
 use crate::host::ConnHost;
-use crate::refusal::{Refusal, refuse};
 use std::alloc::Global;
+use tcl_host::{Refusal, refuse};
 use txt_core::{NoMemory, Text, Words, read_int_bytes, write_int, write_natural};
 
 const SET: u8 = b's';

@@ -12,8 +12,6 @@ mod error;
 mod form;
 mod host;
 mod id;
-mod refusal;
-mod reply;
 mod requested;
 mod responding;
 mod set_field;

@@ -4,7 +4,8 @@ ghost use Rattle.std.specs.Prelude.{◌≡◌, ◌<◌, ◌++◌, ℕ, List, IfO
 ghost use Rattle.txt_core.specs.ErrorTexts.{no_connection};
 ghost use Rattle.ns_sets.specs.Fields.{ignoring_case, holds};
 ghost use Rattle.ns_sets.specs.Sets.{fields_of};
-ghost use Rattle.conn_host.specs.Answers.{Ends, Finds};
+ghost use Rattle.tcl_host.specs.Outcomes.{EndsWith};
+ghost use Rattle.conn_host.specs.Answers.{Finds};
 ghost use Rattle.conn_host.specs.Conns.{form_set};
 ghost use Rattle.conn_host.specs.RequestCommands.{path_of, version_of, request_line, not_long, content, tells, ns_conn, query_value, ns_queryget};
 
@@ -13,11 +14,11 @@ use crate::checks::{count, require_count, require_words, unknown_subcommand, wor
 use crate::conn_verb::{ConnVerb, find_conn_verb};
 use crate::host::{ConnHost, FORM_SET, HEADERS_SET, OUTPUT_SET, kept};
 use crate::id::set_id;
-use crate::refusal::{Refusal, refuse};
 use crate::responding::require_connection;
 use http_req::Request;
 use natives::word_at;
 use std::alloc::Global;
+use tcl_host::{Refusal, refuse};
 use tcl_list::quote;
 use txt_core::{NoMemory, Text, Words, error_text, is_over_limit, write_natural};
 
@@ -124,7 +125,7 @@ fn tells(alloc: Global, verb: ConnVerb, words: &Words, request: &Request) -> Res
 /// `ns_conn SUBCOMMAND`, and `ns_conn content ?FIRST COUNT?`.
 #[tactic(auto, using(crate::proofs::Exits::exits))]
 pub fn ns_conn(host: &mut ConnHost, words: &Words) -> Result<Text, Refusal>
-    ensures { Ends result host.new (ns_conn words.now host.old) }
+    ensures { EndsWith result host.new (ns_conn words.now host.old) }
 {
     let alloc = host.alloc;
     require_count(alloc, 2, 4, words)?;
@@ -166,7 +167,7 @@ fn query_value(host: &ConnHost, words: &Words) -> Result<Text, NoMemory>
 /// `ns_queryget KEY ?DEFAULT?`.
 #[tactic(auto, using(crate::proofs::Exits::exits))]
 pub fn ns_queryget(host: &mut ConnHost, words: &Words) -> Result<Text, Refusal>
-    ensures { Ends result host.new (ns_queryget words.now host.old) }
+    ensures { EndsWith result host.new (ns_queryget words.now host.old) }
 {
     require_count(host.alloc, 2, 3, words)?;
     require_connection(host)?;

@@ -4,15 +4,16 @@ ghost use Rattle.std.specs.Prelude.{◌≡◌, ◌∷◌, IfOk, codes, is_some};
 ghost use Rattle.std.specs.List.{list_all, list_any};
 ghost use Rattle.txt_core.specs.ErrorTexts.{no_connection};
 ghost use Rattle.natives.specs.Words.{arg};
-ghost use Rattle.conn_host.specs.Answers.{Ends, Finds, Passes};
+ghost use Rattle.tcl_host.specs.Outcomes.{EndsWith};
+ghost use Rattle.conn_host.specs.Answers.{Finds, Passes};
 ghost use Rattle.conn_host.specs.Conns.{output_fields};
 ghost use Rattle.conn_host.specs.Responding.{is_control, is_shown, is_kind, is_url, status, typed, redirection, not_found, respond, ns_return, ns_returnredirect, ns_returnnotfound};
 
 use crate::checks::{integer, require_count, require_fit, word};
 use crate::host::ConnHost;
-use crate::refusal::{Refusal, refuse};
 use http_resp::{Response, plain};
 use std::alloc::Global;
+use tcl_host::{Refusal, refuse};
 use txt_core::{NoMemory, Pairs, Text, Words, error_text};
 
 /// The statuses of responses.
@@ -90,7 +91,7 @@ pub fn require_connection(host: &ConnHost) -> Result<(), Refusal>
 /// Gives a response, where none was given.
 #[tactic(auto, using(crate::proofs::Exits::exits))]
 fn respond(host: &mut ConnHost, response: Response) -> Result<Text, Refusal>
-    ensures { Ends result host.new (respond response host.old) }
+    ensures { EndsWith result host.new (respond response host.old) }
 {
     if host.response.is_some() {
         return Err(refuse(error_text::response_given(host.alloc)));
@@ -114,7 +115,7 @@ fn typed(host: &ConnHost, status: u16, words: &Words) -> Result<Response, NoMemo
 /// `ns_return STATUS TYPE TEXT`.
 #[tactic(auto, using(crate::proofs::Exits::exits))]
 pub fn ns_return(host: &mut ConnHost, words: &Words) -> Result<Text, Refusal>
-    ensures { Ends result host.new (ns_return words.now host.old) }
+    ensures { EndsWith result host.new (ns_return words.now host.old) }
 {
     let alloc = host.alloc;
     require_count(alloc, 4, 4, words)?;
@@ -150,7 +151,7 @@ fn redirection(host: &ConnHost, url: &[u8]) -> Result<Response, NoMemory>
 /// `ns_returnredirect URL`.
 #[tactic(auto, using(crate::proofs::Exits::exits))]
 pub fn ns_returnredirect(host: &mut ConnHost, words: &Words) -> Result<Text, Refusal>
-    ensures { Ends result host.new (ns_returnredirect words.now host.old) }
+    ensures { EndsWith result host.new (ns_returnredirect words.now host.old) }
 {
     let alloc = host.alloc;
     require_count(alloc, 2, 2, words)?;
@@ -173,7 +174,7 @@ fn not_found(host: &ConnHost) -> Result<Response, NoMemory>
 /// `ns_returnnotfound`.
 #[tactic(auto, using(crate::proofs::Exits::exits))]
 pub fn ns_returnnotfound(host: &mut ConnHost, words: &Words) -> Result<Text, Refusal>
-    ensures { Ends result host.new (ns_returnnotfound words.now host.old) }
+    ensures { EndsWith result host.new (ns_returnnotfound words.now host.old) }
 {
     require_count(host.alloc, 1, 1, words)?;
     require_connection(host)?;

@@ -2,14 +2,15 @@
 
 ghost use Rattle.std.specs.Prelude.{◌≢◌, ◌<◌, None, IfOk, length};
 ghost use Rattle.ns_sets.specs.Sets.{set_of, fields_of};
-ghost use Rattle.conn_host.specs.Answers.{Ends, Finds};
+ghost use Rattle.tcl_host.specs.Outcomes.{EndsWith};
+ghost use Rattle.conn_host.specs.Answers.{Finds};
 ghost use Rattle.conn_host.specs.SetCommands.{on_set, field_at, set_delete, set_key, set_value};
 
 use crate::checks::{integer, word};
 use crate::error::no_field;
 use crate::host::{ConnHost, kept};
 use crate::id::set_at;
-use crate::refusal::{Refusal, refuse};
+use tcl_host::{Refusal, refuse};
 use txt_core::{Text, Words};
 
 /// The place of a field of the set of this number that the fourth word is.
@@ -28,7 +29,7 @@ fn field_at(host: &ConnHost, words: &Words, set: u64) -> Result<u64, Refusal>
 
 /// `delete ID PLACE`.
 pub fn set_delete(host: &mut ConnHost, words: &Words) -> Result<Text, Refusal>
-    ensures { Ends result host.new (on_set words.now (set_delete words.now) host.old) }
+    ensures { EndsWith result host.new (on_set words.now (set_delete words.now) host.old) }
 {
     let set = set_at(host, words, 2)?;
     let place = field_at(host, words, set)?;
@@ -38,7 +39,7 @@ pub fn set_delete(host: &mut ConnHost, words: &Words) -> Result<Text, Refusal>
 
 /// `key ID PLACE`.
 pub fn set_key(host: &mut ConnHost, words: &Words) -> Result<Text, Refusal>
-    ensures { Ends result host.new (on_set words.now (set_key words.now) host.old) }
+    ensures { EndsWith result host.new (on_set words.now (set_key words.now) host.old) }
 {
     let set = set_at(host, words, 2)?;
     let place = field_at(host, words, set)?;
@@ -47,7 +48,7 @@ pub fn set_key(host: &mut ConnHost, words: &Words) -> Result<Text, Refusal>
 
 /// `value ID PLACE`.
 pub fn set_value(host: &mut ConnHost, words: &Words) -> Result<Text, Refusal>
-    ensures { Ends result host.new (on_set words.now (set_value words.now) host.old) }
+    ensures { EndsWith result host.new (on_set words.now (set_value words.now) host.old) }
 {
     let set = set_at(host, words, 2)?;
     let place = field_at(host, words, set)?;

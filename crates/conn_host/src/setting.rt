@@ -2,21 +2,21 @@
 
 ghost use Rattle.std.specs.Prelude.{◌≡◌, length, true};
 ghost use Rattle.ns_sets.specs.Fields.{exact, ignoring_case};
-ghost use Rattle.conn_host.specs.Answers.{Ends};
+ghost use Rattle.tcl_host.specs.Outcomes.{EndsWith};
 ghost use Rattle.conn_host.specs.SetCommands.{on_set, set_takes, set_create, set_put, set_get, set_find, set_cput, set_update, set_delkey, set_truncate, set_merge, set_copy, set_free, set_size, set_name, does_set, ns_set};
 
 use crate::checks::{count, require_count, require_words, unknown_subcommand, word};
 use crate::host::{ConnHost, kept};
 use crate::id::{set_at, set_id};
-use crate::refusal::Refusal;
 use crate::set_field::{set_delete, set_key, set_value};
 use crate::set_verb::{SetVerb, find_set_verb};
 use natives::word_at;
+use tcl_host::Refusal;
 use txt_core::{Text, Words, write_int, write_natural};
 
 /// `create ?NAME?`.
 fn set_create(host: &mut ConnHost, words: &Words) -> Result<Text, Refusal>
-    ensures { Ends result host.new (set_create words.now host.old) }
+    ensures { EndsWith result host.new (set_create words.now host.old) }
 {
     let name = Text::new(host.alloc, word(words, 2))?;
     let set = host.sets.create(name)?;
@@ -26,7 +26,7 @@ fn set_create(host: &mut ConnHost, words: &Words) -> Result<Text, Refusal>
 /// `put ID KEY VALUE`.
 fn set_put(host: &mut ConnHost, words: &Words) -> Result<Text, Refusal>
     requires { length words.now ≡ 5 }
-    ensures { Ends result host.new (on_set words.now (set_put words.now) host.old) }
+    ensures { EndsWith result host.new (on_set words.now (set_put words.now) host.old) }
 {
     let set = set_at(host, words, 2)?;
     let place = kept(host.sets.put(set, word_at(words, 3), word_at(words, 4)))?;
@@ -36,7 +36,7 @@ fn set_put(host: &mut ConnHost, words: &Words) -> Result<Text, Refusal>
 /// `cput ID KEY VALUE`.
 fn set_cput(host: &mut ConnHost, words: &Words) -> Result<Text, Refusal>
     requires { length words.now ≡ 5 }
-    ensures { Ends result host.new (on_set words.now (set_cput exact words.now) host.old) }
+    ensures { EndsWith result host.new (on_set words.now (set_cput exact words.now) host.old) }
 {
     let set = set_at(host, words, 2)?;
     let place = kept(host.sets.cput(set, word_at(words, 3), word_at(words, 4)))?;
@@ -46,7 +46,7 @@ fn set_cput(host: &mut ConnHost, words: &Words) -> Result<Text, Refusal>
 /// `icput ID KEY VALUE`.
 fn set_icput(host: &mut ConnHost, words: &Words) -> Result<Text, Refusal>
     requires { length words.now ≡ 5 }
-    ensures { Ends result host.new (on_set words.now (set_cput ignoring_case words.now) host.old) }
+    ensures { EndsWith result host.new (on_set words.now (set_cput ignoring_case words.now) host.old) }
 {
     let set = set_at(host, words, 2)?;
     let place = kept(host.sets.icput(set, word_at(words, 3), word_at(words, 4)))?;
@@ -56,7 +56,7 @@ fn set_icput(host: &mut ConnHost, words: &Words) -> Result<Text, Refusal>
 /// `update ID KEY VALUE`.
 fn set_update(host: &mut ConnHost, words: &Words) -> Result<Text, Refusal>
     requires { length words.now ≡ 5 }
-    ensures { Ends result host.new (on_set words.now (set_update words.now) host.old) }
+    ensures { EndsWith result host.new (on_set words.now (set_update words.now) host.old) }
 {
     let set = set_at(host, words, 2)?;
     let place = kept(host.sets.update(set, word_at(words, 3), word_at(words, 4)))?;
@@ -66,7 +66,7 @@ fn set_update(host: &mut ConnHost, words: &Words) -> Result<Text, Refusal>
 /// `get ID KEY`.
 fn set_get(host: &mut ConnHost, words: &Words) -> Result<Text, Refusal>
     requires { length words.now ≡ 4 }
-    ensures { Ends result host.new (on_set words.now (set_get exact words.now) host.old) }
+    ensures { EndsWith result host.new (on_set words.now (set_get exact words.now) host.old) }
 {
     let set = set_at(host, words, 2)?;
     Ok(kept(host.sets.get(set, word_at(words, 3)))?)
@@ -75,7 +75,7 @@ fn set_get(host: &mut ConnHost, words: &Words) -> Result<Text, Refusal>
 /// `iget ID KEY`.
 fn set_iget(host: &mut ConnHost, words: &Words) -> Result<Text, Refusal>
     requires { length words.now ≡ 4 }
-    ensures { Ends result host.new (on_set words.now (set_get ignoring_case words.now) host.old) }
+    ensures { EndsWith result host.new (on_set words.now (set_get ignoring_case words.now) host.old) }
 {
     let set = set_at(host, words, 2)?;
     Ok(kept(host.sets.iget(set, word_at(words, 3)))?)
@@ -84,7 +84,7 @@ fn set_iget(host: &mut ConnHost, words: &Words) -> Result<Text, Refusal>
 /// `find ID KEY`.
 fn set_find(host: &mut ConnHost, words: &Words) -> Result<Text, Refusal>
     requires { length words.now ≡ 4 }
-    ensures { Ends result host.new (on_set words.now (set_find exact words.now) host.old) }
+    ensures { EndsWith result host.new (on_set words.now (set_find exact words.now) host.old) }
 {
     let set = set_at(host, words, 2)?;
     let place = kept(host.sets.find(set, word_at(words, 3)))?;
@@ -94,7 +94,7 @@ fn set_find(host: &mut ConnHost, words: &Words) -> Result<Text, Refusal>
 /// `ifind ID KEY`.
 fn set_ifind(host: &mut ConnHost, words: &Words) -> Result<Text, Refusal>
     requires { length words.now ≡ 4 }
-    ensures { Ends result host.new (on_set words.now (set_find ignoring_case words.now) host.old) }
+    ensures { EndsWith result host.new (on_set words.now (set_find ignoring_case words.now) host.old) }
 {
     let set = set_at(host, words, 2)?;
     let place = kept(host.sets.ifind(set, word_at(words, 3)))?;
@@ -104,7 +104,7 @@ fn set_ifind(host: &mut ConnHost, words: &Words) -> Result<Text, Refusal>
 /// `delkey ID KEY`.
 fn set_delkey(host: &mut ConnHost, words: &Words) -> Result<Text, Refusal>
     requires { length words.now ≡ 4 }
-    ensures { Ends result host.new (on_set words.now (set_delkey exact words.now) host.old) }
+    ensures { EndsWith result host.new (on_set words.now (set_delkey exact words.now) host.old) }
 {
     let set = set_at(host, words, 2)?;
     kept(host.sets.delkey(set, word_at(words, 3)))?;
@@ -114,7 +114,7 @@ fn set_delkey(host: &mut ConnHost, words: &Words) -> Result<Text, Refusal>
 /// `idelkey ID KEY`.
 fn set_idelkey(host: &mut ConnHost, words: &Words) -> Result<Text, Refusal>
     requires { length words.now ≡ 4 }
-    ensures { Ends result host.new (on_set words.now (set_delkey ignoring_case words.now) host.old) }
+    ensures { EndsWith result host.new (on_set words.now (set_delkey ignoring_case words.now) host.old) }
 {
     let set = set_at(host, words, 2)?;
     kept(host.sets.idelkey(set, word_at(words, 3)))?;
@@ -124,7 +124,7 @@ fn set_idelkey(host: &mut ConnHost, words: &Words) -> Result<Text, Refusal>
 /// `truncate ID N`.
 fn set_truncate(host: &mut ConnHost, words: &Words) -> Result<Text, Refusal>
     requires { length words.now ≡ 4 }
-    ensures { Ends result host.new (on_set words.now (set_truncate words.now) host.old) }
+    ensures { EndsWith result host.new (on_set words.now (set_truncate words.now) host.old) }
 {
     let set = set_at(host, words, 2)?;
     let most = count(host.alloc, words, 3)?;
@@ -135,7 +135,7 @@ fn set_truncate(host: &mut ConnHost, words: &Words) -> Result<Text, Refusal>
 /// `merge HIGH LOW`.
 fn set_merge(host: &mut ConnHost, words: &Words) -> Result<Text, Refusal>
     requires { length words.now ≡ 4 }
-    ensures { Ends result host.new (on_set words.now (set_merge words.now) host.old) }
+    ensures { EndsWith result host.new (on_set words.now (set_merge words.now) host.old) }
 {
     let set = set_at(host, words, 2)?;
     let low = set_at(host, words, 3)?;
@@ -145,7 +145,7 @@ fn set_merge(host: &mut ConnHost, words: &Words) -> Result<Text, Refusal>
 
 /// `copy ID`.
 fn set_copy(host: &mut ConnHost, words: &Words) -> Result<Text, Refusal>
-    ensures { Ends result host.new (on_set words.now set_copy host.old) }
+    ensures { EndsWith result host.new (on_set words.now set_copy host.old) }
 {
     let set = set_at(host, words, 2)?;
     let copy = kept(host.sets.copy(set))?;
@@ -154,7 +154,7 @@ fn set_copy(host: &mut ConnHost, words: &Words) -> Result<Text, Refusal>
 
 /// `free ID`.
 fn set_free(host: &mut ConnHost, words: &Words) -> Result<Text, Refusal>
-    ensures { Ends result host.new (on_set words.now set_free host.old) }
+    ensures { EndsWith result host.new (on_set words.now set_free host.old) }
 {
     let set = set_at(host, words, 2)?;
     kept(host.sets.free(set))?;
@@ -163,7 +163,7 @@ fn set_free(host: &mut ConnHost, words: &Words) -> Result<Text, Refusal>
 
 /// `size ID`.
 fn set_size(host: &mut ConnHost, words: &Words) -> Result<Text, Refusal>
-    ensures { Ends result host.new (on_set words.now set_size host.old) }
+    ensures { EndsWith result host.new (on_set words.now set_size host.old) }
 {
     let set = set_at(host, words, 2)?;
     let size = kept(host.sets.size(set))?;
@@ -172,7 +172,7 @@ fn set_size(host: &mut ConnHost, words: &Words) -> Result<Text, Refusal>
 
 /// `name ID`.
 fn set_name(host: &mut ConnHost, words: &Words) -> Result<Text, Refusal>
-    ensures { Ends result host.new (on_set words.now set_name host.old) }
+    ensures { EndsWith result host.new (on_set words.now set_name host.old) }
 {
     let set = set_at(host, words, 2)?;
     Ok(kept(host.sets.name(set))?)
@@ -181,7 +181,7 @@ fn set_name(host: &mut ConnHost, words: &Words) -> Result<Text, Refusal>
 /// Does a subcommand that has its number of words.
 fn do_set(host: &mut ConnHost, verb: SetVerb, words: &Words) -> Result<Text, Refusal>
     requires { set_takes verb (length words.now) ≡ true }
-    ensures { Ends result host.new (does_set verb words.now host.old) }
+    ensures { EndsWith result host.new (does_set verb words.now host.old) }
 {
     match verb {
         SetVerb::Create => set_create(host, words),
@@ -209,7 +209,7 @@ fn do_set(host: &mut ConnHost, verb: SetVerb, words: &Words) -> Result<Text, Ref
 
 /// `ns_set SUBCOMMAND ..`.
 pub fn ns_set(host: &mut ConnHost, words: &Words) -> Result<Text, Refusal>
-    ensures { Ends result host.new (ns_set words.now host.old) }
+    ensures { EndsWith result host.new (ns_set words.now host.old) }
 {
     require_count(host.alloc, 2, 5, words)?;
     let Some(verb) = find_set_verb(word(words, 1)) else {

@@ -1,4 +1,7 @@
 -- What a reader believes.
 pub mod Codes
+pub mod PagePaths
 pub mod Leaf
+-- What the program answers, in the words of the rules.
 pub mod Answers
+pub mod Outcomes

@@ -2,9 +2,8 @@ use Rattle.std.proofs.Common.{◌≡◌, List, ℕ, not, ap, ◌∙◌, rules, t
 use Rattle.std.proofs.lemmas.Iterator.Search.{any_from_yields_List}
 use Rattle.std.proofs.lemmas.Iterator.Splits.{YieldsList-from_slice_split}
 use Rattle.std.specs.List.{list_any, slice_split}
-use Rattle.http_req.specs.Targets.{is_slash}
-use Rattle.conn_host.specs.ChannelCommands.{is_bad_segment}
-use Rattle.conn_host.proofs.channel.is_page_path.Goals as goal
+use Rattle.tcl_host.specs.PagePaths.{is_slash, is_bad_segment}
+use Rattle.tcl_host.proofs.paths.is_page_path.Goals as goal
 
 pub returns : goal.returns
 returns c =

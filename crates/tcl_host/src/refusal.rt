@@ -1,7 +1,7 @@
 //! Why a command ends without a result.
 
 ghost use Rattle.std.specs.Prelude.{◌≡◌, MatchResult};
-ghost use Rattle.adp_host.specs.declared.refusal.Refusal.TheVariants as why;
+ghost use Rattle.tcl_host.specs.declared.refusal.Refusal.TheVariants as why;
 
 use txt_core::{NoMemory, Text};
 
@@ -16,7 +16,7 @@ pub enum Refusal {
 
 impl From<NoMemory> for Refusal {
     ghost use Rattle.std.specs.Prelude.{◌≡◌};
-    ghost use Rattle.adp_host.specs.declared.refusal.Refusal.TheVariants as why;
+    ghost use Rattle.tcl_host.specs.declared.refusal.Refusal.TheVariants as why;
 
     ghost from_gives = { λ _ refusal. refusal ≡ why.NoMemory };
 

@@ -1,0 +1,40 @@
+-- What commands come to, in the words of the rules: a reply or an end, or a refusal. Want of memory says nothing.
+use Rattle.std.specs.Prelude.{◌≡◌, ℕ, List, [], Result, Ok, Err, ⊤}
+use Rattle.tcl_host.specs.Leaf.{Leaf, says, Onward, goes, TextEnd}
+use Rattle.tcl_host.specs.Answers.{Replies, RepliesTo}
+use Rattle.tcl_host.specs.declared.host.HostReply.{HostReply}
+use Rattle.tcl_host.specs.declared.host.HostReply.TheVariants as replies
+use Rattle.tcl_host.specs.declared.refusal.Refusal.{Refusal}
+use Rattle.tcl_host.specs.declared.refusal.Refusal.TheVariants.{Error, NoMemory}
+
+-- the reply to what is refused: an error with the refusal's text, or that memory ran out
+abbrev pub refused : Refusal → HostReply
+refused (Error message) = replies.Done 1 message
+refused NoMemory = replies.NoMemory
+
+-- a command ends with an error, with the host's state after it
+abbrev pub FailsWith : {H : Type 0} → Refusal → H → Leaf H → Type 0
+FailsWith (Error message) host leaf = leaf ≡ says 1 message host
+FailsWith NoMemory host leaf = Unit {0}
+
+-- what a command came to: a reply, or an error
+abbrev pub Comes : {H : Type 0} → Result HostReply Refusal → H → Leaf H → Type 0
+Comes (Ok reply) host leaf = Replies reply host leaf
+Comes (Err refusal) host leaf = FailsWith refusal host leaf
+
+-- the same of a command that never does more than to end with a result
+abbrev pub EndsWith : {H : Type 0} → Result (List ℕ) Refusal → H → Leaf H → Type 0
+EndsWith (Ok result) host leaf = leaf ≡ says 0 result host
+EndsWith (Err refusal) host leaf = FailsWith refusal host leaf
+
+-- the same of an answer
+abbrev pub ComesTo : {H : Type 0} → Result HostReply Refusal → H → Onward H → Type 0
+ComesTo (Ok reply) host onward = RepliesTo reply host onward
+ComesTo (Err (Error message)) host onward = onward ≡ goes (says 1 message host)
+ComesTo (Err NoMemory) host onward = Unit {0}
+
+-- the same of a text of a page, which ends with no result
+abbrev pub PutsOut : {H : Type 0} → Result ⊤ Refusal → H → TextEnd H → Type 0
+PutsOut (Ok done) host end = end ≡ record { code = 0; result = []; host = host }
+PutsOut (Err (Error message)) host end = end ≡ record { code = 1; result = message; host = host }
+PutsOut (Err NoMemory) host end = Unit {0}
