@@ -12,6 +12,8 @@ mod on_variables;
 #[cfg(test)]
 mod sets;
 #[cfg(test)]
+mod slots;
+#[cfg(test)]
 mod stored;
 #[cfg(test)]
 mod tables;

@@ -1,12 +1,12 @@
 use natives::{Fault, Native};
-use std::alloc::Global;
+use std::alloc::{AllocGlobal, Global};
 use std::process::Abort;
 use std::test::Fail;
 use tcl_listcmd::{
     concat_command, lindex_command, linsert_command, list_command, llength_command, lrange_command,
     lreplace_command, lsearch_command, lsort_command,
 };
-use txt_core::{Text, Words};
+use txt_core::{NoMemory, Text, Words};
 
 /// The texts that each end at a bar.
 fn words_of(alloc: Global, ended: &[u8]) -> Result<Words, Fail> {
@@ -23,10 +23,21 @@ fn words_of(alloc: Global, ended: &[u8]) -> Result<Words, Fail> {
     Ok(words)
 }
 
-/// What the native at a place answers, its error's text too, or `none` where there is none or the
-/// words are out of its range.
-fn came(alloc: Global, natives: &[Native], at: usize, words: &Words) -> Result<Text, Fail> {
-    let Some(native) = natives.get(at) else {
+/// The native of the name that is the first word.
+fn find<'a>(natives: &'a [Native], words: &Words) -> Option<&'a Native> {
+    let name = words.get(0)?;
+    for native in natives {
+        if native.name().bytes() == name.bytes() {
+            return Some(native);
+        }
+    }
+    None
+}
+
+/// What the native of the name that is the first word answers, its error's text too, or `none` where there
+/// is none or the words are out of its range.
+fn came(alloc: Global, natives: &[Native], words: &Words) -> Result<Text, Fail> {
+    let Some(native) = find(natives, words) else {
         return Ok(Text::new(alloc, b"none")?);
     };
     let (least, most) = (native.least() as usize, native.most() as usize);
@@ -37,6 +48,80 @@ fn came(alloc: Global, natives: &[Native], at: usize, words: &Words) -> Result<T
         Ok(text) | Err(Fault::Error(text)) => Ok(text),
         Err(Fault::NoMemory) => Err(Fail::new("out of memory")),
     }
+}
+
+/// Words that each end at a bar, and what they come to.
+const ROWS: &str = r#"list|a||b c|d{| => a {} {b c} d\{
+list| => `
+lindex|a {b c} d|1| => b c
+lindex|a b c|end-1| => b
+lindex|a b c|3| => `
+lindex|a b c|-1| => `
+lindex|a {b|x| => bad list at 2
+lindex|a b|x| => bad value "x" for "lindex"
+lindex|a| => none
+llength|a {b c} d| => 3
+llength|{| => bad list at 0
+lrange|a b c d|1|end-1| => b c
+lrange|a b c d|-5|99| => a b c d
+lrange|a b c d|2|1| => `
+lrange|a b|y|x| => bad value "y" for "lrange"
+linsert|a b|end|c| => a b c
+linsert|a b|0|c|d| => c d a b
+linsert|a b|end-1|c| => a c b
+lreplace|a b c|end|end|x|y| => a b x y
+lreplace|a b c|0|1| => c
+lreplace|a b c|1|0|x| => a x b c
+lreplace|a b c|9|9|x| => a b c x
+lsearch|a bc d|b*| => 1
+lsearch|-exact|a b* d|b*| => 1
+lsearch|-exact|a bc d|b*| => -1
+lsearch|-glob|a bc d|?| => 0
+lsearch|-exact|x| => -1
+lsearch|-exact|-exact|-exact| => 0
+lsearch|-all|a|b| => bad value "-all" for "lsearch"
+lsort|-integer|-decreasing|3 10 2| => 10 3 2
+lsort|3 10 2| => 10 2 3
+lsort|-integer|3 10 0x3 2| => 2 3 0x3 10
+lsort|-integer|-decreasing|2 3 0x3 10| => 10 3 0x3 2
+lsort|-integer|-ascii|-decreasing|-increasing|b x a| => a b x
+lsort|-integer|3 x y| => expected integer but got "x"
+lsort|-integer| => -integer
+lsort|-integer|-ascii| => expected integer but got "-ascii"
+lsort|x|a b| => bad value "x" for "lsort"
+concat| a b~||c|  | => a b c
+concat| => `"#;
+
+/// The bytes that a part of a line writes: `~` is a newline, `^` a space, `_` a tab, `@` a carriage return
+/// and a backquote nothing.
+fn meant(alloc: Global, part: &str) -> Result<Text, NoMemory> {
+    let mut text = Text::empty(alloc);
+    for byte in part.as_bytes() {
+        match *byte {
+            b'~' => text.append(b"\n")?,
+            b'^' => text.append(b" ")?,
+            b'_' => text.append(b"\t")?,
+            b'@' => text.append(b"\r")?,
+            b'`' => {}
+            other => text.append(&[other])?,
+        }
+    }
+    Ok(text)
+}
+
+/// Calls the natives on the words of each row.
+fn check_rows<R: Abort + AllocGlobal>(rt: &R, natives: &[Native]) -> Result<(), Fail> {
+    let mut count = 0u64;
+    for line in ROWS.lines() {
+        let (words, want) = line.split_once(" => ").ok_or("a line has an arrow")?;
+        let words = words_of(rt.alloc(), meant(rt.alloc(), words)?.bytes())?;
+        let want = meant(rt.alloc(), want)?;
+        let came = came(rt.alloc(), natives, &words)?;
+        assert_eq!(rt; came.bytes(), want.bytes(), "{line}");
+        count = count.wrapping_add(1);
+    }
+    assert_eq!(rt; count, 40);
+    Ok(())
 }
 
 #[test]
@@ -54,67 +139,5 @@ fn commands_on_lists(rt: HostRuntime) -> Result<(), Fail> {
         Native::new(Text::new(alloc, b"lsort")?, 2, 6, lsort_command),
         Native::new(Text::new(alloc, b"concat")?, 1, 200_001, concat_command),
     ];
-    let rows: [(usize, &[u8], &[u8]); 40] = [
-        (0, b"list|a||b c|d{|", b"a {} {b c} d\\{"),
-        (0, b"list|", b""),
-        (1, b"lindex|a {b c} d|1|", b"b c"),
-        (1, b"lindex|a b c|end-1|", b"b"),
-        (1, b"lindex|a b c|3|", b""),
-        (1, b"lindex|a b c|-1|", b""),
-        (1, b"lindex|a {b|x|", b"bad list at 2"),
-        (1, b"lindex|a b|x|", b"bad value \"x\" for \"lindex\""),
-        (1, b"lindex|a|", b"none"),
-        (2, b"llength|a {b c} d|", b"3"),
-        (2, b"llength|{|", b"bad list at 0"),
-        (3, b"lrange|a b c d|1|end-1|", b"b c"),
-        (3, b"lrange|a b c d|-5|99|", b"a b c d"),
-        (3, b"lrange|a b c d|2|1|", b""),
-        (3, b"lrange|a b|y|x|", b"bad value \"y\" for \"lrange\""),
-        (4, b"linsert|a b|end|c|", b"a b c"),
-        (4, b"linsert|a b|0|c|d|", b"c d a b"),
-        (4, b"linsert|a b|end-1|c|", b"a c b"),
-        (5, b"lreplace|a b c|end|end|x|y|", b"a b x y"),
-        (5, b"lreplace|a b c|0|1|", b"c"),
-        (5, b"lreplace|a b c|1|0|x|", b"a x b c"),
-        (5, b"lreplace|a b c|9|9|x|", b"a b c x"),
-        (6, b"lsearch|a bc d|b*|", b"1"),
-        (6, b"lsearch|-exact|a b* d|b*|", b"1"),
-        (6, b"lsearch|-exact|a bc d|b*|", b"-1"),
-        (6, b"lsearch|-glob|a bc d|?|", b"0"),
-        (6, b"lsearch|-exact|x|", b"-1"),
-        (6, b"lsearch|-exact|-exact|-exact|", b"0"),
-        (
-            6,
-            b"lsearch|-all|a|b|",
-            b"bad value \"-all\" for \"lsearch\"",
-        ),
-        (7, b"lsort|-integer|-decreasing|3 10 2|", b"10 3 2"),
-        (7, b"lsort|3 10 2|", b"10 2 3"),
-        (7, b"lsort|-integer|3 10 0x3 2|", b"2 3 0x3 10"),
-        (7, b"lsort|-integer|-decreasing|2 3 0x3 10|", b"10 3 0x3 2"),
-        (
-            7,
-            b"lsort|-integer|-ascii|-decreasing|-increasing|b x a|",
-            b"a b x",
-        ),
-        (
-            7,
-            b"lsort|-integer|3 x y|",
-            b"expected integer but got \"x\"",
-        ),
-        (7, b"lsort|-integer|", b"-integer"),
-        (
-            7,
-            b"lsort|-integer|-ascii|",
-            b"expected integer but got \"-ascii\"",
-        ),
-        (7, b"lsort|x|a b|", b"bad value \"x\" for \"lsort\""),
-        (8, b"concat| a b\n||c|  |", b"a b c"),
-        (8, b"concat|", b""),
-    ];
-    for (at, words, want) in rows {
-        let words = words_of(alloc, words)?;
-        assert_eq!(rt; came(alloc, natives.as_slice(), at, &words)?.bytes(), want);
-    }
-    Ok(())
+    check_rows(&rt, natives.as_slice())
 }

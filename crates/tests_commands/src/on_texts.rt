@@ -2,7 +2,7 @@ ghost use Rattle.std.specs.Prelude.{◌≡◌, ◌++◌, ◌∷◌, [], false, O
 ghost use Rattle.natives.specs.Names.{name_of, names_of, has_name};
 
 use natives::{Fault, Native, Natives};
-use std::alloc::Global;
+use std::alloc::{AllocGlobal, Global};
 use std::process::Abort;
 use std::test::Fail;
 use tcl_string::{format_command, join_command, split_command, string_command};
@@ -53,6 +53,92 @@ fn came(alloc: Global, natives: &Natives, words: &Words) -> Result<Text, Fail> {
     }
 }
 
+/// Words that each end at an exclamation mark, and what they come to.
+const ROWS: &str = r#"string!length!ab~! => 3
+string!index!abc!end! => c
+string!index!abc!3! => `
+string!index!abc!-1! => `
+string!index!abc!x! => bad value "x" for "string"
+string!range!abcdef!1!end-1! => bcde
+string!range!abcdef!-5!end! => abcdef
+string!range!abcdef!4!1! => `
+string!range!!0!end! => `
+string!range!abcdef!x!y! => bad value "x" for "string"
+string!compare!ab!b! => -1
+string!compare!abc!ab! => 1
+string!compare!ab!ab! => 0
+string!equal!ab!ab! => 1
+string!equal!ab!aB! => 0
+string!first!ab!xabab! => 1
+string!first!!xabab! => -1
+string!last!ab!xabab! => 3
+string!last!!xabab! => -1
+string!last!abc!ab! => -1
+string!match!a*[b-d]!axxd! => 1
+string!match!a?!a! => 0
+string!tolower!aB[C! => ab[c
+string!toupper!aB{c! => AB{C
+string!trim! _ab @~! => ab
+string!trim!xyaxy!yx! => a
+string!trimleft!xyaxy!yx! => axy
+string!trimright!xyaxy!yx! => xya
+string!trim! a !! => ^a^
+string!repeat!ab!3! => ababab
+string!repeat!ab!9223372036854775807! => value too long
+string!repeat!!9223372036854775807! => `
+string!repeat!ab!-1! => bad value "-1" for "string"
+string!repeat!ab!x! => expected integer but got "x"
+string!foo!ab! => unknown subcommand "foo" of "string"
+string!length!ab!c! => wrong number of words for "string"
+string!range!ab!c! => wrong number of words for "string"
+format!%-4d|%04x|%c!7!255!65! => 7   |00ff|A
+format!%05d|%5d|%-05d|%x!-3!-3!-3!-1! => -0003|   -3|-3   |ffffffffffffffff
+format!%5s|%05s|%5%|%%|%007d!ab!ab! 5 !more! => ^  ab|000ab|    %|%|0000005
+format!%c%4c!8364!0x20ac! => € €
+format!%1001d! => bad value "%1001d" for "format"
+format!%d%%%d!x! => wrong number of words for "format"
+format!%s%d%c!x!y!z! => expected integer but got "y"
+format!%c!55296! => bad value "55296" for "format"
+split!a.b..c!.! => a b {} c
+split! a_b~! => {} a b {}
+split!a c!! => a { } c
+split!! => `
+join!a {b c} {}! => a b c^
+join!a {b c} d!, ! => a, b c, d
+join!a {b! => bad list at 2"#;
+
+/// The bytes that a part of a line writes: `~` is a newline, `^` a space, `_` a tab, `@` a carriage return
+/// and a backquote nothing.
+fn meant(alloc: Global, part: &str) -> Result<Text, NoMemory> {
+    let mut text = Text::empty(alloc);
+    for byte in part.as_bytes() {
+        match *byte {
+            b'~' => text.append(b"\n")?,
+            b'^' => text.append(b" ")?,
+            b'_' => text.append(b"\t")?,
+            b'@' => text.append(b"\r")?,
+            b'`' => {}
+            other => text.append(&[other])?,
+        }
+    }
+    Ok(text)
+}
+
+/// Calls the natives on the words of each row.
+fn check_rows<R: Abort + AllocGlobal>(rt: &R, natives: &Natives) -> Result<(), Fail> {
+    let mut count = 0u64;
+    for line in ROWS.lines() {
+        let (words, want) = line.split_once(" => ").ok_or("a line has an arrow")?;
+        let words = words_of(rt.alloc(), meant(rt.alloc(), words)?.bytes())?;
+        let want = meant(rt.alloc(), want)?;
+        let came = came(rt.alloc(), natives, &words)?;
+        assert_eq!(rt; came.bytes(), want.bytes(), "{line}");
+        count = count.wrapping_add(1);
+    }
+    assert_eq!(rt; count, 52);
+    Ok(())
+}
+
 #[test]
 #[tactic(auto, unfolding(natives::specs::Ranges::range_of))]
 fn commands_by_name(rt: HostRuntime) -> Result<(), Fail> {
@@ -74,81 +160,5 @@ fn commands_by_name(rt: HostRuntime) -> Result<(), Fail> {
         &mut natives,
         Native::new(Text::new(alloc, b"join")?, 2, 3, join_command),
     )?;
-    let rows: [(&[u8], &[u8]); 52] = [
-        (b"string!length!ab\n!", b"3"),
-        (b"string!index!abc!end!", b"c"),
-        (b"string!index!abc!3!", b""),
-        (b"string!index!abc!-1!", b""),
-        (b"string!index!abc!x!", b"bad value \"x\" for \"string\""),
-        (b"string!range!abcdef!1!end-1!", b"bcde"),
-        (b"string!range!abcdef!-5!end!", b"abcdef"),
-        (b"string!range!abcdef!4!1!", b""),
-        (b"string!range!!0!end!", b""),
-        (
-            b"string!range!abcdef!x!y!",
-            b"bad value \"x\" for \"string\"",
-        ),
-        (b"string!compare!ab!b!", b"-1"),
-        (b"string!compare!abc!ab!", b"1"),
-        (b"string!compare!ab!ab!", b"0"),
-        (b"string!equal!ab!ab!", b"1"),
-        (b"string!equal!ab!aB!", b"0"),
-        (b"string!first!ab!xabab!", b"1"),
-        (b"string!first!!xabab!", b"-1"),
-        (b"string!last!ab!xabab!", b"3"),
-        (b"string!last!!xabab!", b"-1"),
-        (b"string!last!abc!ab!", b"-1"),
-        (b"string!match!a*[b-d]!axxd!", b"1"),
-        (b"string!match!a?!a!", b"0"),
-        (b"string!tolower!aB[C!", b"ab[c"),
-        (b"string!toupper!aB{c!", b"AB{C"),
-        (b"string!trim! \tab \r\n!", b"ab"),
-        (b"string!trim!xyaxy!yx!", b"a"),
-        (b"string!trimleft!xyaxy!yx!", b"axy"),
-        (b"string!trimright!xyaxy!yx!", b"xya"),
-        (b"string!trim! a !!", b" a "),
-        (b"string!repeat!ab!3!", b"ababab"),
-        (b"string!repeat!ab!9223372036854775807!", b"value too long"),
-        (b"string!repeat!!9223372036854775807!", b""),
-        (b"string!repeat!ab!-1!", b"bad value \"-1\" for \"string\""),
-        (b"string!repeat!ab!x!", b"expected integer but got \"x\""),
-        (
-            b"string!foo!ab!",
-            b"unknown subcommand \"foo\" of \"string\"",
-        ),
-        (
-            b"string!length!ab!c!",
-            b"wrong number of words for \"string\"",
-        ),
-        (
-            b"string!range!ab!c!",
-            b"wrong number of words for \"string\"",
-        ),
-        (b"format!%-4d|%04x|%c!7!255!65!", b"7   |00ff|A"),
-        (
-            b"format!%05d|%5d|%-05d|%x!-3!-3!-3!-1!",
-            b"-0003|   -3|-3   |ffffffffffffffff",
-        ),
-        (
-            b"format!%5s|%05s|%5%|%%|%007d!ab!ab! 5 !more!",
-            b"   ab|000ab|    %|%|0000005",
-        ),
-        (b"format!%c%4c!8364!0x20ac!", "€ €".as_bytes()),
-        (b"format!%1001d!", b"bad value \"%1001d\" for \"format\""),
-        (b"format!%d%%%d!x!", b"wrong number of words for \"format\""),
-        (b"format!%s%d%c!x!y!z!", b"expected integer but got \"y\""),
-        (b"format!%c!55296!", b"bad value \"55296\" for \"format\""),
-        (b"split!a.b..c!.!", b"a b {} c"),
-        (b"split! a\tb\n!", b"{} a b {}"),
-        (b"split!a c!!", b"a { } c"),
-        (b"split!!", b""),
-        (b"join!a {b c} {}!", b"a b c "),
-        (b"join!a {b c} d!, !", b"a, b c, d"),
-        (b"join!a {b!", b"bad list at 2"),
-    ];
-    for (words, want) in rows {
-        let words = words_of(alloc, words)?;
-        assert_eq!(rt; came(alloc, &natives, &words)?.bytes(), want);
-    }
-    Ok(())
+    check_rows(&rt, &natives)
 }

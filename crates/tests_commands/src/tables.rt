@@ -10,6 +10,16 @@ use std::sync::ledger::{Blank, Ledger};
 use std::test::Fail;
 use txt_core::{NoMemory, Text, Words};
 
+/// The built-in names that are no natives, in byte order.
+const BUILT_INS: &str =
+    "append array break catch close continue eof error eval expr for foreach gets global if incr \
+    info lappend ns_adp_abort ns_adp_append ns_adp_argc ns_adp_argv ns_adp_break ns_adp_include \
+    ns_adp_puts ns_adp_return ns_conn ns_eval ns_httptime ns_ictl ns_queryget \
+    ns_register_filter ns_register_proc ns_return ns_returnnotfound ns_returnredirect \
+    ns_schedule_proc ns_set ns_time ns_unschedule_proc ns_urldecode ns_urlencode nsv_append \
+    nsv_array nsv_exists nsv_get nsv_incr nsv_lappend nsv_names nsv_set nsv_unset open proc \
+    read rename return set switch unset while ";
+
 /// What any native may answer.
 fn gives_up(_alloc: Global, _words: &Words) -> Result<Text, Fault>
     ensures { (reply : Reply) → Answers reply result }
@@ -78,7 +88,16 @@ fn show(table: &CmdTable, natives: &Natives, all: &mut Text) -> Result<(), NoMem
     Ok(())
 }
 
-/// The names of a new table without natives, with what they stand for.
+/// Whether a name stands for its own built-in.
+fn is_own(table: &CmdTable, name: &Text) -> bool {
+    match table.get(name) {
+        Some(Cmd::Built(own)) => own.bytes() == name.bytes(),
+        _ => false,
+    }
+}
+
+/// The names of a new table without natives, with a space behind each; with what else it stands for, where
+/// a name doesn't stand for its own built-in.
 fn new_listing<L: Ledger>(alloc: Global, blank: Blank) -> Result<Text, NoMemory>
     requires name { blank.name ≡ L.name }
     requires parts { blank.parts ≡ L.parts }
@@ -88,7 +107,12 @@ fn new_listing<L: Ledger>(alloc: Global, blank: Blank) -> Result<Text, NoMemory>
     let table = CmdTable::new(alloc, &Natives::new(alloc), &mut steps)?;
     let mut all = Text::empty(alloc);
     for name in table.names()?.as_slice() {
-        show_command(&table, name, &mut all)?;
+        if is_own(&table, name) {
+            all.append(name.bytes())?;
+            all.append(b" ")?;
+        } else {
+            show_command(&table, name, &mut all)?;
+        }
     }
     Ok(all)
 }
@@ -141,48 +165,7 @@ fn listing<L: Ledger>(
 fn built_ins_stand_for_themselves(rt: HostRuntime) -> Result<(), Fail> {
     let alloc = rt.alloc();
     let came = new_listing::<Brand>(alloc, Blank::new(1))?;
-    let want = [
-        "append",
-        "array",
-        "break",
-        "catch",
-        "continue",
-        "error",
-        "eval",
-        "expr",
-        "for",
-        "foreach",
-        "global",
-        "if",
-        "incr",
-        "info",
-        "lappend",
-        "ns_register_proc",
-        "ns_return",
-        "nsv_append",
-        "nsv_array",
-        "nsv_exists",
-        "nsv_get",
-        "nsv_incr",
-        "nsv_lappend",
-        "nsv_names",
-        "nsv_set",
-        "nsv_unset",
-        "proc",
-        "rename",
-        "return",
-        "set",
-        "switch",
-        "unset",
-        "while",
-    ];
-    let mut all = Text::empty(alloc);
-    for name in want {
-        all.append(name.as_bytes())?;
-        all.append(name.as_bytes())?;
-        all.append(b" ")?;
-    }
-    assert_eq!(rt; came.bytes(), all.bytes());
+    assert_eq!(rt; came.bytes(), BUILT_INS.as_bytes());
     Ok(())
 }
 

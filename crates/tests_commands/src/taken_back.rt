@@ -11,7 +11,10 @@ use std::test::Fail;
 use txt_core::{NoMemory, Text, Words};
 
 /// How many random turns are taken.
-const TURNS: u32 = 100_000;
+const TURNS: u32 = 1_000_000;
+
+/// After how many turns all names are compared again.
+const ALL_EACH: u32 = 1_000;
 
 /// How many names are changed, each of one byte.
 const NAMES: u8 = 8;
@@ -75,20 +78,41 @@ fn shown(table: &CmdTable, name: &Text) -> u8 {
     }
 }
 
-/// Whether both hold the same for each name.
-fn agree(alloc: Global, table: &CmdTable, map: &Plain) -> Result<bool, NoMemory> {
-    for at in 0..8u8 {
-        if shown(table, &text(alloc, at)?) != held(map, at) {
-            return Ok(false);
-        }
+/// The names that are changed.
+fn all_names(alloc: Global) -> Result<Words, NoMemory> {
+    let mut names = Words::new(alloc);
+    for at in 0..NAMES {
+        names.add(text(alloc, at)?)?;
     }
-    Ok(true)
+    Ok(names)
 }
 
-/// Puts a command into both.
+/// Whether both hold the same for one name; the empty one is never changed.
+fn agree_on(table: &CmdTable, names: &Words, map: &Plain, at: u8) -> bool {
+    if at == NAMES {
+        return true;
+    }
+    match names.get(at as usize) {
+        Some(name) => shown(table, name) == held(map, at),
+        None => false,
+    }
+}
+
+/// Whether both hold the same for each name.
+fn agree(table: &CmdTable, names: &Words, map: &Plain) -> bool {
+    for at in 0..NAMES {
+        if !agree_on(table, names, map, at) {
+            return false;
+        }
+    }
+    true
+}
+
+/// Puts a command into both; whether it is then found in both.
 fn put<L: Ledger>(
     alloc: Global,
     table: &mut CmdTable,
+    names: &Words,
     map: &mut Plain,
     random: u64,
     steps: &mut Steps<L>,
@@ -100,7 +124,7 @@ fn put<L: Ledger>(
     let cmd = Cmd::Built(Text::new(alloc, &bytes)?);
     table.put(name, cmd, steps)?;
     hold(map, at, what);
-    Ok(true)
+    Ok(agree_on(table, names, map, at))
 }
 
 /// What a rename of the plain map answers; it is made where it isn't refused.
@@ -119,10 +143,12 @@ fn rename_plain(map: &mut Plain, old: u8, new: u8) -> Renamed {
     Renamed::Done
 }
 
-/// Renames or removes a name in both; whether both answer the same.
+/// Renames or removes a name in both; whether both answer the same, and then hold the same for the old
+/// name and the new one.
 fn rename<L: Ledger>(
     alloc: Global,
     table: &mut CmdTable,
+    names: &Words,
     map: &mut Plain,
     random: u64,
     steps: &mut Steps<L>,
@@ -130,7 +156,8 @@ fn rename<L: Ledger>(
     let old = pick(random, 40, NAMES);
     let new = pick(random, 48, NAMES + 1);
     let answer = table.rename(&text(alloc, old)?, &text(alloc, new)?, steps)?;
-    Ok(answer == rename_plain(map, old, new))
+    let same = answer == rename_plain(map, old, new);
+    Ok(same && agree_on(table, names, map, old) && agree_on(table, names, map, new))
 }
 
 /// Marks both.
@@ -144,70 +171,70 @@ fn mark(table: &CmdTable, twin: &mut Twin) -> Result<bool, NoMemory> {
 
 /// Takes both back to one of the marks; whether they then agree on all names.
 fn undo<L: Ledger>(
-    alloc: Global,
     table: &mut CmdTable,
+    names: &Words,
     twin: &mut Twin,
     random: u64,
     steps: &mut Steps<L>,
-) -> Result<bool, NoMemory> {
+) -> bool {
     twin.copies.truncate(pick(random, 40, 33) as usize);
     let Some(last) = twin.copies.pop() else {
-        return Ok(true);
+        return true;
     };
     let mark = last.0;
     let copy = last.1;
     if mark > table.mark() {
-        return Ok(false);
+        return false;
     }
     table.undo(mark, steps);
     twin.now = copy;
-    agree(alloc, table, &twin.now)
+    agree(table, names, &twin.now)
 }
 
 /// One random turn on both; whether they agree.
 fn turn<L: Ledger>(
     alloc: Global,
     table: &mut CmdTable,
+    names: &Words,
     twin: &mut Twin,
     random: u64,
     steps: &mut Steps<L>,
 ) -> Result<bool, NoMemory> {
     match pick(random, 56, 16) {
-        0..=6 => put(alloc, table, &mut twin.now, random, steps),
-        7..=13 => rename(alloc, table, &mut twin.now, random, steps),
+        0..=6 => put(alloc, table, names, &mut twin.now, random, steps),
+        7..=13 => rename(alloc, table, names, &mut twin.now, random, steps),
         14 => mark(table, twin),
-        _ => undo(alloc, table, twin, random, steps),
+        _ => Ok(undo(table, names, twin, random, steps)),
     }
 }
 
-/// How many of the random turns agree, and whether all names do in the end.
-fn agreeing<L: Ledger>(alloc: Global, blank: Blank) -> Result<(u32, bool), NoMemory>
+/// How many of the random turns agree; at each thousandth one all names are to.
+fn agreeing<L: Ledger>(alloc: Global, blank: Blank) -> Result<u32, NoMemory>
     requires name { blank.name ≡ L.name }
     requires parts { blank.parts ≡ L.parts }
     requires some { 0 < blank.parts }
 {
     let mut steps = Steps::<L>::new(blank);
     let mut table = CmdTable::new(alloc, &Natives::new(alloc), &mut steps)?;
+    let names = all_names(alloc)?;
     let mut twin = Twin {
         now: [NOTHING; 8],
         copies: Vec::new(alloc),
     };
     let mut random = 31;
     let mut count: u32 = 0;
-    for _turn in 0..TURNS {
+    for number in 1..=TURNS {
         random = next(random);
-        if turn(alloc, &mut table, &mut twin, random, &mut steps)? {
+        let same = turn(alloc, &mut table, &names, &mut twin, random, &mut steps)?;
+        if same && (number % ALL_EACH != 0 || agree(&table, &names, &twin.now)) {
             count = count.saturating_add(1);
         }
     }
-    let all = agree(alloc, &table, &twin.now)?;
-    Ok((count, all))
+    Ok(count)
 }
 
 #[test]
 fn random_changes_are_taken_back(rt: HostRuntime) -> Result<(), Fail> {
-    let (count, all) = agreeing::<Brand>(rt.alloc(), Blank::new(1))?;
-    assert_eq!(rt; count, TURNS);
-    assert!(rt; all);
+    assert_eq!(rt; agreeing::<Brand>(rt.alloc(), Blank::new(1))?, TURNS);
     Ok(())
 }
