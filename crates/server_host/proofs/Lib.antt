@@ -1,0 +1,5 @@
+pub mod Asking
+pub mod NamesGathered
+pub mod Lifting
+pub mod Naming
+pub mod WordsAt

@@ -1,0 +1,5 @@
+use Rattle.server_host.proofs.Lifting.{conn_told}
+use Rattle.server_host.proofs.answering.conn_answered.Goals as goal
+
+pub returns : goal.returns
+returns c = conn_told _ _ c.host.view_is c.args.words.now c.args.answer.now c.answered.result c.answered.new.self c.answered.ensures

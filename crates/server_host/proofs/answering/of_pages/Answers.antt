@@ -1,0 +1,5 @@
+use Rattle.server_host.proofs.Lifting.{pages_called}
+use Rattle.server_host.proofs.answering.of_pages.Goals as goal
+
+pub returns : goal.returns
+returns c = pages_called _ _ c.host.view_is c.args.words.now c.call.result c.call.new.self c.call.ensures

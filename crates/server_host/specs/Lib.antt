@@ -1,0 +1,12 @@
+-- What a reader believes.
+pub mod Hosts
+pub mod Parts
+pub mod Checks
+pub mod Registering
+pub mod Interpreting
+pub mod Scheduling
+pub mod Sharing
+pub mod Leaf
+pub mod Laws
+-- What the program answers, in the words of the rules.
+pub mod Answers

@@ -1,0 +1,143 @@
+//! The commands that register procedures and filters.
+
+ghost use Rattle.std.specs.Prelude.{◌≡◌, ◌≤◌, ◌+◌, drop, IfOk, Some};
+ghost use Rattle.natives.specs.Words.{arg};
+ghost use Rattle.blueprint.specs.Reading.{is_method, is_filter_method, begins_with_slash, stage_named};
+ghost use Rattle.server_host.specs.Answers.{Comes};
+ghost use Rattle.server_host.specs.Registering.{is_noinherit, method_place, registers, registers_filter, ns_register_proc, ns_register_filter};
+
+use crate::checks::{arg, require_definition_run, require_fit, require_words, unfit, words_from};
+use crate::host::RunHost;
+use crate::refusal::{Refusal, refuse};
+use cmd_table::{Def, When};
+use std::alloc::Global;
+use tcl_host::HostReply;
+use txt_core::{NoMemory, Text, Words};
+
+/// Whether a word is a method for which a procedure can be registered.
+fn is_method(word: &[u8]) -> bool
+    ensures { result ≡ is_method word.now }
+{
+    word == b"GET".as_slice()
+        || word == b"POST".as_slice()
+        || word == b"PUT".as_slice()
+        || word == b"DELETE".as_slice()
+}
+
+/// Whether a word is a method for which a filter can be registered, or stands for all.
+fn is_filter_method(word: &[u8]) -> bool
+    ensures { result ≡ is_filter_method word.now }
+{
+    word == b"*".as_slice() || is_method(word)
+}
+
+fn begins_with_slash(url: &[u8]) -> bool
+    ensures { result ≡ begins_with_slash url.now }
+{
+    match url.split_first() {
+        None => false,
+        Some((first, _behind)) => *first == b'/',
+    }
+}
+
+/// The stage of this name.
+fn stage_named(word: &[u8]) -> Option<When>
+    ensures { result ≡ stage_named word.now }
+{
+    if word == b"preauth".as_slice() {
+        Some(When::Preauth)
+    } else if word == b"postauth".as_slice() {
+        Some(When::Postauth)
+    } else if word == b"trace".as_slice() {
+        Some(When::Trace)
+    } else {
+        None
+    }
+}
+
+/// Whether the second word is the option by which the paths below the URL aren't served.
+fn is_noinherit(words: &Words) -> bool
+    ensures { result ≡ is_noinherit words.now }
+{
+    arg(words, 1) == b"-noinherit".as_slice()
+}
+
+/// The place of the method: behind the option, where that stands.
+fn method_place(words: &Words) -> usize
+    ensures place { result ≡ method_place words.now }
+    ensures most { result ≤ 2 }
+{
+    if is_noinherit(words) { 2 } else { 1 }
+}
+
+/// The registration of a procedure that the words from a place on make.
+fn route(alloc: Global, inherit: bool, place: usize, words: &Words) -> Result<Def, NoMemory>
+    requires { place ≤ 2 }
+    ensures { IfOk result (λ def. def ≡ Def.Route (arg words.now place) (arg words.now (place + 1)) inherit (drop (place + 2) words.now)) }
+{
+    Ok(Def::Route {
+        method: Text::new(alloc, arg(words, place))?,
+        url: Text::new(alloc, arg(words, place + 1))?,
+        inherit,
+        words: Words::of_copies(alloc, words_from(words, place + 2))?,
+    })
+}
+
+/// Registers a procedure by the words from a place on.
+fn register(
+    host: &RunHost,
+    inherit: bool,
+    place: usize,
+    words: &Words,
+) -> Result<HostReply, Refusal>
+    requires { place ≤ 2 }
+    ensures { Comes result host.now (registers inherit place words.now host.now) }
+{
+    let alloc = host.alloc;
+    require_fit(alloc, is_method(arg(words, place)), words, place)?;
+    let url = place + 1;
+    require_fit(alloc, begins_with_slash(arg(words, url)), words, url)?;
+    Ok(HostReply::Define(route(alloc, inherit, place, words)?))
+}
+
+/// `ns_register_proc ?-noinherit? METHOD URL PROC WORD*`.
+pub fn ns_register_proc(host: &RunHost, words: &Words) -> Result<HostReply, Refusal>
+    ensures { Comes result host.now (ns_register_proc words.now host.now) }
+{
+    let place = method_place(words);
+    require_words(host.alloc, words.len() >= place + 3, words)?;
+    require_definition_run(host)?;
+    register(host, !is_noinherit(words), place, words)
+}
+
+/// The filter of a stage that the words make.
+fn filter(alloc: Global, when: When, words: &Words) -> Result<Def, NoMemory>
+    ensures { IfOk result (λ def. def ≡ Def.Filter when (arg words.now 2) (arg words.now 3) (drop 4 words.now)) }
+{
+    Ok(Def::Filter {
+        when,
+        method: Text::new(alloc, arg(words, 2))?,
+        pattern: Text::new(alloc, arg(words, 3))?,
+        words: Words::of_copies(alloc, words_from(words, 4))?,
+    })
+}
+
+/// Registers a filter for a stage.
+fn register_filter(host: &RunHost, when: When, words: &Words) -> Result<HostReply, Refusal>
+    ensures { Comes result host.now (registers_filter (Some when) words.now host.now) }
+{
+    require_fit(host.alloc, is_filter_method(arg(words, 2)), words, 2)?;
+    Ok(HostReply::Define(filter(host.alloc, when, words)?))
+}
+
+/// `ns_register_filter WHEN METHOD GLOB PROC WORD*`.
+pub fn ns_register_filter(host: &RunHost, words: &Words) -> Result<HostReply, Refusal>
+    ensures { Comes result host.now (ns_register_filter words.now host.now) }
+{
+    require_words(host.alloc, words.len() >= 5, words)?;
+    require_definition_run(host)?;
+    match stage_named(arg(words, 1)) {
+        None => Err(refuse(unfit(host.alloc, words, 1))),
+        Some(when) => register_filter(host, when, words),
+    }
+}

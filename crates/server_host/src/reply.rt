@@ -1,0 +1,44 @@
+//! What commands come to, as replies of a host.
+
+ghost use Rattle.std.specs.Prelude.{◌≡◌, []};
+ghost use Rattle.tcl_host.specs.Answers.{Replies, RepliesTo};
+ghost use Rattle.tcl_host.specs.Leaf.{Leaf, goes};
+ghost use Rattle.server_host.specs.Hosts.{HostState};
+ghost use Rattle.server_host.specs.Answers.{Comes};
+
+use crate::refusal::Refusal;
+use std::alloc::Global;
+use tcl_host::{ERROR, HostReply, OK};
+use txt_core::Text;
+
+/// A good end with this result.
+pub fn done(result_text: Text) -> HostReply
+    ensures { result ≡ HostReply.Done 0 result_text }
+{
+    HostReply::Done {
+        code: OK,
+        result: result_text,
+    }
+}
+
+/// A good end without a result.
+pub fn done_without_result(alloc: Global) -> HostReply
+    ensures { result ≡ HostReply.Done 0 [] }
+{
+    done(Text::empty(alloc))
+}
+
+/// What a command came to, as the reply of the host.
+pub fn reply_of(came: Result<HostReply, Refusal>) -> HostReply
+    ensures call { (host : HostState) (leaf : Leaf HostState) → Comes came host leaf → Replies result host leaf }
+    ensures answer { (host : HostState) (leaf : Leaf HostState) → Comes came host leaf → RepliesTo result host (goes leaf) }
+{
+    match came {
+        Ok(reply) => reply,
+        Err(Refusal::Error(message)) => HostReply::Done {
+            code: ERROR,
+            result: message,
+        },
+        Err(Refusal::NoMemory) => HostReply::NoMemory,
+    }
+}

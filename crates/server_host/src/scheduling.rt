@@ -1,0 +1,113 @@
+//! The commands on the schedule.
+
+ghost use Rattle.std.specs.Prelude.{◌≡◌};
+ghost use Rattle.txt_core.specs.Number.{number};
+ghost use Rattle.server_host.specs.Answers.{Comes};
+ghost use Rattle.server_host.specs.Scheduling.{asks_schedule, is_once, is_schedule, is_period, schedules, by_option, ns_schedule_proc, is_id, unschedules, ns_unschedule_proc};
+
+use crate::checks::{arg, is_counted, require_fit, require_words};
+use crate::host::RunHost;
+use crate::refusal::{Refusal, refuse};
+use outside::{Question, Service};
+use tcl_host::HostReply;
+use txt_core::{Words, error_text, read_int_bytes};
+
+/// The most seconds from one run of a script to the next: those of 365 days.
+const MOST_SECONDS: i64 = 31_536_000;
+
+/// Asks the schedule these words.
+fn ask(host: &RunHost, words: &Words) -> Result<HostReply, Refusal>
+    ensures { Comes result host.now (asks_schedule words.now host.now) }
+{
+    Ok(HostReply::Ask(Question {
+        service: Service::Schedule,
+        words: Words::of_copies(host.alloc, words.as_slice())?,
+    }))
+}
+
+/// Whether the second word is the option by which the script runs once.
+fn is_once(words: &Words) -> bool
+    ensures { result ≡ is_once words.now }
+{
+    arg(words, 1) == b"-once".as_slice()
+}
+
+/// Whether the number of words is one of `ns_schedule_proc`.
+fn is_schedule(words: &Words) -> bool
+    ensures { result ≡ is_schedule words.now }
+{
+    if is_once(words) {
+        words.len() == 4
+    } else {
+        is_counted(words, 3, 4)
+    }
+}
+
+/// Whether a script may run every so many seconds.
+fn is_period(seconds: i64) -> bool
+    ensures { result ≡ is_period seconds }
+{
+    1 <= seconds && seconds <= MOST_SECONDS
+}
+
+/// Asks the schedule, where the word at a place is a number of seconds that may be.
+fn schedule(host: &RunHost, place: usize, words: &Words) -> Result<HostReply, Refusal>
+    ensures { Comes result host.now (schedules place words.now host.now) }
+{
+    let word = arg(words, place);
+    match read_int_bytes(word) {
+        None => Err(refuse(error_text::no_integer(host.alloc, word))),
+        Some(seconds) => {
+            require_fit(host.alloc, is_period(seconds), words, place)?;
+            ask(host, words)
+        }
+    }
+}
+
+/// Asks the schedule, where the words are three, or the option stands in its place.
+fn by_option(host: &RunHost, words: &Words) -> Result<HostReply, Refusal>
+    ensures { Comes result host.now (by_option words.now host.now) }
+{
+    if words.len() == 3 {
+        return schedule(host, 1, words);
+    }
+    require_fit(host.alloc, is_once(words), words, 1)?;
+    schedule(host, 2, words)
+}
+
+/// `ns_schedule_proc ?-once? SECONDS SCRIPT`.
+pub fn ns_schedule_proc(host: &RunHost, words: &Words) -> Result<HostReply, Refusal>
+    ensures { Comes result host.now (ns_schedule_proc words.now host.now) }
+{
+    require_words(host.alloc, is_schedule(words), words)?;
+    by_option(host, words)
+}
+
+/// Whether a word is a number from 0 on, as an id is.
+fn is_id(word: &[u8]) -> bool
+    ensures { result ≡ is_id (number word.now) }
+{
+    match read_int_bytes(word) {
+        None => false,
+        Some(number) => number >= 0,
+    }
+}
+
+/// Asks the schedule, where the word is an id.
+fn unschedule(host: &RunHost, words: &Words) -> Result<HostReply, Refusal>
+    ensures { Comes result host.now (unschedules words.now host.now) }
+{
+    let id = arg(words, 1);
+    if !is_id(id) {
+        return Err(refuse(error_text::no_schedule(host.alloc, id)));
+    }
+    ask(host, words)
+}
+
+/// `ns_unschedule_proc ID`.
+pub fn ns_unschedule_proc(host: &RunHost, words: &Words) -> Result<HostReply, Refusal>
+    ensures { Comes result host.now (ns_unschedule_proc words.now host.now) }
+{
+    require_words(host.alloc, is_counted(words, 2, 2), words)?;
+    unschedule(host, words)
+}
