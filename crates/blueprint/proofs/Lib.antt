@@ -5,3 +5,4 @@ mod Misfits
 mod Spelling
 mod Keeping
 mod Words
+mod Later

@@ -42,6 +42,16 @@ fits_both place other table [] more h k = fits_at other place table more k
 fits_both place other table (def ∷ defs) more h k =
     both_step place table def defs more (fits table def) (λ rest. fits_both (place + 1) other (defined table def) defs more rest k) h
 
+rest_step : (place : ℕ) (rest : Option ℕ) (b : Bool) → cond b rest (Some place) ≡ None → rest ≡ None
+rest_step place rest true h = h
+rest_step place rest false h = absurd (cc)
+
+-- of definitions that apply, the further ones apply behind the first ones
+pub fits_rest : (place other : ℕ) (table : Table) (defs more : List Def) → misfit_from place table (defs ++ more) ≡ None → misfit_from other (fold defined table defs) more ≡ None
+fits_rest place other table [] more h = fits_at place other table more h
+fits_rest place other table (def ∷ defs) more h =
+    fits_rest (place + 1) other (defined table def) defs more (rest_step place (misfit_from (place + 1) (defined table def) (defs ++ more)) (fits table def) h)
+
 -- ---- refusals
 
 -- a refusal leaves the state

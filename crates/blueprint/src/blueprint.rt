@@ -151,7 +151,7 @@ impl Blueprint {
                 Err(NoMemory) => Look::NoMemory,
             };
         }
-        match self.all() {
+        match self.definitions() {
             Ok(defs) => Look::Whole { epoch: now, defs },
             Err(NoMemory) => Look::NoMemory,
         }
@@ -169,8 +169,9 @@ impl Blueprint {
         Ok(defs)
     }
 
-    /// All definitions.
-    fn all(&self) -> Result<Defs, NoMemory>
+    /// All definitions that stand at the [`epoch`](Blueprint::epoch) of now, in order. The only error is
+    /// want of memory.
+    pub fn definitions(&self) -> Result<Defs, NoMemory>
         ensures { IfOk result (λ defs. defs ≡ definitions self.now) }
     {
         let mut defs = Sequence::new(self.alloc);

@@ -12,7 +12,9 @@ mod room;
 mod script;
 
 pub use blueprint::Blueprint;
-pub use law::scripts_are_read;
+pub use law::{
+    equal_epochs_are_one_state, scripts_are_read, since_applies, since_is_added, whole_is_all,
+};
 pub use reading::from_script;
 pub use reply::{BlueCall, BlueReply, Limit, Look, Published, ScriptFault};
 pub use script::script_of;

@@ -102,7 +102,7 @@ fn show_look(alloc: Global, all: &mut Text, look: Look) -> Result<(), NoMemory> 
 }
 
 /// What comes of calls, one behind the other: `+` publishes the definitions of a script, `=` saves it,
-/// `?` looks with an epoch of one digit, and `s` is the script.
+/// `?` looks with an epoch of one digit, `d` is the script of the definitions, and `s` the script.
 fn calls(alloc: Global, rows: &[(u8, &str)]) -> Result<Text, NoMemory> {
     let mut blueprint = Blueprint::new(alloc, &Natives::new(alloc))?;
     let mut all = Text::empty(alloc);
@@ -123,6 +123,7 @@ fn calls(alloc: Global, rows: &[(u8, &str)]) -> Result<Text, NoMemory> {
                     show_look(alloc, &mut all, blueprint.look(epoch))?;
                 }
             }
+            b'd' => all.append(script_of(alloc, &blueprint.definitions()?)?.bytes())?,
             _ => all.append(blueprint.script()?.bytes())?,
         }
     }
@@ -154,10 +155,11 @@ fn publications_and_saves(rt: HostRuntime) -> Result<(), Fail> {
             (b'?', "4"),
             (b'?', "3"),
             (b'?', "9"),
+            (b'd', ""),
         ],
     )?;
     let want =
-        "same whole 0:done 1 since 1:proc v {} {}\ndone 2 misfit 1 misfit 2 since 2:rename v w\ndone 3 proc v {} {}\nrename v w\nrename w v\nproc w {} {}\nmisfit 0 none 1 misfit 0 done 4 whole 4:rename set put\nproc set {} {}\nsame done 5 since 5:rename put p\nwhole 5:rename set put\nproc set {} {}\nrename put p\nwhole 5:rename set put\nproc set {} {}\nrename put p\n";
+        "same whole 0:done 1 since 1:proc v {} {}\ndone 2 misfit 1 misfit 2 since 2:rename v w\ndone 3 proc v {} {}\nrename v w\nrename w v\nproc w {} {}\nmisfit 0 none 1 misfit 0 done 4 whole 4:rename set put\nproc set {} {}\nsame done 5 since 5:rename put p\nwhole 5:rename set put\nproc set {} {}\nrename put p\nwhole 5:rename set put\nproc set {} {}\nrename put p\nrename set put\nproc set {} {}\nrename put p\n";
     assert_eq!(rt; came.bytes(), want.as_bytes());
     Ok(())
 }

@@ -1,5 +1,5 @@
 use Rattle.blueprint.proofs.Rows.{whole_defs}
-use Rattle.blueprint.proofs.blueprint.Blueprint.all.Goals as goal
+use Rattle.blueprint.proofs.blueprint.Blueprint.definitions.Goals as goal
 
 pub returns : goal.returns
 returns c =
