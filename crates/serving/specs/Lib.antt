@@ -1,0 +1,6 @@
+-- What a reader believes.
+pub mod Connections
+pub mod Calls
+pub mod Laws
+-- What only a count is by.
+pub mod Counting
