@@ -1,0 +1,4 @@
+-- What a reader believes.
+pub mod Load
+-- What only proofs use.
+pub mod Targets
