@@ -1,0 +1,4 @@
+pub mod Opening
+pub mod Naming
+pub mod Replying
+pub mod Lines

@@ -1,0 +1,4 @@
+-- What a reader believes.
+pub mod Views
+pub mod Cells
+pub mod Lines
