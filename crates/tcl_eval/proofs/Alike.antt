@@ -1,6 +1,6 @@
 -- Runs that go on alike at every budget up to a number come to the same there, since no run hands on more budget than it has.
 use Rattle.std.proofs.Common.{◌≡◌, ◌≤◌, ◌==◌, ◌%◌, ◌/◌, ℕ, zero, suc, ◌+◌, ◌-◌, List, [], ◌∷◌, ◌++◌, length, drop, Bool, true, false, Option, Some, None, Result, Ok, Err, cond, nat_lt, refl, sym, ap, arith}
-use Rattle.std.specs.Prelude.{codes, decimal, bytes_eq}
+use Rattle.std.specs.Prelude.{codes, decimal, bytes_eq, ◌||◌}
 use Rattle.std.specs.Int.{div_ceil}
 use Rattle.std.proofs.lemmas.Bool.{lt-ltb}
 use Rattle.txt_core.specs.Lists.{Listing, elements, bad_at}
@@ -23,7 +23,13 @@ use Rattle.cmd_table.specs.declared.renaming.Renamed.TheVariants.{Done as Rename
 use Rattle.cmd_table.specs.declared.command.Cmd.{Cmd}
 use Rattle.cmd_table.specs.declared.command.Cmd.TheVariants as commands
 use Rattle.natives.specs.Pure.{pure_of}
-use Rattle.tcl_frame.specs.Frames.{pushed}
+use Rattle.adp_parse.specs.declared.piece.Piece.{Piece}
+use Rattle.adp_parse.specs.declared.piece.Piece.TheVariants as pieces
+use Rattle.adp_parse.specs.declared.piece.Pieces.{Pieces}
+use Rattle.cmd_table.specs.declared.definition.Def.{Def}
+use Rattle.cmd_table.specs.declared.definition.Def.TheVariants as defs
+use Rattle.tcl_frame.specs.declared.fault.VarFault.{VarFault}
+use Rattle.tcl_frame.specs.Frames.{pushed, popped, global_fault, globally_written}
 use Rattle.tcl_varcmd.specs.Answers.{Came, gives as gives_text, fails as fails_with}
 use Rattle.tcl_varcmd.specs.Commands.{begins_var_command, var_came}
 use Rattle.tcl_eval.specs.declared.branch.Turning.{Turning}
@@ -36,11 +42,11 @@ use Rattle.tcl_eval.specs.declared.verb.Verb.{Verb}
 use Rattle.tcl_eval.specs.declared.verb.Verb.TheVariants as verb
 use Rattle.natives.specs.Names.{has_name}
 use Rattle.tcl_eval.specs.Natives.{Names, is_in_range, replied, call_native}
-use Rattle.tcl_eval.specs.State.{State, Leaf, says, wants, defines, stores, not_mine, LeafTable, Given, Out, spent, Rest, Next}
-use Rattle.tcl_eval.specs.Messages.{fault_text, too_long, no_boolean, bad_expression, bad_list, bad_value, unknown_command, no_command, command_exists}
+use Rattle.tcl_eval.specs.State.{State, Leaf, says, wants, defines, stores, not_mine, Onward, goes, enters, TextEnd, LeafTable, Given, Out, spent, Rest, Next}
+use Rattle.tcl_eval.specs.Messages.{fault_text, variable_fault, too_long, no_boolean, bad_expression, bad_list, bad_value, unknown_command, no_command, command_exists}
 use Rattle.tcl_eval.specs.Results.{most_bytes, bytes_for_one, error_of, wrong_words, element_name, read_as, stored, stored_of, command_cost, answer_cost, return_of, raised_of, break_of, continue_of}
 use Rattle.tcl_eval.specs.Parameters.{Values, parameters, bound}
-use Rattle.tcl_eval.specs.Words.{word_at, joined}
+use Rattle.tcl_eval.specs.Words.{arg, joined}
 use Rattle.tcl_eval.specs.Going.{Source, unread, read, Inner, on_ok, pay, give, fails, limited, charged, command_end, word_end, with_host, with_frames, listing, with_def, read_variable, write_variable, proc_end, write_all, decided, by_truth}
 use Rattle.tcl_eval.specs.Pieces.{run_part, run_parts}
 use Rattle.tcl_eval.specs.Commands.{rename_of, proc_of, call_bound, define_proc, do_proc, renamed_as, do_rename, do_eval, catch_end, do_catch, came_next}
@@ -49,7 +55,8 @@ use Rattle.tcl_eval.specs.Branches.{otherwise, choose, choose_of, from_condition
 use Rattle.tcl_eval.specs.Loops.{assigned, in_loop, between, turn_body, turns, turn_on, do_while, do_for, walk_on, over_values, over_names, do_foreach}
 use Rattle.tcl_eval.specs.Switch.{options, body_for, run_body, by_pairs, by_listing, by_words, by_options}
 use Rattle.tcl_eval.specs.Info.{info_said, do_info}
-use Rattle.tcl_eval.specs.Eval.{verb_of, leaf, built_in, built, run_command, act, command, run_words, run_commands, run_reading, run_script, nested}
+use Rattle.tcl_eval.specs.Eval.{verb_of, set_or_fails, set_global, make, define, is_for_host, resumed, leaf, onward, built_in, built, run_command, act, command, run_words, run_commands, run_reading, run_script, nested}
+use Rattle.tcl_eval.specs.Pages.{words_script, page_end, text_end, told, piece_end, run_piece, run_pieces, run_page}
 use Rattle.tcl_eval.specs.Laws.{TurnsSuffice}
 
 either : {T : Type 0} (c : Bool) (x y x' y' : T) → x ≡ x' → y ≡ y' → cond c x y ≡ cond c x' y'
@@ -132,17 +139,17 @@ module _ {H : Type 0} where
 
   do_proc_alike : (words : List (List ℕ)) (m : ℕ) (k k' : Next H) → After m k k' → Alike m (do_proc words k) (do_proc words k')
   do_proc_alike words m k k' h =
-      choice (length words == 4) m _ _ _ _ (define_proc_alike (parameters (word_at words 2)) words m k k' h) (give_alike (wrong_words words) m k k' h)
+      choice (length words == 4) m _ _ _ _ (define_proc_alike (parameters (arg words 2)) words m k k' h) (give_alike (wrong_words words) m k k' h)
 
   renamed_as_alike : (renamed : Renamed) (words : List (List ℕ)) (m : ℕ) (k k' : Next H) → After m k k' → Alike m (renamed_as renamed words k) (renamed_as renamed words k')
   renamed_as_alike Renamed_done words m k k' h = λ s b g le. h 0 [] (with_def s (rename_of words)) b g le
-  renamed_as_alike NoOld words m k k' h = fails_alike (no_command (word_at words 1)) m k k' h
-  renamed_as_alike NewExists words m k k' h = fails_alike (command_exists (word_at words 2)) m k k' h
+  renamed_as_alike NoOld words m k k' h = fails_alike (no_command (arg words 1)) m k k' h
+  renamed_as_alike NewExists words m k k' h = fails_alike (command_exists (arg words 2)) m k k' h
 
   do_rename_alike : (words : List (List ℕ)) (m : ℕ) (k k' : Next H) → After m k k' → Alike m (do_rename words k) (do_rename words k')
   do_rename_alike words m k k' h =
       choice (length words == 3) m _ _ _ _
-      (λ s b g le. renamed_as_alike (rename_answer s.commands (word_at words 1) (word_at words 2)) words m k k' h s b g le)
+      (λ s b g le. renamed_as_alike (rename_answer s.commands (arg words 1) (arg words 2)) words m k k' h s b g le)
       (give_alike (wrong_words words) m k k' h)
 
   came_next_alike : (came : Came) (m : ℕ) (k k' : Next H) → After m k k' → Alike m (came_next came k) (came_next came k')
@@ -158,7 +165,7 @@ module _ {H : Type 0} where
 
   call_native_alike : (words : List (List ℕ)) (m : ℕ) (k k' : Next H) → After m k k' → Alike m (call_native words k) (call_native words k')
   call_native_alike words m k k' h =
-      choice (is_in_range (word_at words 0) words) m _ _ _ _ (replied_alike (pure_of (word_at words 0) words) m k k' h) (give_alike (wrong_words words) m k k' h)
+      choice (is_in_range (arg words 0) words) m _ _ _ _ (replied_alike (pure_of (arg words 0) words) m k k' h) (give_alike (wrong_words words) m k k' h)
 
   catch_end_after : (name : Option (List ℕ)) (m : ℕ) (k k' : Next H) → After m k k' → After m (catch_end name k) (catch_end name k')
   catch_end_after None m k k' h code result = h 0 (decimal code)
@@ -275,13 +282,13 @@ module _ {H : Type 0} (inner : Inner H) (run : Runs inner) where
 
   do_while_alike : (words : List (List ℕ)) (m : ℕ) (k k' : Next H) → After m k k' → Alike m (do_while inner words k) (do_while inner words k')
   do_while_alike words m k k' h =
-      choice (length words == 3) m _ _ _ _ (turn_on_alike (record { condition = word_at words 1; next = None; body = word_at words 2 }) m k k' h) (give_alike (wrong_words words) m k k' h)
+      choice (length words == 3) m _ _ _ _ (turn_on_alike (record { condition = arg words 1; next = None; body = arg words 2 }) m k k' h) (give_alike (wrong_words words) m k k' h)
 
   do_for_alike : (words : List (List ℕ)) (m : ℕ) (k k' : Next H) → After m k k' → Alike m (do_for inner words k) (do_for inner words k')
   do_for_alike words m k k' h =
-      let turning : Turning = record { condition = word_at words 2; next = Some (word_at words 3); body = word_at words 4 } in
+      let turning : Turning = record { condition = arg words 2; next = Some (arg words 3); body = arg words 4 } in
       choice (length words == 5) m _ _ _ _
-      (run (unread (word_at words 1)) m (on_ok (λ v. turn_on inner turning k) k) (on_ok (λ v. turn_on inner turning k') k')
+      (run (unread (arg words 1)) m (on_ok (λ v. turn_on inner turning k) k) (on_ok (λ v. turn_on inner turning k') k')
       (on_ok_after (λ v. turn_on inner turning k) (λ v. turn_on inner turning k') m k k' (λ v. turn_on_alike turning m k k' h) h))
       (give_alike (wrong_words words) m k k' h)
 
@@ -301,12 +308,12 @@ module _ {H : Type 0} (inner : Inner H) (run : Runs inner) where
 
   over_names_alike : (names : Listing) (words : List (List ℕ)) (m : ℕ) (k k' : Next H) → After m k k' → Alike m (over_names inner names words k) (over_names inner names words k')
   over_names_alike (bad_at place) words m k k' h = fails_alike (bad_list place) m k k' h
-  over_names_alike (elements []) words m k k' h = fails_alike (bad_value (word_at words 1) (codes "foreach")) m k k' h
-  over_names_alike (elements (name ∷ names)) words m k k' h = over_values_alike (name ∷ names) (lists.listing (word_at words 2)) (word_at words 3) m k k' h
+  over_names_alike (elements []) words m k k' h = fails_alike (bad_value (arg words 1) (codes "foreach")) m k k' h
+  over_names_alike (elements (name ∷ names)) words m k k' h = over_values_alike (name ∷ names) (lists.listing (arg words 2)) (arg words 3) m k k' h
 
   do_foreach_alike : (words : List (List ℕ)) (m : ℕ) (k k' : Next H) → After m k k' → Alike m (do_foreach inner words k) (do_foreach inner words k')
   do_foreach_alike words m k k' h =
-      choice (length words == 4) m _ _ _ _ (over_names_alike (lists.listing (word_at words 1)) words m k k' h) (give_alike (wrong_words words) m k k' h)
+      choice (length words == 4) m _ _ _ _ (over_names_alike (lists.listing (arg words 1)) words m k k' h) (give_alike (wrong_words words) m k k' h)
 
   -- ---- switch
 
@@ -316,7 +323,7 @@ module _ {H : Type 0} (inner : Inner H) (run : Runs inner) where
 
   by_pairs_alike : (globs : Bool) (bytes : List ℕ) (pairs : List (List ℕ)) (m : ℕ) (k k' : Next H) → After m k k' → Alike m (by_pairs inner globs bytes pairs k) (by_pairs inner globs bytes pairs k')
   by_pairs_alike globs bytes pairs m k k' h =
-      choice (bytes_eq (word_at pairs (length pairs - 1)) (codes "-")) m _ _ _ _
+      choice (bytes_eq (arg pairs (length pairs - 1)) (codes "-")) m _ _ _ _
       (fails_alike (bad_value (codes "-") (codes "switch")) m k k' h) (run_body_alike (body_for globs bytes pairs) m k k' h)
 
   by_listing_alike : (globs : Bool) (bytes list : List ℕ) (pairs : Listing) (m : ℕ) (k k' : Next H) → After m k k' → Alike m (by_listing inner globs bytes list pairs k) (by_listing inner globs bytes list pairs k')
@@ -350,23 +357,84 @@ module _ {H : Type 0} (inner : Inner H) (run : Runs inner) where
 
   do_catch_alike : (words : List (List ℕ)) (m : ℕ) (k k' : Next H) → After m k k' → Alike m (do_catch inner words k) (do_catch inner words k')
   do_catch_alike words m k k' h =
-      choice (length words == 2) m _ _ _ _ (run (unread (word_at words 1)) m (catch_end None k) (catch_end None k') (catch_end_after None m k k' h))
+      choice (length words == 2) m _ _ _ _ (run (unread (arg words 1)) m (catch_end None k) (catch_end None k') (catch_end_after None m k k' h))
       (choice (length words == 3) m _ _ _ _
-      (run (unread (word_at words 1)) m (catch_end (Some (word_at words 2)) k) (catch_end (Some (word_at words 2)) k') (catch_end_after (Some (word_at words 2)) m k k' h))
+      (run (unread (arg words 1)) m (catch_end (Some (arg words 2)) k) (catch_end (Some (arg words 2)) k') (catch_end_after (Some (arg words 2)) m k k' h))
       (give_alike (wrong_words words) m k k' h))
 
-module _ {H : Type 0} (t : LeafTable H) where
-  leaf_alike : (levels : ℕ) (words : List (List ℕ)) (said : Leaf H) (m : ℕ) (k k' : Next H) → After m k k' → (s : State H) (b : ℕ) (g : Given) → b ≤ m → leaf t levels words said k s b g ≡ leaf t levels words said k' s b g
-  leaf_alike levels words (says code result host) m k k' h s b g le = h code result (with_host s host) b g le
-  leaf_alike levels words (defines def host) m k k' h s b g le = h 0 [] (listing (with_host s host) def) b g le
-  leaf_alike levels words (stores name value result host) m k k' h s b g le = write_variable_alike name value result m k k' h (with_host s host) b g le
-  leaf_alike levels words (not_mine host) m k k' h s b g le = fails_alike (unknown_command (word_at words 0)) m k k' h (with_host s host) b g le
-  leaf_alike levels words (wants question host) m k k' h s b [] le = refl
-  leaf_alike levels words (wants question host) m k k' h s b (answer ∷ g) le =
+module _ {H : Type 0} (t : LeafTable H) (inner : Inner H) (run : Runs inner) where
+  -- ---- pages
+
+  page_end_alike : (code m : ℕ) (k k' : Next H) → After m k k' → Alike m (page_end code k) (page_end code k')
+  page_end_alike code m k k' h s b g le = h code [] (with_frames s (popped s.frames)) b g le
+
+  text_end_alike : (end : TextEnd H) (m : ℕ) (k k' : Next H) → After m k k' → Alike m (text_end end k) (text_end end k')
+  text_end_alike end m k k' h s b g le = h end.code end.result (with_host s end.host) b g le
+
+  told_alike : (code m : ℕ) (go go' : Rest H) → Alike m go go' → Alike m (told t code go) (told t code go')
+  told_alike code m go go' h s b g le = h (with_host s (t.leaves code s.host)) b g le
+
+  piece_end_after : (go go' : Rest H) (m : ℕ) (k k' : Next H) → Alike m go go' → After m k k' → After m (piece_end t go k) (piece_end t go' k')
+  piece_end_after go go' m k k' on h code result =
+      let all = choice ((code == 6) || (code == 7)) m (page_end code k) go (page_end code k') go' (page_end_alike code m k k' h) on in
+      let one = choice ((code == 2) || (code == 5)) m (page_end 0 k) _ (page_end 0 k') _ (page_end_alike 0 m k k' h) all in
+      choice (code == 0) m go _ go' _ on (told_alike code m _ _ one)
+
+  run_piece_alike : (piece : Piece) (m : ℕ) (k k' : Next H) → After m k k' → Alike m (run_piece t inner piece k) (run_piece t inner piece k')
+  run_piece_alike (pieces.Text bytes) m k k' h = λ s b g le. text_end_alike (t.texts bytes s.host) m k k' h s b g le
+  run_piece_alike (pieces.Script bytes) m k k' h = run (unread bytes) m k k' h
+  run_piece_alike (pieces.Words bytes) m k k' h = run (unread (words_script bytes)) m k k' h
+
+  run_pieces_alike : (ps : List Piece) (m : ℕ) (k k' : Next H) → After m k k' → Alike m (run_pieces t inner ps k) (run_pieces t inner ps k')
+  run_pieces_alike [] m k k' h = told_alike 0 m (page_end 0 k) (page_end 0 k') (page_end_alike 0 m k k' h)
+  run_pieces_alike (p ∷ ps) m k k' h =
+      run_piece_alike p m (piece_end t (run_pieces t inner ps k) k) (piece_end t (run_pieces t inner ps k') k')
+      (piece_end_after (run_pieces t inner ps k) (run_pieces t inner ps k') m k k' (run_pieces_alike ps m k k' h) h)
+
+  run_page_alike : (page : Pieces) (m : ℕ) (k k' : Next H) → After m k k' → Alike m (run_page t inner page k) (run_page t inner page k')
+  run_page_alike page m k k' h = λ s b g le. run_pieces_alike page.list m k k' h (with_frames s (pushed s.frames)) b g le
+
+  -- ---- the host's commands
+
+  set_or_fails_alike : (why : Option VarFault) (name value : List ℕ) (m : ℕ) (k k' : Next H) → After m k k' → Alike m (set_or_fails why name value k) (set_or_fails why name value k')
+  set_or_fails_alike None name value m k k' h s b g le = h 0 value (listing (with_frames s (globally_written s.frames name value)) (defs.Set name value)) b g le
+  set_or_fails_alike (Some why) name value m k k' h s b g le = fails_alike (variable_fault why name) m k k' h s b g le
+
+  set_global_alike : (name value : List ℕ) (m : ℕ) (k k' : Next H) → After m k k' → Alike m (set_global name value k) (set_global name value k')
+  set_global_alike name value m k k' h =
+      choice (nat_lt most_bytes (length value)) m (k 1 too_long) _ (k' 1 too_long) _ (h 1 too_long)
+      (λ s b g le. set_or_fails_alike (global_fault s.frames name) name value m k k' h s b g le)
+
+  make_alike : (def : Def) (m : ℕ) (k k' : Next H) → After m k k' → Alike m (make def k) (make def k')
+  make_alike (defs.Proc name params body) m k k' h s b g le = h 0 [] (listing s (defs.Proc name params body)) b g le
+  make_alike (defs.Rename old new) m k k' h s b g le = h 0 [] (listing s (defs.Rename old new)) b g le
+  make_alike (defs.Route method url inherit words) m k k' h s b g le = h 0 [] (listing s (defs.Route method url inherit words)) b g le
+  make_alike (defs.Filter when method pattern words) m k k' h s b g le = h 0 [] (listing s (defs.Filter when method pattern words)) b g le
+  make_alike (defs.Cleanup script) m k k' h s b g le = h 0 [] (listing s (defs.Cleanup script)) b g le
+  make_alike (defs.Set name value) m k k' h s b g le = set_global_alike name value m k k' h s b g le
+
+  define_alike : (def : Def) (words : List (List ℕ)) (m : ℕ) (k k' : Next H) → After m k k' → Alike m (define def words k) (define def words k')
+  define_alike def words m k k' h =
+      choice (is_for_host def) m (make def k) (fails (unknown_command (arg words 0)) k) (make def k') (fails (unknown_command (arg words 0)) k') (make_alike def m k k' h)
+      (fails_alike (unknown_command (arg words 0)) m k k' h)
+
+  resumed_alike : (said : Onward H) (go go' : Leaf H → Out H) (m : ℕ) (k k' : Next H) → ((l : Leaf H) → go l ≡ go' l) → After m k k' → (s : State H) (b : ℕ) (g : Given) → b ≤ m → resumed t inner said go k s b g ≡ resumed t inner said go' k' s b g
+  resumed_alike (goes said) go go' m k k' on h s b g le = on said
+  resumed_alike (enters page host) go go' m k k' on h s b g le = run_page_alike page m k k' h (with_host s host) b g le
+
+  leaf_alike : (words : List (List ℕ)) (said : Leaf H) (m : ℕ) (k k' : Next H) → After m k k' → (s : State H) (b : ℕ) (g : Given) → b ≤ m → leaf t inner words said k s b g ≡ leaf t inner words said k' s b g
+  leaf_alike words (says code result host) m k k' h s b g le = h code result (with_host s host) b g le
+  leaf_alike words (defines def host) m k k' h s b g le = define_alike def words m k k' h (with_host s host) b g le
+  leaf_alike words (stores name value result host) m k k' h s b g le = write_variable_alike name value result m k k' h (with_host s host) b g le
+  leaf_alike words (not_mine host) m k k' h s b g le = fails_alike (unknown_command (arg words 0)) m k k' h (with_host s host) b g le
+  leaf_alike words (wants question host) m k k' h s b [] le = refl
+  leaf_alike words (wants question host) m k k' h s b (answer ∷ g) le =
       let cost : ℕ = answer.1 + answer_cost answer.0 in
-      let said : Leaf H = t.answers words answer.0 host in
-      either (nat_lt b cost) (spent (with_host s host)) (leaf t levels words said k (with_host s host) (b - cost) g) (spent (with_host s host)) (leaf t levels words said k' (with_host s host) (b - cost) g) refl
-      (leaf_alike levels words said m k k' h (with_host s host) (b - cost) g (omega (arith, le)))
+      let s' : State H = with_host s host in
+      let less : b - cost ≤ m = omega (arith, le) in
+      either (nat_lt b cost) (spent s') (onward t inner words (t.answers words answer.0 host) k s' (b - cost) g) (spent s') (onward t inner words (t.answers words answer.0 host) k' s' (b - cost) g) refl
+      (resumed_alike (t.answers words answer.0 host) (λ said. leaf t inner words said k s' (b - cost) g) (λ said. leaf t inner words said k' s' (b - cost) g) m k k'
+      (λ said. leaf_alike words said m k k' h s' (b - cost) g less) h s' (b - cost) g less)
 
 module _ {H : Type 0} (ns : Names) (t : LeafTable H) (inner : Inner H) (run : Runs inner) where
   built_in_alike : (v : Verb) (words : List (List ℕ)) (m : ℕ) (k k' : Next H) → After m k k' → Alike m (built_in ns t inner v words k) (built_in ns t inner v words k')
@@ -385,21 +453,21 @@ module _ {H : Type 0} (ns : Names) (t : LeafTable H) (inner : Inner H) (run : Ru
   built_in_alike verb.Foreach words m k k' h = do_foreach_alike inner run words m k k' h
   built_in_alike verb.Switch words m k k' h = by_options_alike inner run (options false (drop 1 words)) words m k k' h
   built_in_alike verb.Info words m k k' h = do_info_alike words m k k' h
-  built_in_alike verb.Other words m k k' h = λ s b g le. leaf_alike t inner.levels words (t.calls words s.host) m k k' h s b g le
+  built_in_alike verb.Other words m k k' h = λ s b g le. leaf_alike t inner run words (t.calls words s.host) m k k' h s b g le
 
   built_alike : (words : List (List ℕ)) (m : ℕ) (k k' : Next H) → After m k k' → Alike m (built ns t inner words k) (built ns t inner words k')
   built_alike words m k k' h =
-      choice (has_name ns (word_at words 0)) m _ _ _ _ (call_native_alike words m k k' h)
+      choice (has_name ns (arg words 0)) m _ _ _ _ (call_native_alike words m k k' h)
       (choice (begins_var_command words) m _ _ _ _ (λ s b g le. came_next_alike (var_came s.frames words) m k k' h s b g le)
-      (built_in_alike (verb_of (word_at words 0)) words m k k' h))
+      (built_in_alike (verb_of (arg words 0)) words m k k' h))
 
   run_command_alike : (found : Option Cmd) (words : List (List ℕ)) (m : ℕ) (k k' : Next H) → After m k k' → Alike m (run_command ns t inner found words k) (run_command ns t inner found words k')
-  run_command_alike None words m k k' h = fails_alike (unknown_command (word_at words 0)) m k k' h
+  run_command_alike None words m k k' h = fails_alike (unknown_command (arg words 0)) m k k' h
   run_command_alike (Some (commands.Built name)) words m k k' h = built_alike (name ∷ drop 1 words) m k k' h
-  run_command_alike (Some (commands.Proc params body)) words m k k' h = call_bound_alike inner run (bound params (word_at words 0) (drop 1 words)) body m k k' h
+  run_command_alike (Some (commands.Proc params body)) words m k k' h = call_bound_alike inner run (bound params (arg words 0) (drop 1 words)) body m k k' h
 
   act_alike : (words : List (List ℕ)) (m : ℕ) (k k' : Next H) → After m k k' → Alike m (act ns t inner words k) (act ns t inner words k')
-  act_alike words m k k' h = λ s b g le. run_command_alike (command_of s.commands (word_at words 0)) words m k k' h s b g le
+  act_alike words m k k' h = λ s b g le. run_command_alike (command_of s.commands (arg words 0)) words m k k' h s b g le
 
   command_alike : (words : List (List ℕ)) (m : ℕ) (k k' : Next H) → After m k k' → Alike m (command ns t inner words k) (command ns t inner words k')
   command_alike words m k k' h =

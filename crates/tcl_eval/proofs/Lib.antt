@@ -1,8 +1,14 @@
 pub mod Acts
 pub mod Alike
+pub mod Bases
 pub mod Branches
+pub mod Every
 pub mod Expressions
+pub mod Laws
+pub mod Made
 pub mod Turns
+pub mod Counts
+pub mod Pages
 pub mod Pairs
 pub mod Rows
 pub mod Stacks

@@ -2,7 +2,7 @@
 use Rattle.std.proofs.Common.{◌≡◌, ◌≤◌, ℕ, ◌-◌, List, [], ◌∷◌, length, take, drop, Bool, true, false, not, cond, slice_index_or, refl, sym, ap, ◌∙◌, arith}
 use Rattle.std.specs.Prelude.{bytes_eq, codes}
 use Rattle.std.proofs.lemmas.List.{take_rest, get_or_default}
-use Rattle.tcl_eval.specs.Words.{word_at}
+use Rattle.tcl_eval.specs.Words.{arg}
 use Rattle.tcl_eval.specs.Switch.{body_or_next}
 
 holds : (b : Bool) → false ≡ not b → b ≡ true
@@ -19,5 +19,5 @@ next_pair chosen next (x ∷ y ∷ rest) enough is dash =
     ∙ sym (ap (λ (c : Bool). cond c (body_or_next y rest) chosen) (holds (bytes_eq chosen (codes "-")) dash))
 
 -- the last word
-pub last_word : (words : List (List ℕ)) (last : List ℕ) → 1 ≤ length words → last ≡ slice_index_or words (length words - 1) last → last ≡ word_at words (length words - 1)
+pub last_word : (words : List (List ℕ)) (last : List ℕ) → 1 ≤ length words → last ≡ slice_index_or words (length words - 1) last → last ≡ arg words (length words - 1)
 last_word words last enough is = is ∙ get_or_default words (length words - 1) last [] (omega (arith, enough))

@@ -2,7 +2,7 @@
 use Rattle.std.proofs.Common.{◌≡◌, ℕ, zero, suc, ◌+◌, ◌<◌, ◌≤◌, List, [], ◌∷◌, ◌++◌, map, length, Option, Some, None, Bool, true, false, refl, sym, ap, ◌∙◌, arith, add-one, nat_lt, subst}
 use Rattle.std.specs.Prelude.{slice_get, unwrap_or}
 use Rattle.std.proofs.lemmas.Option.{unwrap_or-slice_get}
-use Rattle.tcl_eval.specs.Eval.{word_at}
+use Rattle.tcl_eval.specs.Eval.{arg}
 use Rattle.std.proofs.lemmas.Bool.{ltb-true, ltb-false}
 use Rattle.tcl_parse.specs.Tree.{Part, element, Parts, no_parts, part, Words, no_words, word, no_commands, command, parts, words, commands}
 use Rattle.tcl_parse.specs.View.{part_step, command_step, script_step, word_step, part_of, word_of, command_of, script_of}
@@ -155,5 +155,5 @@ some_at_place found at path whole x seen is e look =
     seen_at seen (part_of x) (parts_from at (walk path whole)) (parts_from (at + 1) (walk path whole)) look
     (sym (ap (parts_from at) is) ∙ some_piece found at x e ∙ ap (λ (ps : Parts). part (part_of x) (parts_from (at + 1) ps)) is)
 
-pub no_word_at : (words : List (List ℕ)) (place : ℕ) → None ≡ slice_get words place → [] ≡ word_at words place
+pub no_word_at : (words : List (List ℕ)) (place : ℕ) → None ≡ slice_get words place → [] ≡ arg words place
 no_word_at words place none = ap (λ (o : Option (List ℕ)). unwrap_or o []) none ∙ unwrap_or-slice_get words place []

@@ -8,7 +8,7 @@ use Rattle.txt_core.specs.Listing.{listing}
 use Rattle.tcl_eval.specs.Natives.{Names}
 use Rattle.tcl_eval.specs.State.{State, LeafTable, Given, Out, Rest, Next, spent}
 use Rattle.tcl_eval.specs.Parameters.{Values}
-use Rattle.tcl_eval.specs.Eval.{Inner, unread, nested, on_ok, by_truth, give, write_all, wrong_words, word_at, fails}
+use Rattle.tcl_eval.specs.Eval.{Inner, unread, nested, on_ok, by_truth, give, write_all, wrong_words, arg, fails}
 use Rattle.tcl_eval.specs.Expressions.{evaluate}
 use Rattle.tcl_eval.specs.Messages.{bad_list}
 use Rattle.tcl_eval.specs.Loops.{assigned, in_loop, between, turns, turn_body, turn_on, do_while, do_for, walk_on, walk_all, over_values, over_names, do_foreach}
@@ -72,28 +72,28 @@ module _ {H : Type 0} (ns : Names) (t : LeafTable H) where
       ∙ loop_on code result (between inner turning.value.next go k) k s b g on
 
   -- a loop is read off its words
-  pub while_step : (inner : Inner H) (words : List (List ℕ)) (condition body : List ℕ) (k : Next H) (s : State H) (b : ℕ) (g : Given) (x : Out H) → length words ≡ 3 → condition ≡ word_at words 1 → body ≡ word_at words 2 → x ≡ turn_on inner (record { condition = condition; next = None; body = body }) k s b g → x ≡ do_while inner words k s b g
+  pub while_step : (inner : Inner H) (words : List (List ℕ)) (condition body : List ℕ) (k : Next H) (s : State H) (b : ℕ) (g : Given) (x : Out H) → length words ≡ 3 → condition ≡ arg words 1 → body ≡ arg words 2 → x ≡ turn_on inner (record { condition = condition; next = None; body = body }) k s b g → x ≡ do_while inner words k s b g
   while_step inner words condition body k s b g x three first second e =
-      let all : Turning = record { condition = word_at words 1; next = None; body = word_at words 2 } in
+      let all : Turning = record { condition = arg words 1; next = None; body = arg words 2 } in
       e
       ∙ ap (λ (v : List ℕ). turn_on inner (record { condition = v; next = None; body = body }) k s b g) first
-      ∙ ap (λ (v : List ℕ). turn_on inner (record { condition = word_at words 1; next = None; body = v }) k s b g) second
+      ∙ ap (λ (v : List ℕ). turn_on inner (record { condition = arg words 1; next = None; body = v }) k s b g) second
       ∙ sym (ap (λ (c : Bool). (cond c (turn_on inner all k) (give (wrong_words words) k)) s b g) (eq-eqb (length words) 3 three))
 
-  pub for_step : (fs fs1 : List Frame) (words : List (List ℕ)) (shared : _) (levels : ℕ) (start condition next body : List ℕ) (s : State H) (b : ℕ) (g : Given) (x : Out H) → fs1 ≡ fs ++ Branching (branch.Start shared levels) ∷ [] → length words ≡ 5 → shared.value ≡ record { condition = condition; next = Some next; body = body } → start ≡ word_at words 1 → condition ≡ word_at words 2 → next ≡ word_at words 3 → body ≡ word_at words 4 → x ≡ (nested ns t levels).run (unread start) (stack_next ns t fs1) s b g → x ≡ do_for (nested ns t levels) words (stack_next ns t fs) s b g
+  pub for_step : (fs fs1 : List Frame) (words : List (List ℕ)) (shared : _) (levels : ℕ) (start condition next body : List ℕ) (s : State H) (b : ℕ) (g : Given) (x : Out H) → fs1 ≡ fs ++ Branching (branch.Start shared levels) ∷ [] → length words ≡ 5 → shared.value ≡ record { condition = condition; next = Some next; body = body } → start ≡ arg words 1 → condition ≡ arg words 2 → next ≡ arg words 3 → body ≡ arg words 4 → x ≡ (nested ns t levels).run (unread start) (stack_next ns t fs1) s b g → x ≡ do_for (nested ns t levels) words (stack_next ns t fs) s b g
   for_step fs fs1 words shared levels start condition next body s b g x push five is first second third fourth e =
       let inner = nested ns t levels in
       let k = stack_next ns t fs in
-      let all : Turning = record { condition = word_at words 2; next = Some (word_at words 3); body = word_at words 4 } in
+      let all : Turning = record { condition = arg words 2; next = Some (arg words 3); body = arg words 4 } in
       let go : Turning → List ℕ → Out H = λ (v : Turning) (text : List ℕ). inner.run (unread text) (on_ok (λ _. turn_on inner v k) k) s b g in
       e
       ∙ ap (λ (y : Next H). inner.run (unread start) y s b g) (pushed ns t fs fs1 (Branching (branch.Start shared levels)) push)
       ∙ ap (λ (v : Turning). go v start) is
       ∙ ap (λ (v : List ℕ). go (record { condition = condition; next = Some next; body = body }) v) first
-      ∙ ap (λ (v : List ℕ). go (record { condition = v; next = Some next; body = body }) (word_at words 1)) second
-      ∙ ap (λ (v : List ℕ). go (record { condition = word_at words 2; next = Some v; body = body }) (word_at words 1)) third
-      ∙ ap (λ (v : List ℕ). go (record { condition = word_at words 2; next = Some (word_at words 3); body = v }) (word_at words 1)) fourth
-      ∙ sym (ap (λ (c : Bool). (cond c (inner.run (unread (word_at words 1)) (on_ok (λ _. turn_on inner all k) k)) (give (wrong_words words) k)) s b g) (eq-eqb (length words) 5 five))
+      ∙ ap (λ (v : List ℕ). go (record { condition = v; next = Some next; body = body }) (arg words 1)) second
+      ∙ ap (λ (v : List ℕ). go (record { condition = arg words 2; next = Some v; body = body }) (arg words 1)) third
+      ∙ ap (λ (v : List ℕ). go (record { condition = arg words 2; next = Some (arg words 3); body = v }) (arg words 1)) fourth
+      ∙ sym (ap (λ (c : Bool). (cond c (inner.run (unread (arg words 1)) (on_ok (λ _. turn_on inner all k) k)) (give (wrong_words words) k)) s b g) (eq-eqb (length words) 5 five))
 
 -- ---- walks
 
@@ -135,33 +135,33 @@ module _ {H : Type 0} (ns : Names) (t : LeafTable H) where
       ∙ ap (λ (n : ℕ). walk_on inner walk.names walk.body (div_ceil (length walk.values) n) walk.values k s b g) each
 
   -- names, of which there is one at least
-  over_some : (inner : Inner H) (words names values : List (List ℕ)) (body : List ℕ) (k : Next H) (s : State H) (b : ℕ) (g : Given) (x : Out H) → length names ≢ 0 → listing (word_at words 2) ≡ elements values → body ≡ word_at words 3 → x ≡ walk_all inner names values body k s b g → x ≡ over_names inner (elements names) words k s b g
+  over_some : (inner : Inner H) (words names values : List (List ℕ)) (body : List ℕ) (k : Next H) (s : State H) (b : ℕ) (g : Given) (x : Out H) → length names ≢ 0 → listing (arg words 2) ≡ elements values → body ≡ arg words 3 → x ≡ walk_all inner names values body k s b g → x ≡ over_names inner (elements names) words k s b g
   over_some inner words [] values body k s b g x some second third e = absurd (some refl)
   over_some inner words (name ∷ names) values body k s b g x some second third e =
       e
       ∙ ap (λ (v : List ℕ). walk_all inner (name ∷ names) values v k s b g) third
-      ∙ sym (ap (λ (l : Listing). over_values inner (name ∷ names) l (word_at words 3) k s b g) second)
+      ∙ sym (ap (λ (l : Listing). over_values inner (name ∷ names) l (arg words 3) k s b g) second)
 
   -- the words of a loop over values were read
-  pub foreach_step : (inner : Inner H) (words names values : List (List ℕ)) (first second body : List ℕ) (k : Next H) (s : State H) (b : ℕ) (g : Given) (x : Out H) → length words ≡ 4 → first ≡ word_at words 1 → listing first ≡ elements names → length names ≢ 0 → second ≡ word_at words 2 → listing second ≡ elements values → body ≡ word_at words 3 → x ≡ walk_all inner names values body k s b g → x ≡ do_foreach inner words k s b g
+  pub foreach_step : (inner : Inner H) (words names values : List (List ℕ)) (first second body : List ℕ) (k : Next H) (s : State H) (b : ℕ) (g : Given) (x : Out H) → length words ≡ 4 → first ≡ arg words 1 → listing first ≡ elements names → length names ≢ 0 → second ≡ arg words 2 → listing second ≡ elements values → body ≡ arg words 3 → x ≡ walk_all inner names values body k s b g → x ≡ do_foreach inner words k s b g
   foreach_step inner words names values first second body k s b g x four one named some two listed three e =
-      let names_are : listing (word_at words 1) ≡ elements names = sym (ap (λ (v : List ℕ). listing v) one) ∙ named in
-      let values_are : listing (word_at words 2) ≡ elements values = sym (ap (λ (v : List ℕ). listing v) two) ∙ listed in
+      let names_are : listing (arg words 1) ≡ elements names = sym (ap (λ (v : List ℕ). listing v) one) ∙ named in
+      let values_are : listing (arg words 2) ≡ elements values = sym (ap (λ (v : List ℕ). listing v) two) ∙ listed in
       over_some inner words names values body k s b g x some values_are three e
       ∙ sym (ap (λ (l : Listing). over_names inner l words k s b g) names_are)
-      ∙ sym (ap (λ (c : Bool). (cond c (over_names inner (listing (word_at words 1)) words k) (give (wrong_words words) k)) s b g) (eq-eqb (length words) 4 four))
+      ∙ sym (ap (λ (c : Bool). (cond c (over_names inner (listing (arg words 1)) words k) (give (wrong_words words) k)) s b g) (eq-eqb (length words) 4 four))
 
   -- names, of which there is one at least, and values that are no list
-  over_bad : (inner : Inner H) (words names : List (List ℕ)) (place : ℕ) (k : Next H) (s : State H) (b : ℕ) (g : Given) (x : Out H) → length names ≢ 0 → listing (word_at words 2) ≡ bad_at place → x ≡ fails (bad_list place) k s b g → x ≡ over_names inner (elements names) words k s b g
+  over_bad : (inner : Inner H) (words names : List (List ℕ)) (place : ℕ) (k : Next H) (s : State H) (b : ℕ) (g : Given) (x : Out H) → length names ≢ 0 → listing (arg words 2) ≡ bad_at place → x ≡ fails (bad_list place) k s b g → x ≡ over_names inner (elements names) words k s b g
   over_bad inner words [] place k s b g x some second e = absurd (some refl)
   over_bad inner words (name ∷ names) place k s b g x some second e =
-      e ∙ sym (ap (λ (l : Listing). over_values inner (name ∷ names) l (word_at words 3) k s b g) second)
+      e ∙ sym (ap (λ (l : Listing). over_values inner (name ∷ names) l (arg words 3) k s b g) second)
 
   -- the words of a loop over values were read, but its values are no list
-  pub foreach_bad_step : (inner : Inner H) (words names : List (List ℕ)) (first second : List ℕ) (place : ℕ) (k : Next H) (s : State H) (b : ℕ) (g : Given) (x : Out H) → length words ≡ 4 → first ≡ word_at words 1 → listing first ≡ elements names → length names ≢ 0 → second ≡ word_at words 2 → listing second ≡ bad_at place → x ≡ fails (bad_list place) k s b g → x ≡ do_foreach inner words k s b g
+  pub foreach_bad_step : (inner : Inner H) (words names : List (List ℕ)) (first second : List ℕ) (place : ℕ) (k : Next H) (s : State H) (b : ℕ) (g : Given) (x : Out H) → length words ≡ 4 → first ≡ arg words 1 → listing first ≡ elements names → length names ≢ 0 → second ≡ arg words 2 → listing second ≡ bad_at place → x ≡ fails (bad_list place) k s b g → x ≡ do_foreach inner words k s b g
   foreach_bad_step inner words names first second place k s b g x four one named some two bad e =
-      let names_are : listing (word_at words 1) ≡ elements names = sym (ap (λ (v : List ℕ). listing v) one) ∙ named in
-      let values_are : listing (word_at words 2) ≡ bad_at place = sym (ap (λ (v : List ℕ). listing v) two) ∙ bad in
+      let names_are : listing (arg words 1) ≡ elements names = sym (ap (λ (v : List ℕ). listing v) one) ∙ named in
+      let values_are : listing (arg words 2) ≡ bad_at place = sym (ap (λ (v : List ℕ). listing v) two) ∙ bad in
       over_bad inner words names place k s b g x some values_are e
       ∙ sym (ap (λ (l : Listing). over_names inner l words k s b g) names_are)
-      ∙ sym (ap (λ (c : Bool). (cond c (over_names inner (listing (word_at words 1)) words k) (give (wrong_words words) k)) s b g) (eq-eqb (length words) 4 four))
+      ∙ sym (ap (λ (c : Bool). (cond c (over_names inner (listing (arg words 1)) words k) (give (wrong_words words) k)) s b g) (eq-eqb (length words) 4 four))

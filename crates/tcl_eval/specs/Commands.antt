@@ -9,7 +9,7 @@ use Rattle.tcl_varcmd.specs.Answers.{Came, gives as gives_text, fails as fails_w
 use Rattle.tcl_frame.specs.Frames.{pushed}
 use Rattle.tcl_eval.specs.declared.parameter.Parameter.{Parameter}
 use Rattle.tcl_eval.specs.Parameters.{parameters, Values, bound}
-use Rattle.tcl_eval.specs.Words.{word_at, joined}
+use Rattle.tcl_eval.specs.Words.{arg, joined}
 use Rattle.tcl_eval.specs.Messages.{command_exists, no_command}
 use Rattle.tcl_eval.specs.Results.{wrong_words}
 use Rattle.tcl_eval.specs.Going.{Inner, unread, give, fails, with_frames, with_def, write_variable, write_all, proc_end}
@@ -17,11 +17,11 @@ use Rattle.tcl_eval.specs.State.{Rest, Next}
 
 -- the definition that `rename` makes, and what it answers: first that the old name is no command, then that the new one is
 abbrev pub rename_of : List (List ℕ) → Def
-rename_of words = definitions.Rename (word_at words 1) (word_at words 2)
+rename_of words = definitions.Rename (arg words 1) (arg words 2)
 
 -- the definition that `proc` makes
 abbrev pub proc_of : List (List ℕ) → Def
-proc_of words = definitions.Proc (word_at words 1) (word_at words 2) (word_at words 3)
+proc_of words = definitions.Proc (arg words 1) (arg words 2) (arg words 3)
 
 module _ {H : Type 0} where
   abbrev pub call_bound : Inner H → Result Values (List ℕ) → List ℕ → Next H → Rest H
@@ -31,7 +31,7 @@ module _ {H : Type 0} where
 
   -- A procedure is called: in a frame of its own its parameters get their values, and its body is run as a script.
   abbrev pub call_proc : Inner H → List ℕ → List ℕ → List (List ℕ) → Next H → Rest H
-  call_proc inner params body words k = call_bound inner (bound params (word_at words 0) (drop 1 words)) body k
+  call_proc inner params body words k = call_bound inner (bound params (arg words 0) (drop 1 words)) body k
 
   -- ---- built-ins
 
@@ -43,17 +43,17 @@ module _ {H : Type 0} where
   -- `proc name params body`: its name is from now on that of a procedure, and the definition is listed as made
   abbrev pub do_proc : List (List ℕ) → Next H → Rest H
   do_proc words k =
-      if length words == 4 then define_proc (parameters (word_at words 2)) words k else give (wrong_words words) k
+      if length words == 4 then define_proc (parameters (arg words 2)) words k else give (wrong_words words) k
 
   abbrev pub renamed_as : Renamed → List (List ℕ) → Next H → Rest H
   renamed_as Renamed_done words k = λ state. k 0 [] (with_def state (rename_of words))
-  renamed_as NoOld words k = fails (no_command (word_at words 1)) k
-  renamed_as NewExists words k = fails (command_exists (word_at words 2)) k
+  renamed_as NoOld words k = fails (no_command (arg words 1)) k
+  renamed_as NewExists words k = fails (command_exists (arg words 2)) k
 
   -- `rename old new`: the command has its new name, or goes where that is empty, and the definition is listed as made
   abbrev pub do_rename : List (List ℕ) → Next H → Rest H
   do_rename words k =
-      if length words == 3 then (λ state. renamed_as (rename_answer state.commands (word_at words 1) (word_at words 2)) words k state)
+      if length words == 3 then (λ state. renamed_as (rename_answer state.commands (arg words 1) (arg words 2)) words k state)
       else give (wrong_words words) k
 
   -- `eval word word*`: the words are joined by a space, and run as a script
@@ -69,8 +69,8 @@ module _ {H : Type 0} where
   -- `catch script ?name?`
   abbrev pub do_catch : Inner H → List (List ℕ) → Next H → Rest H
   do_catch inner words k =
-      if length words == 2 then inner.run (unread (word_at words 1)) (catch_end None k)
-      else if length words == 3 then inner.run (unread (word_at words 1)) (catch_end (Some (word_at words 2)) k)
+      if length words == 2 then inner.run (unread (arg words 1)) (catch_end None k)
+      else if length words == 3 then inner.run (unread (arg words 1)) (catch_end (Some (arg words 2)) k)
       else give (wrong_words words) k
 
   -- a command on variables came to this

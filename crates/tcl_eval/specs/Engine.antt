@@ -3,8 +3,14 @@ use Rattle.std.specs.Prelude.{◌≡◌, ◌<◌, ◌≤◌, ◌⊎◌, ℕ, ◌
 use Rattle.outside.specs.declared.question.Answer.{Answer}
 use Rattle.outside.specs.declared.question.Question.{Question}
 use Rattle.outside.specs.declared.question.Service.{Service}
-use Rattle.tcl_eval.specs.State.{State, LeafTable, wants, Given, Out, done, spent, too_deep, Rest, Next}
-use Rattle.tcl_eval.specs.Eval.{give, standing, eval}
+use Rattle.tcl_eval.specs.State.{State, LeafTable, wants, goes, Given, Out, done, spent, too_deep, Rest, Next}
+use Rattle.tcl_eval.specs.Eval.{give, nested, standing, eval}
+use Rattle.cmd_table.specs.Commands.{Writes}
+use Rattle.cmd_table.specs.Table.{mark_of, Keeps as KeepsMarks}
+use Rattle.cmd_table.specs.declared.definition.Def.{Def}
+use Rattle.cmd_table.specs.declared.definition.Def.TheVariants as defs
+use Rattle.tcl_frame.specs.Stack.{Stack}
+use Rattle.tcl_frame.specs.Base.{IsAtBase, kept}
 use Rattle.tcl_eval.specs.Natives.{Names}
 use Rattle.tcl_eval.specs.Stack.{stack_next, stack_free, step_free}
 use Rattle.tcl_eval.specs.declared.engine.Engine.{Engine}
@@ -14,8 +20,8 @@ use Rattle.tcl_eval.specs.declared.stack.Settled.TheVariants as settled
 use Rattle.tcl_eval.specs.declared.stack.Step.{Step}
 use Rattle.tcl_eval.specs.declared.stack.Acted.{Acted}
 use Rattle.tcl_eval.specs.declared.stack.Acted.TheVariants as acted
-use Rattle.tcl_eval.specs.declared.host.HostReply.{HostReply}
-use Rattle.tcl_eval.specs.declared.host.HostReply.TheVariants.{Ask}
+use Rattle.tcl_host.specs.declared.host.HostReply.{HostReply}
+use Rattle.tcl_host.specs.declared.host.HostReply.TheVariants as replies
 use Rattle.tcl_eval.specs.declared.stack.Ended.{Ended}
 use Rattle.tcl_eval.specs.declared.outcome.Work.{Work}
 use Rattle.tcl_eval.specs.declared.outcome.Outcome.{Outcome}
@@ -78,10 +84,10 @@ module _ {H : Type 0} where
   abbrev pub IsIdle : Engine H → Type 0
   IsIdle engine = (engine.stack.items ≡ []) × (engine.question ≡ None)
 
-module _ {H : Type 0} (table : LeafTable H) where
+module _ {H : Type 0} (names : Names) (table : LeafTable H) where
   -- what a run makes of answers that stands at a question, which is open so
   abbrev pub asking : Option OpenQuestion → Question → Next H → Rest H
-  asking opened question k = standing table (levels_of opened) (words_of opened) question k
+  asking opened question k = standing table (nested names table (levels_of opened)) (words_of opened) question k
 
   -- what comes after a command that was done
   abbrev pub acted_next : Acted → Option OpenQuestion → Next H → Rest H
@@ -98,7 +104,6 @@ module _ {H : Type 0} (table : LeafTable H) where
   outcome_next TooDeep opened k = λ state budget given. too_deep state
   outcome_next NoMemory opened k = λ state budget given. spent state
 
-module _ {H : Type 0} (names : Names) (table : LeafTable H) where
   -- what a way to go on comes to from an engine, with these answers
   abbrev pub gives : (Next H → Rest H) → Engine H → Given → Out H
   gives way engine = way (stack_next names table engine.stack.items) (state_of engine) engine.budget
@@ -110,7 +115,35 @@ module _ {H : Type 0} (names : Names) (table : LeafTable H) where
   -- What comes of an engine that came to this outcome, with these answers. Want of memory has no meaning: no clause looks at what
   -- stands for it here.
   abbrev pub comes_to : Outcome → Engine H → Given → Out H
-  comes_to outcome engine = gives (outcome_next table outcome engine.question) engine
+  comes_to outcome engine = gives (outcome_next outcome engine.question) engine
+
+-- A base scalar is kept where the variables are exactly the base scalars.
+abbrev pub IsKeepable : Def → Stack → Type 0
+IsKeepable (defs.Set name value) frames = IsAtBase frames
+IsKeepable (defs.Proc name params body) frames = Unit {0}
+IsKeepable (defs.Rename old new) frames = Unit {0}
+IsKeepable (defs.Route method url inherit words) frames = Unit {0}
+IsKeepable (defs.Filter when method pattern words) frames = Unit {0}
+IsKeepable (defs.Cleanup script) frames = Unit {0}
+
+-- the variables behind a definition that is put into the table: a `Set` is kept
+abbrev pub kept_by : Def → Stack → Stack
+kept_by (defs.Set name value) frames = kept frames name value
+kept_by (defs.Proc name params body) frames = frames
+kept_by (defs.Rename old new) frames = frames
+kept_by (defs.Route method url inherit words) frames = frames
+kept_by (defs.Filter when method pattern words) frames = frames
+kept_by (defs.Cleanup script) frames = frames
+
+-- a host's reply enters no page
+abbrev pub IsNoPage : HostReply → Type 0
+IsNoPage (replies.Done code result) = Unit {0}
+IsNoPage (replies.Ask question) = Unit {0}
+IsNoPage (replies.Enter pieces) = ⊥
+IsNoPage (replies.Define def) = Unit {0}
+IsNoPage (replies.Store name value result) = Unit {0}
+IsNoPage replies.NotMine = Unit {0}
+IsNoPage replies.NoMemory = Unit {0}
 
 module _ {H : Type 0} where
   -- an engine with this host
@@ -129,6 +162,22 @@ module _ {H : Type 0} where
   Leaves Spent engine = engine.question ≡ None
   Leaves TooDeep engine = engine.question ≡ None
   Leaves NoMemory engine = Unit {0}
+
+  -- the table is as it was, the definitions made write as many of its entries, and the base scalars are kept
+  abbrev pub Holds : Engine H → Engine H → Type 0
+  Holds new old = (new.table ≡ old.table) × (Writes new.made ≡ Writes old.made) × (new.frames.keeps ≡ old.frames.keeps)
+
+  -- What no run changes, also where memory wants: each mark of the table is one still, and of the same state; the table's mark is
+  -- as much higher as there are more entries that the definitions made write; and the base scalars are those that were kept.
+  abbrev pub Lasts : Engine H → Engine H → Type 0
+  Lasts new old =
+      KeepsMarks old.table new.table
+      × (mark_of new.table + Writes old.made ≡ mark_of old.table + Writes new.made)
+      × (new.frames.keeps ≡ old.frames.keeps)
+
+  -- the same, and so many steps were counted as the definitions that were made meanwhile write entries
+  abbrev pub Counts : ℕ → ℕ → Engine H → Engine H → Type 0
+  Counts after before new old = Lasts new old × (after + Writes old.made ≡ before + Writes new.made)
 
   -- the budget didn't rise, nor did the number of texts that may be run for nothing, and the same question is open, or none
   abbrev pub Keeps : Engine H → Engine H → Type 0
@@ -187,17 +236,24 @@ module _ {H : Type 0} where
   Begins acted.TooDeep engine = engine.question ≡ None
   Begins acted.Spent engine = engine.question ≡ None
 
-  -- the budget fell, where a question is asked
-  abbrev pub FellTo : Outcome → Engine H → Engine H → Type 0
-  FellTo (Done code result) new old = new.budget ≤ old.budget
-  FellTo (Asks question) new old = new.budget < old.budget
-  FellTo Spent new old = new.budget ≤ old.budget
-  FellTo TooDeep new old = new.budget ≤ old.budget
-  FellTo NoMemory new old = new.budget ≤ old.budget
+  -- the budget isn't more than so much, and less where a question is asked
+  abbrev pub FellTo : Outcome → Engine H → ℕ → Type 0
+  FellTo (Done code result) engine budget = engine.budget ≤ budget
+  FellTo (Asks question) engine budget = engine.budget < budget
+  FellTo Spent engine budget = engine.budget ≤ budget
+  FellTo TooDeep engine budget = engine.budget ≤ budget
+  FellTo NoMemory engine budget = engine.budget ≤ budget
+
+  -- the same of what a run begins with
+  abbrev pub Fell : Acted → Engine H → ℕ → Type 0
+  Fell (acted.Gives value) engine budget = engine.budget ≤ budget
+  Fell (acted.Asks question) engine budget = engine.budget < budget
+  Fell acted.TooDeep engine budget = engine.budget ≤ budget
+  Fell acted.Spent engine budget = engine.budget ≤ budget
 
   -- the same of a run that goes on from here; a question that is asked at once changes nothing
   abbrev pub FellFrom : Acted → Outcome → Engine H → Engine H → Type 0
-  FellFrom (acted.Gives value) outcome new old = FellTo outcome new old
+  FellFrom (acted.Gives value) outcome new old = FellTo outcome new old.budget
   FellFrom (acted.Asks question) outcome new old = (outcome ≡ Asks question) × (new ≡ old)
   FellFrom acted.TooDeep outcome new old = (outcome ≡ TooDeep) × (new ≡ old)
   FellFrom acted.Spent outcome new old = (outcome ≡ Spent) × (new ≡ old)
@@ -206,7 +262,7 @@ module _ {H : Type 0} where
   abbrev pub AskedBy : Acted → HostReply → List (List ℕ) → Engine H → Engine H → Type 0
   AskedBy (acted.Gives value) reply words new old = Unit {0}
   AskedBy (acted.Asks question) reply words new old =
-      ((raw : Question) × (reply ≡ Ask raw)) × (open_words new ≡ words) × (new.host ≡ old.host)
+      ((raw : Question) × (reply ≡ replies.Ask raw)) × (open_words new ≡ words) × (new.host ≡ old.host)
   AskedBy acted.TooDeep reply words new old = Unit {0}
   AskedBy acted.Spent reply words new old = Unit {0}
 
@@ -259,7 +315,7 @@ module _ {H : Type 0} (table : LeafTable H) where
   Falls (Done code result) new old answer = new.budget ≤ old.budget
   Falls (Asks question) new old answer =
       (new.budget < old.budget)
-      ⊎ ((new.budget ≤ old.budget) × (open_words new ≡ open_words old) × ((raw : Question) × (table.answers (open_words old) answer old.host ≡ wants raw new.host)))
+      ⊎ ((new.budget ≤ old.budget) × (open_words new ≡ open_words old) × ((raw : Question) × (table.answers (open_words old) answer old.host ≡ goes (wants raw new.host))))
   Falls Spent new old answer = new.budget ≤ old.budget
   Falls TooDeep new old answer = new.budget ≤ old.budget
   Falls NoMemory new old answer = Unit {0}

@@ -1,6 +1,7 @@
 -- What a script does: it is replayed from its text, with the list of all answers that are given. Each definition takes what
--- comes after it as an argument. Codes are 0 for a good end, 1 for an error, 2 for a return, 3 for a break, 4 for a continue.
-use Rattle.std.specs.Prelude.{ℕ, zero, suc, ◌+◌, ◌-◌, List, [], ◌∷◌, ◌++◌, length, drop, nat_lt, if◌then◌else◌, bytes_eq, codes, decimal, Option, Some, None}
+-- comes after it as an argument. Codes are 0 for a good end, 1 for an error, 2 for a return, 3 for a break, 4 for a continue, and
+-- 5, 6 and 7 leave a page.
+use Rattle.std.specs.Prelude.{Bool, true, false, not, ℕ, zero, suc, ◌+◌, ◌-◌, List, [], ◌∷◌, ◌++◌, length, drop, nat_lt, if◌then◌else◌, bytes_eq, codes, decimal, Option, Some, None}
 use Rattle.outside.specs.declared.question.Question.{Question}
 use Rattle.outside.specs.declared.question.Service.{Service}
 use Rattle.outside.specs.declared.question.Service.TheVariants.{Page as Pages, Nsv, Schedule, Publish, Save, Inner as Inner_run}
@@ -9,17 +10,22 @@ use Rattle.tcl_parse.specs.Tree as tree
 use Rattle.tcl_parse.specs.Outcome as parsed
 use Rattle.tcl_parse.specs.Reading.{reading}
 use Rattle.cmd_table.specs.Table.{command_of}
+use Rattle.cmd_table.specs.declared.definition.Def.{Def}
+use Rattle.cmd_table.specs.declared.definition.Def.TheVariants as defs
 use Rattle.cmd_table.specs.declared.command.Cmd.{Cmd}
 use Rattle.cmd_table.specs.declared.command.Cmd.TheVariants as commands
 use Rattle.cmd_table.specs.declared.command.Cmd.TheVariants.{Built}
 use Rattle.natives.specs.Names.{has_name}
+use Rattle.tcl_frame.specs.declared.fault.VarFault.{VarFault}
+use Rattle.tcl_frame.specs.Names.{named, is_element}
+use Rattle.tcl_frame.specs.Frames.{global_fault, globally_written}
 use Rattle.tcl_varcmd.specs.Commands.{begins_var_command, var_came}
 use Rattle.tcl_eval.specs.declared.verb.Verb.{Verb}
 use Rattle.tcl_eval.specs.declared.verb.Verb.TheVariants.{Proc, Return, Error, Break, Continue, Rename, Eval, Catch, Expr, If, While, For, Foreach, Switch, Info, Other}
 use Rattle.tcl_eval.specs.declared.outcome.Work.{Work}
-use Rattle.tcl_eval.specs.declared.outcome.Work.TheVariants.{Script as script_work, Call}
-pub use Rattle.tcl_eval.specs.Words.{word_at, joined}
-use Rattle.tcl_eval.specs.Messages.{unknown_command, fault_text}
+use Rattle.tcl_eval.specs.declared.outcome.Work.TheVariants.{Script as script_work, Call, Page as page_work}
+pub use Rattle.tcl_eval.specs.Words.{arg, joined}
+use Rattle.tcl_eval.specs.Messages.{unknown_command, fault_text, variable_fault, too_long}
 pub use Rattle.tcl_eval.specs.Results.{most_levels, most_bytes, bytes_for_one, command_cost, answer_cost, element_name, ended, shortened, error_of, wrong_words, return_of, raised_of, break_of, continue_of, returned, result_or_fault, read_as, stored_of, written_or_same, stored}
 pub use Rattle.tcl_eval.specs.Going.{Source, unread, read, Inner, on_ok, pay, give, fails, limited, charged, command_end, word_end, with_host, with_frames, listing, with_def, read_variable, write_variable, proc_end, write_all, by_truth}
 pub use Rattle.tcl_eval.specs.Pieces.{run_part, run_parts}
@@ -30,7 +36,8 @@ pub use Rattle.tcl_eval.specs.Loops.{do_while, do_for, do_foreach}
 pub use Rattle.tcl_eval.specs.Switch.{do_switch}
 pub use Rattle.tcl_eval.specs.Info.{do_info}
 pub use Rattle.tcl_eval.specs.Natives.{call_native}
-use Rattle.tcl_eval.specs.State.{Leaf, says, wants, defines, stores, not_mine, LeafTable, done, asks, spent, too_deep, Rest, Next}
+pub use Rattle.tcl_eval.specs.Pages.{run_page}
+use Rattle.tcl_eval.specs.State.{Leaf, says, wants, defines, stores, not_mine, Onward, goes, enters, LeafTable, Out, done, asks, spent, too_deep, Rest, Next}
 
 -- the built-ins that are done here; any other name is the host's
 abbrev pub verb_of : List ℕ → Verb
@@ -65,29 +72,78 @@ addressed_to Save levels question = question
 abbrev pub addressed : ℕ → Question → Question
 addressed levels question = addressed_to question.service levels question
 
+-- Whether a definition is a host's to make: procedures and renames aren't, nor is a global scalar whose name has the form of an
+-- element's.
+abbrev pub is_for_host : Def → Bool
+is_for_host (defs.Proc name params body) = false
+is_for_host (defs.Rename old new) = false
+is_for_host (defs.Route method url inherit words) = true
+is_for_host (defs.Filter when method pattern words) = true
+is_for_host (defs.Cleanup script) = true
+is_for_host (defs.Set name value) = not (is_element (named name))
+
+module _ {H : Type 0} where
+  abbrev pub set_or_fails : Option VarFault → List ℕ → List ℕ → Next H → Rest H
+  set_or_fails None name value k = λ state.
+      k 0 value (listing (with_frames state (globally_written state.frames name value)) (defs.Set name value))
+  set_or_fails (Some why) name value k = fails (variable_fault why name) k
+
+  -- A global scalar is written, which is listed as made, and its value is the result. A value that is too long, or a refusal, is an
+  -- error, and nothing is listed.
+  abbrev pub set_global : List ℕ → List ℕ → Next H → Rest H
+  set_global name value k =
+      if nat_lt most_bytes (length value) then k 1 too_long
+      else (λ state. set_or_fails (global_fault state.frames name) name value k state)
+
+  -- a definition of the host's is listed as made
+  abbrev pub make : Def → Next H → Rest H
+  make (defs.Proc name params body) k = λ state. k 0 [] (listing state (defs.Proc name params body))
+  make (defs.Rename old new) k = λ state. k 0 [] (listing state (defs.Rename old new))
+  make (defs.Route method url inherit words) k = λ state. k 0 [] (listing state (defs.Route method url inherit words))
+  make (defs.Filter when method pattern words) k = λ state. k 0 [] (listing state (defs.Filter when method pattern words))
+  make (defs.Cleanup script) k = λ state. k 0 [] (listing state (defs.Cleanup script))
+  make (defs.Set name value) k = set_global name value k
+
+  -- A definition that the host says is made. A command that says one which isn't the host's to make is unknown.
+  abbrev pub define : Def → List (List ℕ) → Next H → Rest H
+  define def words k = if is_for_host def then make def k else fails (unknown_command (arg words 0)) k
+
 module _ {H : Type 0} (table : LeafTable H) where
   -- ---- the host's commands
 
-  -- What the host says of a command's words, with the questions that it asks and the answers that it is given. So many levels
-  -- are left to what the command may run.
-  abbrev pub leaf : ℕ → List (List ℕ) → Leaf H → Next H → Rest H
-  leaf levels words (says code result host) k state budget given = k code result (with_host state host) budget given
-  leaf levels words (defines def host) k state budget given = k 0 [] (listing (with_host state host) def) budget given
-  leaf levels words (stores name value result host) k state budget given =
+  -- What the host says of an answer is what it may say of a command, from which this goes on; or a page is entered, whose blocks are
+  -- run as what the command may run.
+  abbrev pub resumed : Inner H → Onward H → (Leaf H → Out H) → Next H → Rest H
+  resumed inner (goes said) go k state budget given = go said
+  resumed inner (enters pieces host) go k state budget given = run_page table inner pieces k (with_host state host) budget given
+
+  -- What the host says of a command's words, with the questions that it asks and the answers that it is given. This is what the
+  -- command may run.
+  abbrev pub leaf : Inner H → List (List ℕ) → Leaf H → Next H → Rest H
+  leaf inner words (says code result host) k state budget given = k code result (with_host state host) budget given
+  leaf inner words (defines def host) k state budget given = define def words k (with_host state host) budget given
+  leaf inner words (stores name value result host) k state budget given =
       write_variable name value result k (with_host state host) budget given
-  leaf levels words (not_mine host) k state budget given =
-      fails (unknown_command (word_at words 0)) k (with_host state host) budget given
-  leaf levels words (wants question host) k state budget [] = asks (addressed levels question) (with_host state host) budget
-  leaf levels words (wants question host) k state budget (answer ∷ given) =
+  leaf inner words (not_mine host) k state budget given =
+      fails (unknown_command (arg words 0)) k (with_host state host) budget given
+  leaf inner words (wants question host) k state budget [] = asks (addressed inner.levels question) (with_host state host) budget
+  leaf inner words (wants question host) k state budget (answer ∷ given) =
       if nat_lt budget (answer.1 + answer_cost answer.0) then spent (with_host state host)
-      else leaf levels words (table.answers words answer.0 host) k (with_host state host) (budget - (answer.1 + answer_cost answer.0)) given
+      else resumed inner (table.answers words answer.0 host)
+      (λ said. leaf inner words said k (with_host state host) (budget - (answer.1 + answer_cost answer.0)) given)
+      k (with_host state host) (budget - (answer.1 + answer_cost answer.0)) given
+
+  -- the same of what it says of an answer
+  abbrev pub onward : Inner H → List (List ℕ) → Onward H → Next H → Rest H
+  onward inner words said k state budget given =
+      resumed inner said (λ leaf_said. leaf inner words leaf_said k state budget given) k state budget given
 
   -- A run stands at a question that was handed out: with no answer it asks this, and else it goes on with the first answer.
-  abbrev pub standing : ℕ → List (List ℕ) → Question → Next H → Rest H
-  standing levels words question k state budget [] = asks question state budget
-  standing levels words question k state budget (answer ∷ given) =
+  abbrev pub standing : Inner H → List (List ℕ) → Question → Next H → Rest H
+  standing inner words question k state budget [] = asks question state budget
+  standing inner words question k state budget (answer ∷ given) =
       if nat_lt budget (answer.1 + answer_cost answer.0) then spent state
-      else leaf levels words (table.answers words answer.0 state.host) k state (budget - (answer.1 + answer_cost answer.0)) given
+      else onward inner words (table.answers words answer.0 state.host) k state (budget - (answer.1 + answer_cost answer.0)) given
 
 module _ {H : Type 0} (natives : List (List ℕ)) (table : LeafTable H) where
   -- ---- commands
@@ -109,25 +165,25 @@ module _ {H : Type 0} (natives : List (List ℕ)) (table : LeafTable H) where
   built_in inner Foreach words k = do_foreach inner words k
   built_in inner Switch words k = do_switch inner words k
   built_in inner Info words k = do_info words k
-  built_in inner Other words k = λ state. leaf table inner.levels words (table.calls words state.host) k state
+  built_in inner Other words k = λ state. leaf table inner words (table.calls words state.host) k state
 
   -- A built-in, with its own name as its first word: a native looks at its words alone, a command on variables at these and the
   -- variables, and the others are those that run scripts or change the commands, and the host's.
   abbrev pub built : Inner H → List (List ℕ) → Next H → Rest H
   built inner words k =
-      if has_name natives (word_at words 0) then call_native words k
+      if has_name natives (arg words 0) then call_native words k
       else if begins_var_command words then (λ state. came_next (var_came state.frames words) k state)
-      else built_in inner (verb_of (word_at words 0)) words k
+      else built_in inner (verb_of (arg words 0)) words k
 
   -- What a name stands for: a built-in, which gets its own name in place of the word by which it was called; a procedure; or
   -- nothing.
   abbrev pub run_command : Inner H → Option Cmd → List (List ℕ) → Next H → Rest H
-  run_command inner None words k = fails (unknown_command (word_at words 0)) k
+  run_command inner None words k = fails (unknown_command (arg words 0)) k
   run_command inner (Some (Built name)) words k = built inner (name ∷ drop 1 words) k
   run_command inner (Some (commands.Proc params body)) words k = call_proc inner params body words k
 
   abbrev pub act : Inner H → List (List ℕ) → Next H → Rest H
-  act inner words k state = run_command inner (command_of state.commands (word_at words 0)) words k state
+  act inner words k state = run_command inner (command_of state.commands (arg words 0)) words k state
 
   -- a command is paid for, done, and its result is paid for
   abbrev pub command : Inner H → List (List ℕ) → Next H → Rest H
@@ -162,8 +218,13 @@ module _ {H : Type 0} (natives : List (List ℕ)) (table : LeafTable H) where
   abbrev pub nested : ℕ → Inner H
   nested levels = record { levels = levels; run = run_script levels }
 
-  -- The run of a script, or of the words of a call, that stands at this depth, of which there are 200. A call's own scripts
-  -- stand one deeper.
+  -- What a script, the words of a call or a page comes to that stands at this depth, of which there are 200. A page's blocks stand at
+  -- it too, and a call's own scripts one deeper.
+  abbrev pub run_work : ℕ → Work → Next H → Rest H
+  run_work depth (script_work bytes) k = run_script (most_levels + 1 - depth) (unread bytes) k
+  run_work depth (Call words) k = command (nested (most_levels - depth)) words k
+  run_work depth (page_work pieces) k = run_page table (nested (most_levels + 1 - depth)) pieces k
+
+  -- the run of it alone
   abbrev pub eval : ℕ → Work → Rest H
-  eval depth (script_work bytes) = run_script (most_levels + 1 - depth) (unread bytes) done
-  eval depth (Call words) = command (nested (most_levels - depth)) words done
+  eval depth work = run_work depth work done

@@ -8,7 +8,7 @@ use Rattle.txt_core.specs.Quoting.{quoting}
 use Rattle.tcl_eval.specs.declared.parameter.Parameter.{Parameter}
 use Rattle.tcl_eval.specs.declared.stack.Ended.{Ended}
 use Rattle.tcl_eval.specs.Parameters.{parameters}
-use Rattle.tcl_eval.specs.Words.{word_at}
+use Rattle.tcl_eval.specs.Words.{arg}
 use Rattle.tcl_eval.specs.Messages.{no_procedure, unknown_subcommand}
 use Rattle.tcl_eval.specs.Results.{ended, error_of, wrong_words}
 use Rattle.tcl_eval.specs.Going.{give}
@@ -43,12 +43,12 @@ body_said name (Some (Proc params body)) = ended 0 body
 -- the subcommands but `exists`, which is one on variables
 abbrev pub part_said : Table → List (List ℕ) → Ended
 part_said table words =
-    if bytes_eq (word_at words 1) (codes "commands") then names_picked table (slice_get words 2)
-    else if bytes_eq (word_at words 1) (codes "args") then
-    (if length words == 3 then args_said (word_at words 2) (command_of table (word_at words 2)) else wrong_words words)
-    else if bytes_eq (word_at words 1) (codes "body") then
-    (if length words == 3 then body_said (word_at words 2) (command_of table (word_at words 2)) else wrong_words words)
-    else error_of (unknown_subcommand (word_at words 1) (codes "info"))
+    if bytes_eq (arg words 1) (codes "commands") then names_picked table (slice_get words 2)
+    else if bytes_eq (arg words 1) (codes "args") then
+    (if length words == 3 then args_said (arg words 2) (command_of table (arg words 2)) else wrong_words words)
+    else if bytes_eq (arg words 1) (codes "body") then
+    (if length words == 3 then body_said (arg words 2) (command_of table (arg words 2)) else wrong_words words)
+    else error_of (unknown_subcommand (arg words 1) (codes "info"))
 
 -- first the number of words that any subcommand may have, then the subcommand, then its own number of words
 abbrev pub info_said : Table → List (List ℕ) → Ended

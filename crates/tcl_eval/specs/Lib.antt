@@ -13,9 +13,9 @@ pub mod Switch
 pub mod Loops
 pub mod Info
 pub mod Natives
+pub mod Pages
 pub mod Eval
 pub mod Engine
-pub mod Answers
 pub mod Laws
 -- What only proofs use.
 pub mod ParametersSeen

@@ -6,7 +6,7 @@ use Rattle.txt_core.specs.Lists.{Listing, elements, bad_at}
 use Rattle.txt_core.specs.Listing.{listing}
 use Rattle.tcl_eval.specs.declared.branch.Turning.{Turning}
 use Rattle.tcl_eval.specs.Parameters.{Values}
-use Rattle.tcl_eval.specs.Words.{word_at}
+use Rattle.tcl_eval.specs.Words.{arg}
 use Rattle.tcl_eval.specs.Messages.{bad_list, bad_value}
 use Rattle.tcl_eval.specs.Results.{wrong_words}
 use Rattle.tcl_eval.specs.Going.{Inner, unread, on_ok, pay, give, fails, write_all}
@@ -51,14 +51,14 @@ module _ {H : Type 0} where
   abbrev pub do_while : Inner H → List (List ℕ) → Next H → Rest H
   do_while inner words k =
       if length words == 3
-      then turn_on inner (record { condition = word_at words 1; next = None; body = word_at words 2 }) k
+      then turn_on inner (record { condition = arg words 1; next = None; body = arg words 2 }) k
       else give (wrong_words words) k
 
   -- `for start c next body`; a code of the start is handed on
   abbrev pub do_for : Inner H → List (List ℕ) → Next H → Rest H
   do_for inner words k =
       if length words == 5
-      then inner.run (unread (word_at words 1)) (on_ok (λ _. turn_on inner (record { condition = word_at words 2; next = Some (word_at words 3); body = word_at words 4 }) k) k)
+      then inner.run (unread (arg words 1)) (on_ok (λ _. turn_on inner (record { condition = arg words 2; next = Some (arg words 3); body = arg words 4 }) k) k)
       else give (wrong_words words) k
 
   -- so many turns over values, as many of them in each as there are names, which are written after the turn was paid for
@@ -78,10 +78,10 @@ module _ {H : Type 0} where
   -- the names are a list, which isn't empty, and then the values are one
   abbrev pub over_names : Inner H → Listing → List (List ℕ) → Next H → Rest H
   over_names inner (bad_at place) words k = fails (bad_list place) k
-  over_names inner (elements []) words k = fails (bad_value (word_at words 1) (codes "foreach")) k
-  over_names inner (elements (name ∷ names)) words k = over_values inner (name ∷ names) (listing (word_at words 2)) (word_at words 3) k
+  over_names inner (elements []) words k = fails (bad_value (arg words 1) (codes "foreach")) k
+  over_names inner (elements (name ∷ names)) words k = over_values inner (name ∷ names) (listing (arg words 2)) (arg words 3) k
 
   -- `foreach names list body`
   abbrev pub do_foreach : Inner H → List (List ℕ) → Next H → Rest H
   do_foreach inner words k =
-      if length words == 4 then over_names inner (listing (word_at words 1)) words k else give (wrong_words words) k
+      if length words == 4 then over_names inner (listing (arg words 1)) words k else give (wrong_words words) k

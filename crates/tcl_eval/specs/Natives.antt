@@ -2,7 +2,7 @@
 use Rattle.std.specs.Prelude.{Bool, ℕ, List, length, nat_le, ◌&&◌, if◌then◌else◌, Result, Ok, Err}
 use Rattle.natives.specs.Ranges.{range_of}
 use Rattle.natives.specs.Pure.{pure_of}
-use Rattle.tcl_eval.specs.Words.{word_at}
+use Rattle.tcl_eval.specs.Words.{arg}
 use Rattle.tcl_eval.specs.Results.{wrong_words}
 use Rattle.tcl_eval.specs.Going.{give}
 use Rattle.tcl_eval.specs.State.{Rest, Next}
@@ -24,4 +24,4 @@ module _ {H : Type 0} where
   -- A native, whose own name is the first word. Where the number of words is outside its range, it isn't called.
   abbrev pub call_native : List (List ℕ) → Next H → Rest H
   call_native words k =
-      if is_in_range (word_at words 0) words then replied (pure_of (word_at words 0) words) k else give (wrong_words words) k
+      if is_in_range (arg words 0) words then replied (pure_of (arg words 0) words) k else give (wrong_words words) k

@@ -4,14 +4,14 @@ use Rattle.txt_core.specs.Lists.{Listing, elements, bad_at}
 use Rattle.txt_core.specs.Listing.{listing}
 use Rattle.txt_core.specs.Quoting.{quoting}
 use Rattle.tcl_eval.specs.declared.parameter.Parameter.{Parameter}
-use Rattle.tcl_eval.specs.Words.{word_at}
+use Rattle.tcl_eval.specs.Words.{arg}
 use Rattle.tcl_eval.specs.Messages.{wrong_count, bad_value, bad_list}
 
 abbrev pub parameter_of : Listing → Option Parameter
 parameter_of (bad_at place) = None
 parameter_of (elements words) =
-    if length words == 1 then Some (record { name = word_at words 0; default = None })
-    else if length words == 2 then Some (record { name = word_at words 0; default = Some (word_at words 1) })
+    if length words == 1 then Some (record { name = arg words 0; default = None })
+    else if length words == 2 then Some (record { name = arg words 0; default = Some (arg words 1) })
     else None
 
 -- a parameter is a text that, as a list, is a name, or a name and a default

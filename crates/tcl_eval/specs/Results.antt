@@ -7,7 +7,7 @@ use Rattle.tcl_frame.specs.declared.fault.VarFault.{VarFault}
 use Rattle.tcl_frame.specs.Stack.{Stack}
 use Rattle.tcl_frame.specs.Frames.{read_of, read_fault, write_fault, written}
 use Rattle.tcl_eval.specs.declared.stack.Ended.{Ended}
-use Rattle.tcl_eval.specs.Words.{word_at}
+use Rattle.tcl_eval.specs.Words.{arg}
 use Rattle.tcl_eval.specs.Messages.{wrong_count, too_long, outside_loop, variable_fault}
 
 -- ---- limits and costs
@@ -56,15 +56,15 @@ error_of message = ended 1 (shortened message)
 
 -- a built-in has the wrong number of words
 abbrev pub wrong_words : List (List ℕ) → Ended
-wrong_words words = error_of (wrong_count (word_at words 0))
+wrong_words words = error_of (wrong_count (arg words 0))
 
 -- `return ?value?`: code 2, with the value where there is one
 abbrev pub return_of : List (List ℕ) → Ended
-return_of words = if (length words == 1) || (length words == 2) then ended 2 (word_at words 1) else wrong_words words
+return_of words = if (length words == 1) || (length words == 2) then ended 2 (arg words 1) else wrong_words words
 
 -- `error text`: code 1, with the text
 abbrev pub raised_of : List (List ℕ) → Ended
-raised_of words = if length words == 2 then ended 1 (word_at words 1) else wrong_words words
+raised_of words = if length words == 2 then ended 1 (arg words 1) else wrong_words words
 
 -- `break` and `continue`: codes 3 and 4
 abbrev pub break_of : List (List ℕ) → Ended

@@ -6,6 +6,7 @@ use Rattle.tcl_eval.specs.Natives.{Names}
 use Rattle.tcl_eval.specs.Eval.{unread, give, on_ok, word_end, command_end, proc_end, catch_end, read_variable, by_truth, element_name, command, run_parts, run_words, run_commands, nested}
 use Rattle.tcl_eval.specs.Expressions.{with_one, with_two, way_of, behind_left, run_expression, value_end}
 use Rattle.tcl_eval.specs.Branches.{choose}
+use Rattle.tcl_eval.specs.Pages.{piece_end, run_pieces}
 use Rattle.tcl_eval.specs.Loops.{in_loop, between, turn_body, turns, turn_on, walk_on}
 use Rattle.tcl_eval.specs.Places.{tree_of, commands_from, command_at, words_from, place_parts, parts_size, words_size, commands_size, tree_size}
 use Rattle.tcl_eval.specs.declared.stack.Frame.{Frame}
@@ -20,7 +21,7 @@ use Rattle.tcl_eval.specs.declared.stack.Step.{Step}
 use Rattle.tcl_eval.specs.declared.stack.Step.TheVariants as step
 
 module _ {H : Type 0} (names : Names) (table : LeafTable H) where
-  -- what a choice or a loop does with the code and result for which it waits
+  -- what a choice, a loop or a page does with the code and result for which it waits
   abbrev pub branch_next : Branch → Next H → Next H
   branch_next (branch.If body branches next levels) k =
       on_ok (λ value. by_truth value ((nested names table levels).run (unread body) k) (choose (nested names table levels) (drop next branches.value.clauses) branches.value.last k) k) k
@@ -32,6 +33,8 @@ module _ {H : Type 0} (names : Names) (table : LeafTable H) where
   branch_next (branch.Next turning left levels) k = in_loop (turns (nested names table levels) turning.value left k) k
   branch_next (branch.Each walk at left levels) k =
       in_loop (walk_on (nested names table levels) walk.value.names walk.value.body left (drop at walk.value.values) k) k
+  branch_next (branch.Page pieces next levels) k =
+      piece_end table (run_pieces table (nested names table levels) (drop next pieces) k) k
 
   -- what a frame does with the code and result for which it waits
   abbrev pub frame_next : Frame → Next H → Next H
@@ -115,7 +118,8 @@ step_weight (step.Stop what) = 0
 
 -- ---- how many texts may be run before the next command is paid for
 
--- Behind a loop's body the script between two turns is run for nothing, and behind a condition a body.
+-- Behind a loop's body the script between two turns is run for nothing, behind a condition a body, and behind a piece of a page the
+-- pieces that are left.
 abbrev pub branch_free : Branch → ℕ
 branch_free (branch.If body branches next levels) = 1
 branch_free (branch.Start turning levels) = 1
@@ -123,6 +127,7 @@ branch_free (branch.Condition turning left levels) = 1
 branch_free (branch.Body turning left levels) = 2
 branch_free (branch.Next turning left levels) = 1
 branch_free (branch.Each walk at left levels) = 1
+branch_free (branch.Page pieces next levels) = length (drop next pieces) + 1
 
 abbrev pub frame_free : Frame → ℕ
 frame_free (Script script next levels) = 0

@@ -2,6 +2,7 @@
 use Rattle.std.specs.Prelude.{ℕ, List}
 use Rattle.outside.specs.declared.question.Answer.{Answer}
 use Rattle.outside.specs.declared.question.Question.{Question}
+pub use Rattle.tcl_host.specs.Leaf.{Leaf, says, wants, defines, stores, not_mine, Onward, goes, enters, TextEnd, LeafTable}
 use Rattle.cmd_table.specs.Table.{Table}
 use Rattle.cmd_table.specs.declared.definition.Def.{Def}
 use Rattle.tcl_frame.specs.Stack.{Stack}
@@ -16,24 +17,6 @@ pub record State (H : Type 0) : Type 0 where
   pub host : H
   -- the definitions that were made, in order
   pub made : List Def
-
--- What a host says of a command, or of an answer to a question that the command asked; and its state then.
-pub data Leaf (H : Type 0) : Type 0 where
-  -- it is done, with this code and result
-  says : (code : ℕ) (result : List ℕ) (host : H) → Leaf H
-  -- it asks this question first
-  wants : (question : Question) (host : H) → Leaf H
-  -- it is this definition
-  defines : (def : Def) (host : H) → Leaf H
-  -- a variable is to be written, and then this is the result
-  stores : (name value result : List ℕ) (host : H) → Leaf H
-  -- it is no command of the host's
-  not_mine : (host : H) → Leaf H
-
--- A host: what it says of a command's words, and of an answer to a question that these words asked.
-pub record LeafTable (H : Type 0) : Type 0 where
-  pub calls : List (List ℕ) → H → Leaf H
-  pub answers : List (List ℕ) → Answer → H → Leaf H
 
 -- Answers in the order in which they are given, each with what it cost elsewhere.
 abbrev pub Given : Type 0

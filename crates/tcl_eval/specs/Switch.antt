@@ -4,7 +4,7 @@ use Rattle.std.specs.List.{starts_with}
 use Rattle.txt_core.specs.Lists.{Listing, elements, bad_at}
 use Rattle.txt_core.specs.Listing.{listing}
 use Rattle.txt_core.specs.PatternLaws.{matches}
-use Rattle.tcl_eval.specs.Words.{word_at}
+use Rattle.tcl_eval.specs.Words.{arg}
 use Rattle.tcl_eval.specs.Messages.{bad_list, bad_value}
 use Rattle.tcl_eval.specs.Results.{wrong_words}
 use Rattle.tcl_eval.specs.Going.{Inner, unread, give, fails}
@@ -53,7 +53,7 @@ module _ {H : Type 0} where
   -- the body that fits is run, and else the result is empty; the last body isn't `-`
   abbrev pub by_pairs : Inner H → Bool → List ℕ → List (List ℕ) → Next H → Rest H
   by_pairs inner globs text pairs k =
-      if bytes_eq (word_at pairs (length pairs - 1)) (codes "-") then fails (bad_value (codes "-") (codes "switch")) k
+      if bytes_eq (arg pairs (length pairs - 1)) (codes "-") then fails (bad_value (codes "-") (codes "switch")) k
       else run_body inner (body_for globs text pairs) k
 
   -- patterns and bodies as one list, of even length

@@ -1,26 +1,27 @@
 //! What a command does.
 
-ghost use Rattle.std.specs.Prelude.{◌≡◌, ◌<◌, ◌≤◌, ◌++◌, ◌∷◌, [], Option, IfOk, OnOk, None, true};
+ghost use Rattle.std.specs.Prelude.{◌≡◌, ◌<◌, ◌≤◌, ◌+◌, ◌++◌, ◌∷◌, [], Option, IfOk, OnOk, OnErr, Some, None, true};
 ghost use Rattle.cmd_table.specs.Commands.{defined};
+ghost use Rattle.cmd_table.specs.Renaming.{rename_answer, renamed};
+ghost use Rattle.cmd_table.specs.declared.definition.Def.{Def};
 ghost use Rattle.natives.specs.Names.{name_of, names_of};
 ghost use Rattle.tcl_varcmd.specs.Commands.{begins_var_command, var_came};
 ghost use Rattle.tcl_eval.specs.Natives.{Names};
-ghost use Rattle.tcl_eval.specs.State.{Leaf, Next, Rest};
-ghost use Rattle.tcl_eval.specs.Eval.{Inner, addressed, nested, answer_cost, write_all, call_proc, call_native, do_proc, do_rename, do_eval, do_catch, catch_end, came_next, word_at, leaf, built_in, built, act, run_script, unread, stored, stored_of, proc_of, give, error_of};
-ghost use Rattle.tcl_eval.specs.Engine.{Same, Keeps, Opens, Enters, Lower, credit, acted_next, AskedBy, after_writes};
-ghost use Rattle.tcl_eval.specs.Verbs.{IsRunning, ValueOf};
-ghost use Rattle.tcl_eval.specs.Answers.{Replies};
+ghost use Rattle.tcl_eval.specs.State.{Onward, Next, Rest};
+ghost use Rattle.tcl_eval.specs.Eval.{Inner, addressed, nested, answer_cost, write_all, call_proc, call_native, do_proc, do_rename, do_eval, do_catch, catch_end, came_next, arg, define, make, set_global, is_for_host, leaf, onward, built_in, built, act, run_script, unread, stored, stored_of, proc_of, give, error_of};
+ghost use Rattle.tcl_eval.specs.Engine.{Same, Keeps, Holds, Counts, IsNoPage, Opens, Enters, Lower, credit, acted_next, AskedBy, after_writes};
+ghost use Rattle.tcl_eval.specs.Verbs.{IsRunning, ValueOf, made_by};
+ghost use Rattle.tcl_host.specs.Answers.{RepliesTo};
 ghost use Rattle.tcl_eval.specs.declared.stack.Acted.{Acted};
 ghost use Rattle.tcl_eval.specs.declared.verb.Verb.{Verb};
 ghost use Rattle.tcl_eval.specs.declared.engine.OpenQuestion.{OpenQuestion};
 
 use crate::engine::{Engine, OpenQuestion};
-use crate::host::{Host, HostReply};
 use crate::message::{command_exists, fault_text, no_command, unknown_command, variable_fault};
 use crate::parameter::{bound, parameters};
 use crate::stack::{Acted, Ended, Frame};
 use crate::value::{
-    OK, do_break, do_continue, do_error, do_return, done, error, failed, too_long, wrong_words,
+    do_break, do_continue, do_error, do_return, done, error, failed, too_long, wrong_words,
 };
 use crate::verb::{Verb, find_verb};
 use crate::words::{BYTES_FOR_ONE, behind_name, copy_word, joined, push_word, with_name, word_at};
@@ -30,7 +31,8 @@ use outside::{Answer, Question, Service};
 use std::alloc::Global;
 use std::rc::Rc;
 use std::sync::ledger::Ledger;
-use tcl_frame::VarFault;
+use tcl_frame::{VarFault, is_element_name};
+use tcl_host::{Host, HostReply, OK};
 use tcl_parse::{ParseFault, parse};
 use tcl_varcmd::{is_var_command, var_command};
 use txt_core::{MOST_BYTES, NoMemory, Pairs, Text, Words};
@@ -68,14 +70,37 @@ fn addressed(alloc: Global, question: Question, levels: u32) -> Result<Question,
     }
 }
 
+/// The definition that `proc` makes.
+fn proc_of(alloc: Global, words: &Words) -> Result<Def, NoMemory>
+    ensures { IfOk result (λ def. def ≡ proc_of words.now) }
+{
+    Ok(Def::Proc {
+        name: copy_word(alloc, words, 1)?,
+        params: copy_word(alloc, words, 2)?,
+        body: copy_word(alloc, words, 3)?,
+    })
+}
+
+/// Whether a definition is a host's to make.
+fn is_for_host(def: &Def) -> bool
+    ensures { result ≡ is_for_host def.now }
+{
+    match def {
+        Def::Proc { .. } | Def::Rename { .. } => false,
+        Def::Route { .. } | Def::Filter { .. } | Def::Cleanup { .. } => true,
+        Def::Set { name, value: _ } => !is_element_name(name),
+    }
+}
+
 #[tactic(auto, using(crate::proofs::Stacks::frees_push))]
 impl<H: Host> Engine<H> {
     /// Runs a text as a script.
     pub(crate) fn enter_text(&mut self, text: &Text, levels: u32) -> Result<Acted, NoMemory>
-        ensures means { IfOk result (λ acted. (names : Names) (opened : Option OpenQuestion) → Same names H.table self.new self.old (acted_next H.table acted opened) (run_script names H.table levels (unread text.now))) }
+        ensures means { IfOk result (λ acted. (names : Names) (opened : Option OpenQuestion) → Same names H.table self.new self.old (acted_next names H.table acted opened) (run_script names H.table levels (unread text.now))) }
         ensures lower { OnOk result (Lower self.new self.old 0) }
         ensures enters { IfOk result (λ acted. Enters acted (credit self.new ≤ credit self.old)) }
         ensures opens { IfOk result (λ acted. Opens acted self.new self.old) }
+        ensures holds { Holds self.new self.old }
     {
         if levels == 0 {
             return Ok(Acted::TooDeep);
@@ -108,6 +133,7 @@ impl<H: Host> Engine<H> {
     pub(crate) fn store(&mut self, name: &Text, value: Text, after: Text) -> Result<Ended, NoMemory>
         ensures answer { IfOk result (λ x. x ≡ stored_of self.old.frames name.now value after) }
         ensures frames { OnOk result (self.new ≡ record self.old { frames = stored self.old.frames name.now value }) }
+        ensures holds { Holds self.new self.old }
     {
         if value.len() > MOST_BYTES {
             return too_long(self.alloc);
@@ -124,28 +150,101 @@ impl<H: Host> Engine<H> {
 
     /// Lists a definition as made.
     fn list(&mut self, def: Def) -> Result<(), NoMemory>
-        ensures { OnOk result (self.new ≡ record self.old { made = self.old.made ++ def ∷ [] }) }
+        ensures ok { OnOk result (self.new ≡ record self.old { made = self.old.made ++ def ∷ [] }) }
+        ensures err { OnErr result (self.new ≡ self.old) }
     {
-        self.made.push(def).map_err(|_| NoMemory)
+        self.made.add(def)
     }
 
-    /// What the host said of a command, or of an answer to its question.
+    /// Writes a global scalar, which is listed as made; its value is the result.
+    fn set_global(&mut self, name: Text, value: Text) -> Result<Ended, NoMemory>
+        ensures means { IfOk result (λ answer. (names : Names) → Same names H.table self.new self.old (give answer) (set_global name value)) }
+        ensures keeps { OnOk result (Keeps self.new self.old) }
+        ensures holds { Holds self.new self.old }
+    {
+        if value.len() > MOST_BYTES {
+            return too_long(self.alloc);
+        }
+        let result = value.copy(self.alloc)?;
+        match self.frames.write_global(&name, value.copy(self.alloc)?) {
+            Ok(()) => {
+                self.list(Def::Set { name, value })?;
+                Ok(Ended { code: OK, result })
+            }
+            Err(VarFault::NoMemory) => Err(NoMemory),
+            Err(why) => error(self.alloc, variable_fault(self.alloc, why, name.bytes())?),
+        }
+    }
+
+    /// Makes a definition of the host's.
+    fn make(&mut self, def: Def) -> Result<Ended, NoMemory>
+        requires { is_for_host def ≡ true }
+        ensures means { IfOk result (λ value. (names : Names) → Same names H.table self.new self.old (give value) (make def)) }
+        ensures keeps { OnOk result (Keeps self.new self.old) }
+        ensures holds { Holds self.new self.old }
+    {
+        match def {
+            Def::Set { name, value } => {
+                let value = self.set_global(name, value)?;
+                Ok(value)
+            }
+            def => {
+                self.list(def)?;
+                Ok(done(self.alloc))
+            }
+        }
+    }
+
+    /// Makes a definition of the host's, where it is the host's to make.
+    fn define_for_host(&mut self, def: Def, words: &Words) -> Result<Ended, NoMemory>
+        ensures means { IfOk result (λ value. (names : Names) → Same names H.table self.new self.old (give value) (define def words.now)) }
+        ensures keeps { OnOk result (Keeps self.new self.old) }
+        ensures holds { Holds self.new self.old }
+    {
+        if !is_for_host(&def) {
+            let message = unknown_command(self.alloc, word_at(words, 0))?;
+            let refused = error(self.alloc, message)?;
+            return Ok(refused);
+        }
+        let value = self.make(def)?;
+        Ok(value)
+    }
+
+    /// Stands at a question of the host's, which is open from now on.
+    fn ask(&mut self, question: Question, words: Words, levels: u32) -> Result<Acted, NoMemory>
+        ensures asked { IfOk result (λ acted. acted ≡ Acted.Asks (addressed levels question)) }
+        ensures opened { OnOk result (self.new ≡ record self.old { question = Some (record { service = question.service; words = words; levels = levels }) }) }
+        ensures holds { Holds self.new self.old }
+    {
+        let question = addressed(self.alloc, question, levels)?;
+        self.question = Some(OpenQuestion {
+            service: question.service,
+            words,
+            levels,
+        });
+        Ok(Acted::Asks(question))
+    }
+
+    /// What the host said of a command, or of an answer to its question. Only behind an answer a page is
+    /// entered.
     pub(crate) fn replied(
         &mut self,
         reply: HostReply,
         words: Words,
         levels: u32,
     ) -> Result<Acted, NoMemory>
-        ensures means { IfOk result (λ acted. (names : Names) (said : Leaf H) → Replies reply self.old.host said → Same names H.table self.new self.old (acted_next H.table acted self.new.question) (leaf H.table levels words said)) }
-        ensures lower { OnOk result (Lower self.new self.old 1) }
+        ensures means { IfOk result (λ acted. (names : Names) (said : Onward H) → RepliesTo reply self.old.host said → Same names H.table self.new self.old (acted_next names H.table acted self.new.question) (onward H.table (nested names H.table levels) words said)) }
+        ensures lower { OnOk result (self.new.budget ≤ self.old.budget) }
+        ensures credit { OnOk result (IsNoPage reply → credit self.new ≤ credit self.old + 1) }
         ensures opens { IfOk result (λ acted. Opens acted self.new self.old) }
         ensures asks { IfOk result (λ acted. AskedBy acted reply words self.new self.old) }
+        ensures holds { Holds self.new self.old }
     {
         match reply {
             HostReply::Done { code, result } => Ok(Acted::Gives(Ended { code, result })),
             HostReply::Define(def) => {
-                self.list(def)?;
-                Ok(Acted::Gives(done(self.alloc)))
+                let value = self.define_for_host(def, &words)?;
+                Ok(Acted::Gives(value))
             }
             HostReply::Store {
                 name,
@@ -160,13 +259,12 @@ impl<H: Host> Engine<H> {
                 Ok(Acted::Gives(error(self.alloc, message)?))
             }
             HostReply::Ask(question) => {
-                let question = addressed(self.alloc, question, levels)?;
-                self.question = Some(OpenQuestion {
-                    service: question.service,
-                    words,
-                    levels,
-                });
-                Ok(Acted::Asks(question))
+                let acted = self.ask(question, words, levels)?;
+                Ok(acted)
+            }
+            HostReply::Enter(pieces) => {
+                let acted = self.enter_page(pieces, levels)?;
+                Ok(acted)
             }
             HostReply::NoMemory => Err(NoMemory),
         }
@@ -174,28 +272,33 @@ impl<H: Host> Engine<H> {
 
     /// Does a command of the host's.
     fn call_host(&mut self, words: Words, levels: u32) -> Result<Acted, NoMemory>
-        ensures means { IfOk result (λ acted. (names : Names) → Same names H.table self.new self.old (acted_next H.table acted self.new.question) (λ k state. leaf H.table levels words (H.table.calls words state.host) k state)) }
+        ensures means { IfOk result (λ acted. (names : Names) → Same names H.table self.new self.old (acted_next names H.table acted self.new.question) (λ k state. leaf H.table (nested names H.table levels) words (H.table.calls words state.host) k state)) }
         ensures lower { OnOk result (Lower self.new self.old 1) }
         ensures opens { IfOk result (λ acted. Opens acted self.new self.old) }
+        ensures holds { Holds self.new self.old }
     {
         let reply = self.host.call(&words);
         let acted = self.replied(reply, words, levels)?;
         Ok(acted)
     }
 
-    /// Makes a procedure.
+    /// Makes a procedure, which is listed as made. The list's room is taken first.
     fn make_proc<L: Ledger>(&mut self, words: &Words, steps: &mut Steps<L>) -> Result<(), NoMemory>
         ensures made { OnOk result (self.new ≡ record self.old { table = self.new.table; made = self.old.made ++ proc_of words.now ∷ [] }) }
         ensures table { OnOk result (self.new.table.table ≡ defined self.old.table.table (proc_of words.now)) }
         ensures steps { steps.old ≤ steps.new }
+        ensures counts { Counts steps.new steps.old self.new self.old }
     {
-        let def = Def::Proc {
-            name: copy_word(self.alloc, words, 1)?,
-            params: copy_word(self.alloc, words, 2)?,
-            body: copy_word(self.alloc, words, 3)?,
-        };
-        self.table.apply(&def, steps)?;
-        self.list(def)
+        let def = proc_of(self.alloc, words)?;
+        let count = self.made.len();
+        self.list(proc_of(self.alloc, words)?)?;
+        match self.table.apply(&def, steps) {
+            Ok(()) => Ok(()),
+            Err(NoMemory) => {
+                self.made.truncate(count);
+                Err(NoMemory)
+            }
+        }
     }
 
     /// `proc name params body`.
@@ -203,6 +306,7 @@ impl<H: Host> Engine<H> {
         ensures means { IfOk result (λ value. (names : Names) → Same names H.table self.new self.old (give value) (do_proc words.now)) }
         ensures keeps { OnOk result (Keeps self.new self.old) }
         ensures steps { steps.old ≤ steps.new }
+        ensures counts { Counts steps.new steps.old self.new self.old }
     {
         if words.len() != 4 {
             return wrong_words(self.alloc, words);
@@ -217,6 +321,42 @@ impl<H: Host> Engine<H> {
         }
     }
 
+    /// Renames a command, which is listed as made where it is done. The list's room is taken first.
+    fn make_rename<L: Ledger>(
+        &mut self,
+        old: &Text,
+        new: &Text,
+        steps: &mut Steps<L>,
+    ) -> Result<Renamed, NoMemory>
+        ensures answer { IfOk result (λ answer. answer ≡ rename_answer self.old.table.table old.now new.now) }
+        ensures made { IfOk result (λ answer. self.new ≡ record self.old { table = self.new.table; made = made_by answer self.old.made (Def.Rename old.now new.now) }) }
+        ensures table { OnOk result (self.new.table.table ≡ renamed self.old.table.table old.now new.now) }
+        ensures steps { steps.old ≤ steps.new }
+        ensures counts { Counts steps.new steps.old self.new self.old }
+    {
+        let def = Def::Rename {
+            old: old.copy(self.alloc)?,
+            new: new.copy(self.alloc)?,
+        };
+        let count = self.made.len();
+        self.list(def)?;
+        match self.table.rename(old, new, steps) {
+            Ok(Renamed::Done) => Ok(Renamed::Done),
+            Ok(Renamed::NoOld) => {
+                self.made.truncate(count);
+                Ok(Renamed::NoOld)
+            }
+            Ok(Renamed::NewExists) => {
+                self.made.truncate(count);
+                Ok(Renamed::NewExists)
+            }
+            Err(NoMemory) => {
+                self.made.truncate(count);
+                Err(NoMemory)
+            }
+        }
+    }
+
     /// `rename old new`.
     fn do_rename<L: Ledger>(
         &mut self,
@@ -226,13 +366,14 @@ impl<H: Host> Engine<H> {
         ensures means { IfOk result (λ value. (names : Names) → Same names H.table self.new self.old (give value) (do_rename words.now)) }
         ensures keeps { OnOk result (Keeps self.new self.old) }
         ensures steps { steps.old ≤ steps.new }
+        ensures counts { Counts steps.new steps.old self.new self.old }
     {
         if words.len() != 3 {
             return wrong_words(self.alloc, words);
         }
         let old = copy_word(self.alloc, words, 1)?;
         let new = copy_word(self.alloc, words, 2)?;
-        match self.table.rename(&old, &new, steps)? {
+        match self.make_rename(&old, &new, steps)? {
             Renamed::NoOld => {
                 let refused = error(self.alloc, no_command(self.alloc, old.bytes())?)?;
                 Ok(refused)
@@ -241,18 +382,16 @@ impl<H: Host> Engine<H> {
                 let refused = error(self.alloc, command_exists(self.alloc, new.bytes())?)?;
                 Ok(refused)
             }
-            Renamed::Done => {
-                self.list(Def::Rename { old, new })?;
-                Ok(done(self.alloc))
-            }
+            Renamed::Done => Ok(done(self.alloc)),
         }
     }
 
     /// `eval word word*`.
     fn do_eval(&mut self, words: &Words, levels: u32) -> Result<Acted, NoMemory>
-        ensures means { IfOk result (λ acted. (names : Names) (opened : Option OpenQuestion) → Same names H.table self.new self.old (acted_next H.table acted opened) (do_eval (nested names H.table levels) words.now)) }
+        ensures means { IfOk result (λ acted. (names : Names) (opened : Option OpenQuestion) → Same names H.table self.new self.old (acted_next names H.table acted opened) (do_eval (nested names H.table levels) words.now)) }
         ensures lower { OnOk result (Lower self.new self.old 1) }
         ensures opens { IfOk result (λ acted. Opens acted self.new self.old) }
+        ensures holds { Holds self.new self.old }
     {
         if words.len() < 2 {
             return Ok(Acted::Gives(wrong_words(self.alloc, words)?));
@@ -269,9 +408,10 @@ impl<H: Host> Engine<H> {
         name: Option<Text>,
         levels: u32,
     ) -> Result<Acted, NoMemory>
-        ensures means { IfOk result (λ acted. (names : Names) (opened : Option OpenQuestion) → Same names H.table self.new self.old (acted_next H.table acted opened) (λ k. run_script names H.table levels (unread (word_at words.now 1)) (catch_end name k))) }
+        ensures means { IfOk result (λ acted. (names : Names) (opened : Option OpenQuestion) → Same names H.table self.new self.old (acted_next names H.table acted opened) (λ k. run_script names H.table levels (unread (arg words.now 1)) (catch_end name k))) }
         ensures lower { OnOk result (Lower self.new self.old 1) }
         ensures opens { IfOk result (λ acted. Opens acted self.new self.old) }
+        ensures holds { Holds self.new self.old }
     {
         let text = copy_word(self.alloc, words, 1)?;
         self.stack.push(Frame::Caught { name })?;
@@ -281,9 +421,10 @@ impl<H: Host> Engine<H> {
 
     /// `catch script ?name?`.
     fn do_catch(&mut self, words: &Words, levels: u32) -> Result<Acted, NoMemory>
-        ensures means { IfOk result (λ acted. (names : Names) (opened : Option OpenQuestion) → Same names H.table self.new self.old (acted_next H.table acted opened) (do_catch (nested names H.table levels) words.now)) }
+        ensures means { IfOk result (λ acted. (names : Names) (opened : Option OpenQuestion) → Same names H.table self.new self.old (acted_next names H.table acted opened) (do_catch (nested names H.table levels) words.now)) }
         ensures lower { OnOk result (Lower self.new self.old 1) }
         ensures opens { IfOk result (λ acted. Opens acted self.new self.old) }
+        ensures holds { Holds self.new self.old }
     {
         if words.len() == 2 {
             let acted = self.catch_script(words, None, levels)?;
@@ -302,6 +443,7 @@ impl<H: Host> Engine<H> {
         requires { begins_var_command words.now ≡ true }
         ensures means { IfOk result (λ value. (names : Names) → Same names H.table self.new self.old (give value) (λ k state. came_next (var_came state.frames words.now) k state)) }
         ensures keeps { OnOk result (Keeps self.new self.old) }
+        ensures holds { Holds self.new self.old }
     {
         match var_command(self.alloc, &mut self.frames, words) {
             Ok(result) => Ok(Ended { code: OK, result }),
@@ -312,7 +454,7 @@ impl<H: Host> Engine<H> {
 
     /// Calls a native, whose own name is the first word.
     fn call_native(&self, native: &Native, words: &Words) -> Result<Ended, NoMemory>
-        requires { name_of native.now ≡ word_at words.now 0 }
+        requires { name_of native.now ≡ arg words.now 0 }
         ensures means { IfOk result (λ value. (k : Next H) → give value k ≡ call_native words.now k) }
     {
         let count = words.len();
@@ -336,6 +478,7 @@ impl<H: Host> Engine<H> {
         ensures means { IfOk result (λ value. (names : Names) (inner : Inner H) → ValueOf value (λ given. Same names H.table self.new self.old (give given) (built_in names H.table inner verb words.now)) (IsRunning verb × (self.new ≡ self.old))) }
         ensures keeps { OnOk result (Keeps self.new self.old) }
         ensures steps { steps.old ≤ steps.new }
+        ensures counts { Counts steps.new steps.old self.new self.old }
     {
         let value = match verb {
             Verb::Proc => self.do_proc(words, steps)?,
@@ -361,9 +504,10 @@ impl<H: Host> Engine<H> {
     /// Does a built-in that runs a text, or one of the host's.
     fn do_running(&mut self, verb: Verb, words: Words, levels: u32) -> Result<Acted, NoMemory>
         requires { IsRunning verb }
-        ensures means { IfOk result (λ acted. (names : Names) → Same names H.table self.new self.old (acted_next H.table acted self.new.question) (built_in names H.table (nested names H.table levels) verb words)) }
+        ensures means { IfOk result (λ acted. (names : Names) → Same names H.table self.new self.old (acted_next names H.table acted self.new.question) (built_in names H.table (nested names H.table levels) verb words)) }
         ensures lower { OnOk result (Lower self.new self.old 1) }
         ensures opens { IfOk result (λ acted. Opens acted self.new self.old) }
+        ensures holds { Holds self.new self.old }
     {
         let acted = match verb {
             Verb::Eval => self.do_eval(&words, levels)?,
@@ -387,10 +531,11 @@ impl<H: Host> Engine<H> {
         levels: u32,
         steps: &mut Steps<L>,
     ) -> Result<Acted, NoMemory>
-        ensures means { IfOk result (λ acted. (names : Names) → Same names H.table self.new self.old (acted_next H.table acted self.new.question) (built_in names H.table (nested names H.table levels) verb words)) }
+        ensures means { IfOk result (λ acted. (names : Names) → Same names H.table self.new self.old (acted_next names H.table acted self.new.question) (built_in names H.table (nested names H.table levels) verb words)) }
         ensures lower { OnOk result (Lower self.new self.old 1) }
         ensures opens { IfOk result (λ acted. Opens acted self.new self.old) }
         ensures steps { steps.old ≤ steps.new }
+        ensures counts { Counts steps.new steps.old self.new self.old }
     {
         match self.do_value(verb, &words, steps)? {
             Some(value) => Ok(Acted::Gives(value)),
@@ -409,10 +554,11 @@ impl<H: Host> Engine<H> {
         levels: u32,
         steps: &mut Steps<L>,
     ) -> Result<Acted, NoMemory>
-        ensures means { IfOk result (λ acted. Same (names_of natives.now) H.table self.new self.old (acted_next H.table acted self.new.question) (built (names_of natives.now) H.table (nested (names_of natives.now) H.table levels) words)) }
+        ensures means { IfOk result (λ acted. Same (names_of natives.now) H.table self.new self.old (acted_next (names_of natives.now) H.table acted self.new.question) (built (names_of natives.now) H.table (nested (names_of natives.now) H.table levels) words)) }
         ensures lower { OnOk result (Lower self.new self.old 1) }
         ensures opens { IfOk result (λ acted. Opens acted self.new self.old) }
         ensures steps { steps.old ≤ steps.new }
+        ensures counts { Counts steps.new steps.old self.new self.old }
     {
         let name = copy_word(self.alloc, &words, 0)?;
         if let Some(native) = natives.find(&name) {
@@ -432,6 +578,7 @@ impl<H: Host> Engine<H> {
     pub(crate) fn write_all(&mut self, values: Pairs) -> Result<Option<Ended>, NoMemory>
         ensures means { IfOk result (λ refused. (names : Names) (go : Next H → Rest H) → Same names H.table self.new self.old (after_writes refused go) (λ k. write_all values (go k) k)) }
         ensures keeps { OnOk result (Keeps self.new self.old) }
+        ensures holds { Holds self.new self.old }
     {
         'values: for pair in values.as_slice() {
             let value = Text::new(self.alloc, pair.1.bytes())?;
@@ -451,9 +598,10 @@ impl<H: Host> Engine<H> {
         words: &Words,
         levels: u32,
     ) -> Result<Acted, NoMemory>
-        ensures means { IfOk result (λ acted. (names : Names) (opened : Option OpenQuestion) → Same names H.table self.new self.old (acted_next H.table acted opened) (call_proc (nested names H.table levels) params.now body.now words.now)) }
+        ensures means { IfOk result (λ acted. (names : Names) (opened : Option OpenQuestion) → Same names H.table self.new self.old (acted_next names H.table acted opened) (call_proc (nested names H.table levels) params.now body.now words.now)) }
         ensures lower { OnOk result (Lower self.new self.old 1) }
         ensures opens { IfOk result (λ acted. Opens acted self.new self.old) }
+        ensures holds { Holds self.new self.old }
     {
         let values = match bound(self.alloc, params, words)? {
             Err(message) => return Ok(Acted::Gives(error(self.alloc, message)?)),
@@ -478,10 +626,11 @@ impl<H: Host> Engine<H> {
         levels: u32,
         steps: &mut Steps<L>,
     ) -> Result<Acted, NoMemory>
-        ensures means { IfOk result (λ acted. Same (names_of natives.now) H.table self.new self.old (acted_next H.table acted self.new.question) (act (names_of natives.now) H.table (nested (names_of natives.now) H.table levels) words)) }
+        ensures means { IfOk result (λ acted. Same (names_of natives.now) H.table self.new self.old (acted_next (names_of natives.now) H.table acted self.new.question) (act (names_of natives.now) H.table (nested (names_of natives.now) H.table levels) words)) }
         ensures lower { OnOk result (Lower self.new self.old 1) }
         ensures opens { IfOk result (λ acted. Opens acted self.new self.old) }
         ensures steps { steps.old ≤ steps.new }
+        ensures counts { Counts steps.new steps.old self.new self.old }
     {
         let name = copy_word(self.alloc, &words, 0)?;
         match self.table.get(&name) {

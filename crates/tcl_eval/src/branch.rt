@@ -1,9 +1,10 @@
-//! Suspended work that goes on with a text: choices and loops under way.
+//! Suspended work that goes on with a text: choices, loops and pages under way.
 
 ghost use Rattle.std.specs.Prelude.{◌≡◌, ◌+◌, ◌++◌, ◌∷◌, [], IfOk, OnOk, min};
 ghost use Rattle.tcl_eval.specs.Branches.{from_condition, last_body};
 ghost use Rattle.tcl_eval.specs.BranchesSeen.{without_then, clauses_before};
 
+use adp_parse::PieceList;
 use std::alloc::Global;
 use std::rc::Rc;
 use txt_core::{NoMemory, Pairs, Text, Words};
@@ -32,7 +33,7 @@ pub struct Walk {
     pub body: Text,
 }
 
-/// Suspended work that, where it gets a good end, goes on with a text. `levels` is how many levels are
+/// Suspended work that goes on with a text, where what it waited for lets it. `levels` is how many levels are
 /// left to a script that it runs, and `turns` how many turns a loop may still begin.
 #[derive(Drop)]
 pub enum Branch {
@@ -72,6 +73,12 @@ pub enum Branch {
         walk: Rc<Walk>,
         at: usize,
         turns: usize,
+        levels: u32,
+    },
+    /// A page, which waits for the piece before the place `next`.
+    Page {
+        pieces: PieceList,
+        next: usize,
         levels: u32,
     },
 }

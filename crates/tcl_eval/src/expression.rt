@@ -8,21 +8,21 @@ ghost use Rattle.tcl_eval.specs.Eval.{nested, ended, error_of};
 ghost use Rattle.tcl_eval.specs.Expressions.{behind_left, run_expression, evaluate, do_expr};
 ghost use Rattle.tcl_eval.specs.Places.{tree_size};
 ghost use Rattle.tcl_eval.specs.Stack.{frame_next, step_next, frame_weight, stack_weight, step_weight, frame_free, step_free};
-ghost use Rattle.tcl_eval.specs.Engine.{Same, Stays, Opens, Enters, Lower, acted_next, credit};
+ghost use Rattle.tcl_eval.specs.Engine.{Holds, Same, Stays, Opens, Enters, Lower, acted_next, credit};
 ghost use Rattle.tcl_eval.specs.declared.stack.Frame.{Frame};
 ghost use Rattle.tcl_eval.specs.declared.stack.Step.{Step};
 ghost use Rattle.tcl_eval.specs.declared.engine.OpenQuestion.{OpenQuestion};
 
 use crate::engine::Engine;
-use crate::host::Host;
 use crate::message::{bad_expression, no_boolean};
 use crate::operation::{Way, way_of, with_one, with_two};
 use crate::place::alone;
 use crate::stack::{Acted, Ended, Frame, Step};
-use crate::value::{OK, done, error, too_long, wrong_words};
+use crate::value::{done, error, too_long, wrong_words};
 use crate::words::{behind_name, joined};
 use std::boxed::Box;
 use tcl_expr::{Expr, ExprText, Op, expression_value, parse_expr};
+use tcl_host::{Host, OK};
 use tcl_parse::Piece;
 use txt_core::{MOST_BYTES, NoMemory, Text, Words, read_truth};
 
@@ -36,6 +36,7 @@ impl<H: Host> Engine<H> {
         ensures means { IfOk result (λ step. (names : Names) → Same names H.table self.new self.old (step_next names H.table step) (run_expression (nested names H.table levels) (tree_of (Expr.Word pieces)))) }
         ensures weighs { IfOk result (λ step. stack_weight self.new.stack.items + step_weight step < stack_weight self.old.stack.items + tree_size (tree_of (Expr.Word pieces))) }
         ensures keeps { IfOk result (λ step. Stays step self.new self.old) }
+        ensures holds { Holds self.new self.old }
     {
         let place = alone(self.alloc, pieces)?;
         self.stack.push(Frame::Operand)?;
@@ -51,6 +52,7 @@ impl<H: Host> Engine<H> {
         ensures means { IfOk result (λ step. (names : Names) → Same names H.table self.new self.old (step_next names H.table step) (λ k. run_expression (nested names H.table levels) (tree_of part.value) (frame_next names H.table frame k))) }
         ensures weighs { IfOk result (λ step. stack_weight self.new.stack.items + step_weight step ≤ stack_weight self.old.stack.items + (frame_weight frame + tree_size (tree_of part.value))) }
         ensures keeps { IfOk result (λ step. frame_free frame ≡ 0 → Stays step self.new self.old) }
+        ensures holds { Holds self.new self.old }
     {
         self.stack.push(frame)?;
         self.stack.push(Frame::Expression {
@@ -70,6 +72,7 @@ impl<H: Host> Engine<H> {
         ensures means { IfOk result (λ step. (names : Names) → Same names H.table self.new self.old (step_next names H.table step) (λ k. frame_next names H.table (Frame.Expression expr levels) k value.code value.result)) }
         ensures falls { IfOk result (λ step. stack_weight self.new.stack.items + step_weight step < stack_weight self.old.stack.items + frame_weight (Frame.Expression expr levels)) }
         ensures keeps { IfOk result (λ step. Stays step self.new self.old) }
+        ensures holds { Holds self.new self.old }
     {
         if value.code != OK {
             return Ok(Step::Value(value));
@@ -133,6 +136,7 @@ impl<H: Host> Engine<H> {
         ensures means { IfOk result (λ step. (names : Names) → Same names H.table self.new self.old (step_next names H.table step) (λ k. run_expression (nested names H.table levels) (tree_of right.value) (frame_next names H.table (Frame.Right op left) k))) }
         ensures weighs { IfOk result (λ step. stack_weight self.new.stack.items + step_weight step < stack_weight self.old.stack.items + frame_weight (Frame.Left op right levels)) }
         ensures keeps { IfOk result (λ step. Stays step self.new self.old) }
+        ensures holds { Holds self.new self.old }
     {
         let step = self.enter_part(Frame::Right { op, left }, right, levels)?;
         Ok(step)
@@ -166,6 +170,7 @@ impl<H: Host> Engine<H> {
         ensures means { IfOk result (λ step. (names : Names) → Same names H.table self.new self.old (step_next names H.table step) (λ k. behind_left way left (run_expression (nested names H.table levels) (tree_of right.value) (frame_next names H.table (Frame.Right op left) k)) k)) }
         ensures weighs { IfOk result (λ step. stack_weight self.new.stack.items + step_weight step < stack_weight self.old.stack.items + frame_weight (Frame.Left op right levels)) }
         ensures keeps { IfOk result (λ step. Stays step self.new self.old) }
+        ensures holds { Holds self.new self.old }
     {
         match way {
             Way::Both => {
@@ -214,6 +219,7 @@ impl<H: Host> Engine<H> {
         ensures means { IfOk result (λ step. (names : Names) → Same names H.table self.new self.old (step_next names H.table step) (λ k. frame_next names H.table (Frame.Left op right levels) k value.code value.result)) }
         ensures falls { IfOk result (λ step. stack_weight self.new.stack.items + step_weight step < stack_weight self.old.stack.items + frame_weight (Frame.Left op right levels)) }
         ensures keeps { IfOk result (λ step. Stays step self.new self.old) }
+        ensures holds { Holds self.new self.old }
     {
         if value.code != OK {
             return Ok(Step::Value(value));
@@ -238,6 +244,7 @@ impl<H: Host> Engine<H> {
         ensures means { IfOk result (λ step. (names : Names) → Same names H.table self.new self.old (step_next names H.table step) (run_expression (nested names H.table levels) (tree_of part.value))) }
         ensures weighs { IfOk result (λ step. stack_weight self.new.stack.items + step_weight step ≤ stack_weight self.old.stack.items + tree_size (tree_of part.value)) }
         ensures keeps { IfOk result (λ step. Stays step self.new self.old) }
+        ensures holds { Holds self.new self.old }
     {
         self.stack.push(Frame::Expression {
             expr: Box::into_inner(part),
@@ -257,6 +264,7 @@ impl<H: Host> Engine<H> {
         ensures means { IfOk result (λ step. (names : Names) → Same names H.table self.new self.old (step_next names H.table step) (λ k. frame_next names H.table (Frame.Choice first second levels) k value.code value.result)) }
         ensures falls { IfOk result (λ step. stack_weight self.new.stack.items + step_weight step < stack_weight self.old.stack.items + frame_weight (Frame.Choice first second levels)) }
         ensures keeps { IfOk result (λ step. Stays step self.new self.old) }
+        ensures holds { Holds self.new self.old }
     {
         if value.code != OK {
             return Ok(Step::Value(value));
@@ -293,10 +301,11 @@ impl<H: Host> Engine<H> {
 
     /// Pays for the evaluation of a text as an expression, which is then read and begins.
     pub(crate) fn evaluate(&mut self, text: &Text, levels: u32) -> Result<Acted, NoMemory>
-        ensures means { IfOk result (λ acted. (names : Names) (opened : Option OpenQuestion) → Same names H.table self.new self.old (acted_next H.table acted opened) (evaluate (nested names H.table levels) text.now)) }
+        ensures means { IfOk result (λ acted. (names : Names) (opened : Option OpenQuestion) → Same names H.table self.new self.old (acted_next names H.table acted opened) (evaluate (nested names H.table levels) text.now)) }
         ensures lower { OnOk result (Lower self.new self.old 0) }
         ensures opens { IfOk result (λ acted. Opens acted self.new self.old) }
         ensures enters { IfOk result (λ acted. Enters acted (credit self.new + 2 ≤ credit self.old)) }
+        ensures holds { Holds self.new self.old }
     {
         if !self.pay(EVALUATION_COST) {
             return Ok(Acted::Spent);
@@ -316,9 +325,10 @@ impl<H: Host> Engine<H> {
 
     /// `expr word word*`.
     pub(crate) fn do_expr(&mut self, words: &Words, levels: u32) -> Result<Acted, NoMemory>
-        ensures means { IfOk result (λ acted. (names : Names) (opened : Option OpenQuestion) → Same names H.table self.new self.old (acted_next H.table acted opened) (do_expr (nested names H.table levels) words.now)) }
+        ensures means { IfOk result (λ acted. (names : Names) (opened : Option OpenQuestion) → Same names H.table self.new self.old (acted_next names H.table acted opened) (do_expr (nested names H.table levels) words.now)) }
         ensures lower { OnOk result (Lower self.new self.old 1) }
         ensures opens { IfOk result (λ acted. Opens acted self.new self.old) }
+        ensures holds { Holds self.new self.old }
     {
         if words.len() < 2 {
             return Ok(Acted::Gives(wrong_words(self.alloc, words)?));

@@ -8,14 +8,14 @@ ghost use Rattle.tcl_eval.specs.declared.parameter.Parameter.{Parameter};
 ghost use Rattle.tcl_eval.specs.Info.{is_picked, names_said, names_picked, args_said, body_said, part_said, info_said};
 
 use crate::engine::Engine;
-use crate::host::Host;
 use crate::message::{no_procedure, unknown_subcommand};
 use crate::parameter::{Parameter, parameters};
 use crate::stack::Ended;
-use crate::value::{OK, error, wrong_words};
+use crate::value::{error, wrong_words};
 use crate::words::{copy_word, push_word, word_at};
 use cmd_table::Cmd;
 use std::alloc::Global;
+use tcl_host::{Host, OK};
 use tcl_list::quote;
 use txt_core::{NoMemory, Text, Words, glob};
 

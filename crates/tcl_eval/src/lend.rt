@@ -6,7 +6,7 @@ ghost use Rattle.tcl_eval.specs.contracts.engine.Engine.{the_row};
 ghost use Rattle.tcl_eval.specs.Engine.{hosted_by};
 
 use crate::engine::Engine;
-use crate::host::Host;
+use tcl_host::Host;
 
 impl<H: Host> Engine<H> {
     /// The host, to be changed. All else stays as it is.

@@ -7,19 +7,19 @@ ghost use Rattle.tcl_eval.specs.Eval.{nested, unread, do_while, do_for, do_forea
 ghost use Rattle.tcl_eval.specs.Loops.{assigned, in_loop, turns, turn_on, turn_body, walk_on, walk_all};
 ghost use Rattle.tcl_eval.specs.LoopsSeen.{flow_of};
 ghost use Rattle.tcl_eval.specs.Stack.{branch_next, branch_free};
-ghost use Rattle.tcl_eval.specs.Engine.{Same, Opens, Enters, Lower, acted_next, credit};
+ghost use Rattle.tcl_eval.specs.Engine.{Holds, Same, Opens, Enters, Lower, acted_next, credit};
 ghost use Rattle.tcl_eval.specs.declared.branch.Branch.{Branch};
 ghost use Rattle.tcl_eval.specs.declared.engine.OpenQuestion.{OpenQuestion};
 
 use crate::branch::{Branch, Turning, Walk, place_behind};
 use crate::engine::Engine;
-use crate::host::Host;
 use crate::message::{bad_list, bad_value, no_boolean};
 use crate::stack::{Acted, Ended, Frame};
-use crate::value::{BREAK, CONTINUE, OK, done, wrong_words};
+use crate::value::{done, wrong_words};
 use crate::words::{copy_word, word_at};
 use std::alloc::Global;
 use std::rc::Rc;
+use tcl_host::{BREAK, CONTINUE, Host, OK};
 use tcl_list::{ListFault, split};
 use txt_core::{NoMemory, Pairs, Text, Words, read_truth};
 
@@ -79,10 +79,11 @@ fn from_place(items: &[Text], at: usize) -> &[Text]
 impl<H: Host> Engine<H> {
     /// Begins a turn of a loop, where one is left, with its condition.
     fn next_turn(&mut self, turning: Rc<Turning>, left: u64, levels: u32) -> Result<Acted, NoMemory>
-        ensures means { IfOk result (λ acted. (names : Names) (opened : Option OpenQuestion) → Same names H.table self.new self.old (acted_next H.table acted opened) (turns (nested names H.table levels) turning.value left)) }
+        ensures means { IfOk result (λ acted. (names : Names) (opened : Option OpenQuestion) → Same names H.table self.new self.old (acted_next names H.table acted opened) (turns (nested names H.table levels) turning.value left)) }
         ensures lower { OnOk result (Lower self.new self.old 1) }
         ensures opens { IfOk result (λ acted. Opens acted self.new self.old) }
         ensures enters { IfOk result (λ acted. Enters acted (credit self.new < credit self.old)) }
+        ensures holds { Holds self.new self.old }
     {
         if left == 0 {
             return Ok(Acted::Spent);
@@ -99,9 +100,10 @@ impl<H: Host> Engine<H> {
 
     /// Begins the turns of a loop, of which there are as many as the budget that is left.
     fn begin_turns(&mut self, turning: Turning, levels: u32) -> Result<Acted, NoMemory>
-        ensures means { IfOk result (λ acted. (names : Names) (opened : Option OpenQuestion) → Same names H.table self.new self.old (acted_next H.table acted opened) (turn_on (nested names H.table levels) turning)) }
+        ensures means { IfOk result (λ acted. (names : Names) (opened : Option OpenQuestion) → Same names H.table self.new self.old (acted_next names H.table acted opened) (turn_on (nested names H.table levels) turning)) }
         ensures lower { OnOk result (Lower self.new self.old 1) }
         ensures opens { IfOk result (λ acted. Opens acted self.new self.old) }
+        ensures holds { Holds self.new self.old }
     {
         let turning = Rc::new(self.alloc, turning)?;
         let acted = self.next_turn(turning, self.budget, levels)?;
@@ -110,9 +112,10 @@ impl<H: Host> Engine<H> {
 
     /// `while c body`.
     pub(crate) fn do_while(&mut self, words: &Words, levels: u32) -> Result<Acted, NoMemory>
-        ensures means { IfOk result (λ acted. (names : Names) (opened : Option OpenQuestion) → Same names H.table self.new self.old (acted_next H.table acted opened) (do_while (nested names H.table levels) words.now)) }
+        ensures means { IfOk result (λ acted. (names : Names) (opened : Option OpenQuestion) → Same names H.table self.new self.old (acted_next names H.table acted opened) (do_while (nested names H.table levels) words.now)) }
         ensures lower { OnOk result (Lower self.new self.old 1) }
         ensures opens { IfOk result (λ acted. Opens acted self.new self.old) }
+        ensures holds { Holds self.new self.old }
     {
         if words.len() != 3 {
             return Ok(Acted::Gives(wrong_words(self.alloc, words)?));
@@ -128,9 +131,10 @@ impl<H: Host> Engine<H> {
 
     /// `for start c next body`.
     pub(crate) fn do_for(&mut self, words: &Words, levels: u32) -> Result<Acted, NoMemory>
-        ensures means { IfOk result (λ acted. (names : Names) (opened : Option OpenQuestion) → Same names H.table self.new self.old (acted_next H.table acted opened) (do_for (nested names H.table levels) words.now)) }
+        ensures means { IfOk result (λ acted. (names : Names) (opened : Option OpenQuestion) → Same names H.table self.new self.old (acted_next names H.table acted opened) (do_for (nested names H.table levels) words.now)) }
         ensures lower { OnOk result (Lower self.new self.old 1) }
         ensures opens { IfOk result (λ acted. Opens acted self.new self.old) }
+        ensures holds { Holds self.new self.old }
     {
         if words.len() != 5 {
             return Ok(Acted::Gives(wrong_words(self.alloc, words)?));
@@ -155,10 +159,11 @@ impl<H: Host> Engine<H> {
         levels: u32,
         value: Ended,
     ) -> Result<Acted, NoMemory>
-        ensures means { IfOk result (λ acted. (names : Names) (opened : Option OpenQuestion) → Same names H.table self.new self.old (acted_next H.table acted opened) (λ k. branch_next names H.table (Branch.Start turning levels) k value.code value.result)) }
+        ensures means { IfOk result (λ acted. (names : Names) (opened : Option OpenQuestion) → Same names H.table self.new self.old (acted_next names H.table acted opened) (λ k. branch_next names H.table (Branch.Start turning levels) k value.code value.result)) }
         ensures lower { OnOk result (Lower self.new self.old 1) }
         ensures opens { IfOk result (λ acted. Opens acted self.new self.old) }
         ensures enters { IfOk result (λ acted. Enters acted (credit self.new < credit self.old + branch_free (Branch.Start turning levels))) }
+        ensures holds { Holds self.new self.old }
     {
         if value.code != OK {
             return Ok(Acted::Gives(value));
@@ -174,10 +179,11 @@ impl<H: Host> Engine<H> {
         left: u64,
         levels: u32,
     ) -> Result<Acted, NoMemory>
-        ensures means { IfOk result (λ acted. (names : Names) (opened : Option OpenQuestion) → Same names H.table self.new self.old (acted_next H.table acted opened) (λ k. turn_body (nested names H.table levels) turning.value (turns (nested names H.table levels) turning.value left k) k)) }
+        ensures means { IfOk result (λ acted. (names : Names) (opened : Option OpenQuestion) → Same names H.table self.new self.old (acted_next names H.table acted opened) (λ k. turn_body (nested names H.table levels) turning.value (turns (nested names H.table levels) turning.value left k) k)) }
         ensures lower { OnOk result (Lower self.new self.old 1) }
         ensures opens { IfOk result (λ acted. Opens acted self.new self.old) }
         ensures enters { IfOk result (λ acted. Enters acted (credit self.new ≤ credit self.old)) }
+        ensures holds { Holds self.new self.old }
     {
         if !self.pay(TURN_COST) {
             return Ok(Acted::Spent);
@@ -200,10 +206,11 @@ impl<H: Host> Engine<H> {
         levels: u32,
         value: Ended,
     ) -> Result<Acted, NoMemory>
-        ensures means { IfOk result (λ acted. (names : Names) (opened : Option OpenQuestion) → Same names H.table self.new self.old (acted_next H.table acted opened) (λ k. branch_next names H.table (Branch.Condition turning left levels) k value.code value.result)) }
+        ensures means { IfOk result (λ acted. (names : Names) (opened : Option OpenQuestion) → Same names H.table self.new self.old (acted_next names H.table acted opened) (λ k. branch_next names H.table (Branch.Condition turning left levels) k value.code value.result)) }
         ensures lower { OnOk result (Lower self.new self.old 1) }
         ensures opens { IfOk result (λ acted. Opens acted self.new self.old) }
         ensures enters { IfOk result (λ acted. Enters acted (credit self.new < credit self.old + branch_free (Branch.Condition turning left levels))) }
+        ensures holds { Holds self.new self.old }
     {
         if value.code != OK {
             return Ok(Acted::Gives(value));
@@ -229,10 +236,11 @@ impl<H: Host> Engine<H> {
         levels: u32,
         value: Ended,
     ) -> Result<Acted, NoMemory>
-        ensures means { IfOk result (λ acted. (names : Names) (opened : Option OpenQuestion) → Same names H.table self.new self.old (acted_next H.table acted opened) (λ k. branch_next names H.table (Branch.Body turning left levels) k value.code value.result)) }
+        ensures means { IfOk result (λ acted. (names : Names) (opened : Option OpenQuestion) → Same names H.table self.new self.old (acted_next names H.table acted opened) (λ k. branch_next names H.table (Branch.Body turning left levels) k value.code value.result)) }
         ensures lower { OnOk result (Lower self.new self.old 1) }
         ensures opens { IfOk result (λ acted. Opens acted self.new self.old) }
         ensures enters { IfOk result (λ acted. Enters acted (credit self.new < credit self.old + branch_free (Branch.Body turning left levels))) }
+        ensures holds { Holds self.new self.old }
     {
         match flow_from(self.alloc, value) {
             Flow::Ends(value) => Ok(Acted::Gives(value)),
@@ -263,10 +271,11 @@ impl<H: Host> Engine<H> {
         levels: u32,
         value: Ended,
     ) -> Result<Acted, NoMemory>
-        ensures means { IfOk result (λ acted. (names : Names) (opened : Option OpenQuestion) → Same names H.table self.new self.old (acted_next H.table acted opened) (λ k. branch_next names H.table (Branch.Next turning left levels) k value.code value.result)) }
+        ensures means { IfOk result (λ acted. (names : Names) (opened : Option OpenQuestion) → Same names H.table self.new self.old (acted_next names H.table acted opened) (λ k. branch_next names H.table (Branch.Next turning left levels) k value.code value.result)) }
         ensures lower { OnOk result (Lower self.new self.old 1) }
         ensures opens { IfOk result (λ acted. Opens acted self.new self.old) }
         ensures enters { IfOk result (λ acted. Enters acted (credit self.new < credit self.old + branch_free (Branch.Next turning left levels))) }
+        ensures holds { Holds self.new self.old }
     {
         match flow_from(self.alloc, value) {
             Flow::Ends(value) => Ok(Acted::Gives(value)),
@@ -285,10 +294,11 @@ impl<H: Host> Engine<H> {
         left: usize,
         levels: u32,
     ) -> Result<Acted, NoMemory>
-        ensures means { IfOk result (λ acted. (names : Names) (opened : Option OpenQuestion) → Same names H.table self.new self.old (acted_next H.table acted opened) (walk_on (nested names H.table levels) walk.value.names walk.value.body left (drop at walk.value.values))) }
+        ensures means { IfOk result (λ acted. (names : Names) (opened : Option OpenQuestion) → Same names H.table self.new self.old (acted_next names H.table acted opened) (walk_on (nested names H.table levels) walk.value.names walk.value.body left (drop at walk.value.values))) }
         ensures lower { OnOk result (Lower self.new self.old 1) }
         ensures opens { IfOk result (λ acted. Opens acted self.new self.old) }
         ensures enters { IfOk result (λ acted. Enters acted (credit self.new ≤ credit self.old)) }
+        ensures holds { Holds self.new self.old }
     {
         if left == 0 {
             return Ok(Acted::Gives(done(self.alloc)));
@@ -315,10 +325,11 @@ impl<H: Host> Engine<H> {
         left: usize,
         levels: u32,
     ) -> Result<Acted, NoMemory>
-        ensures means { IfOk result (λ acted. (names : Names) (opened : Option OpenQuestion) → Same names H.table self.new self.old (acted_next H.table acted opened) (λ k. (nested names H.table levels).run (unread walk.value.body) (in_loop (walk_on (nested names H.table levels) walk.value.names walk.value.body left (drop (length walk.value.names) (drop at walk.value.values)) k) k))) }
+        ensures means { IfOk result (λ acted. (names : Names) (opened : Option OpenQuestion) → Same names H.table self.new self.old (acted_next names H.table acted opened) (λ k. (nested names H.table levels).run (unread walk.value.body) (in_loop (walk_on (nested names H.table levels) walk.value.names walk.value.body left (drop (length walk.value.names) (drop at walk.value.values)) k) k))) }
         ensures lower { OnOk result (Lower self.new self.old 1) }
         ensures opens { IfOk result (λ acted. Opens acted self.new self.old) }
         ensures enters { IfOk result (λ acted. Enters acted (credit self.new ≤ credit self.old + 1)) }
+        ensures holds { Holds self.new self.old }
     {
         let next = place_behind(at, walk.names.len(), walk.values.len());
         let again = walk.clone()?;
@@ -341,10 +352,11 @@ impl<H: Host> Engine<H> {
         levels: u32,
         value: Ended,
     ) -> Result<Acted, NoMemory>
-        ensures means { IfOk result (λ acted. (names : Names) (opened : Option OpenQuestion) → Same names H.table self.new self.old (acted_next H.table acted opened) (λ k. branch_next names H.table (Branch.Each walk at left levels) k value.code value.result)) }
+        ensures means { IfOk result (λ acted. (names : Names) (opened : Option OpenQuestion) → Same names H.table self.new self.old (acted_next names H.table acted opened) (λ k. branch_next names H.table (Branch.Each walk at left levels) k value.code value.result)) }
         ensures lower { OnOk result (Lower self.new self.old 1) }
         ensures opens { IfOk result (λ acted. Opens acted self.new self.old) }
         ensures enters { IfOk result (λ acted. Enters acted (credit self.new < credit self.old + branch_free (Branch.Each walk at left levels))) }
+        ensures holds { Holds self.new self.old }
     {
         match flow_from(self.alloc, value) {
             Flow::Ends(value) => Ok(Acted::Gives(value)),
@@ -358,9 +370,10 @@ impl<H: Host> Engine<H> {
     /// Begins the turns over values, of which there are as many as it takes for all of them.
     fn begin_walk(&mut self, walk: Walk, levels: u32) -> Result<Acted, NoMemory>
         requires { 0 < length walk.names }
-        ensures means { IfOk result (λ acted. (names : Names) (opened : Option OpenQuestion) → Same names H.table self.new self.old (acted_next H.table acted opened) (walk_all (nested names H.table levels) walk.names walk.values walk.body)) }
+        ensures means { IfOk result (λ acted. (names : Names) (opened : Option OpenQuestion) → Same names H.table self.new self.old (acted_next names H.table acted opened) (walk_all (nested names H.table levels) walk.names walk.values walk.body)) }
         ensures lower { OnOk result (Lower self.new self.old 1) }
         ensures opens { IfOk result (λ acted. Opens acted self.new self.old) }
+        ensures holds { Holds self.new self.old }
     {
         let turns = walk.values.len().div_ceil(walk.names.len());
         let walk = Rc::new(self.alloc, walk)?;
@@ -370,9 +383,10 @@ impl<H: Host> Engine<H> {
 
     /// `foreach names list body`.
     pub(crate) fn do_foreach(&mut self, words: &Words, levels: u32) -> Result<Acted, NoMemory>
-        ensures means { IfOk result (λ acted. (names : Names) (opened : Option OpenQuestion) → Same names H.table self.new self.old (acted_next H.table acted opened) (do_foreach (nested names H.table levels) words.now)) }
+        ensures means { IfOk result (λ acted. (names : Names) (opened : Option OpenQuestion) → Same names H.table self.new self.old (acted_next names H.table acted opened) (do_foreach (nested names H.table levels) words.now)) }
         ensures lower { OnOk result (Lower self.new self.old 1) }
         ensures opens { IfOk result (λ acted. Opens acted self.new self.old) }
+        ensures holds { Holds self.new self.old }
     {
         if words.len() != 4 {
             return Ok(Acted::Gives(wrong_words(self.alloc, words)?));
@@ -410,12 +424,13 @@ impl<H: Host> Engine<H> {
         }
     }
 
-    /// Gives a choice or a loop what it waited for.
+    /// Gives a choice, a loop or a page what it waited for.
     pub(crate) fn go_on(&mut self, branch: Branch, value: Ended) -> Result<Acted, NoMemory>
-        ensures means { IfOk result (λ acted. (names : Names) (opened : Option OpenQuestion) → Same names H.table self.new self.old (acted_next H.table acted opened) (λ k. branch_next names H.table branch k value.code value.result)) }
+        ensures means { IfOk result (λ acted. (names : Names) (opened : Option OpenQuestion) → Same names H.table self.new self.old (acted_next names H.table acted opened) (λ k. branch_next names H.table branch k value.code value.result)) }
         ensures lower { OnOk result (self.new.budget ≤ self.old.budget) }
         ensures opens { IfOk result (λ acted. Opens acted self.new self.old) }
         ensures enters { IfOk result (λ acted. Enters acted (credit self.new < credit self.old + branch_free branch)) }
+        ensures holds { Holds self.new self.old }
     {
         let acted = match branch {
             Branch::If {
@@ -446,6 +461,11 @@ impl<H: Host> Engine<H> {
                 turns,
                 levels,
             } => self.give_each(walk, at, turns, levels, value)?,
+            Branch::Page {
+                pieces,
+                next,
+                levels,
+            } => self.give_page(pieces, next, levels, value)?,
         };
         Ok(acted)
     }

@@ -5,9 +5,10 @@ ghost use Rattle.tcl_eval.specs.Expressions.{way_of, with_one, with_two};
 
 use crate::message::operator_fault;
 use crate::stack::Ended;
-use crate::value::{OK, error};
+use crate::value::error;
 use std::alloc::Global;
 use tcl_expr::{ExprFault, Op, apply_binary, apply_unary};
+use tcl_host::OK;
 use txt_core::{NoMemory, Text};
 
 /// When the right operand of an operator is evaluated.

@@ -1,7 +1,7 @@
 //! The parameters of procedures.
 
 ghost use Rattle.std.specs.Prelude.{◌≡◌, ◌++◌, ◌∷◌, [], IfOk, OnOk, drop};
-ghost use Rattle.tcl_eval.specs.Words.{word_at};
+ghost use Rattle.tcl_eval.specs.Words.{arg};
 ghost use Rattle.txt_core.specs.Quoting.{quoting};
 ghost use Rattle.tcl_eval.specs.Parameters.{parameter, read_all, parameters, bind, bound};
 ghost use Rattle.tcl_eval.specs.ParametersSeen.{ParametersAre, ValuesAre};
@@ -129,7 +129,7 @@ fn bind(alloc: Global, parameters: &[Parameter], words: &[Text]) -> Result<Optio
 
 /// The values of a procedure's parameters, for the words of a call, or the text of the error.
 pub fn bound(alloc: Global, params: &Text, words: &Words) -> Result<Result<Pairs, Text>, NoMemory>
-    ensures { IfOk result (λ found. ValuesAre found (bound params.now (word_at words.now 0) (drop 1 words.now))) }
+    ensures { IfOk result (λ found. ValuesAre found (bound params.now (arg words.now 0) (drop 1 words.now))) }
 {
     let all = match parameters(alloc, params)? {
         Err(message) => return Ok(Err(message)),

@@ -3,13 +3,12 @@
 ghost use Rattle.std.specs.Prelude.{◌≡◌, ◌<◌, ◌≤◌, [], IfOk, OnOk, IsSome, None};
 ghost use Rattle.natives.specs.Names.{names_of};
 ghost use Rattle.outside.specs.declared.question.Answer.{Answer};
-ghost use Rattle.tcl_eval.specs.Eval.{nested, command};
+ghost use Rattle.tcl_eval.specs.Eval.{nested, command, run_work};
 ghost use Rattle.tcl_eval.specs.Stack.{step_next, ready_next, ready_free};
-ghost use Rattle.tcl_eval.specs.Engine.{Same, Opens, IsIdle, Leaves, Stands, AnsweredAt, Falls, state_of, acted_next, outcome_next, PaidFor, Moves, FellTo, FellFrom, Begins};
+ghost use Rattle.tcl_eval.specs.Engine.{Same, Counts, Opens, IsIdle, Leaves, Stands, AnsweredAt, Falls, state_of, acted_next, outcome_next, PaidFor, Moves, Fell, FellTo, FellFrom, Begins};
 
 use crate::act::{MOST_LEVELS, answer_cost};
 use crate::engine::Engine;
-use crate::host::Host;
 use crate::outcome::{Outcome, Work};
 use crate::stack::{Acted, Frame, Ready, Settled, Step};
 use crate::words::command_cost;
@@ -17,22 +16,24 @@ use cmd_table::Steps;
 use natives::Natives;
 use outside::Answer;
 use std::sync::ledger::Ledger;
+use tcl_host::Host;
 use txt_core::{NoMemory, Words};
 
 #[tactic(auto, using(crate::proofs::Stacks::frees_push))]
 impl<H: Host> Engine<H> {
     /// Pays for a command and does it.
-    fn command<L: Ledger>(
+    fn do_command<L: Ledger>(
         &mut self,
         natives: &Natives,
         words: Words,
         levels: u32,
         steps: &mut Steps<L>,
     ) -> Result<Acted, NoMemory>
-        ensures means { IfOk result (λ acted. Same (names_of natives.now) H.table self.new self.old (acted_next H.table acted self.new.question) (command (names_of natives.now) H.table (nested (names_of natives.now) H.table levels) words)) }
+        ensures means { IfOk result (λ acted. Same (names_of natives.now) H.table self.new self.old (acted_next (names_of natives.now) H.table acted self.new.question) (command (names_of natives.now) H.table (nested (names_of natives.now) H.table levels) words)) }
         ensures pays { IfOk result (λ acted. PaidFor acted self.new self.old) }
         ensures opens { IfOk result (λ acted. Opens acted self.new self.old) }
         ensures steps { steps.old ≤ steps.new }
+        ensures counts { Counts steps.new steps.old self.new self.old }
     {
         if !self.pay(command_cost(&words)) {
             return Ok(Acted::Spent);
@@ -49,14 +50,15 @@ impl<H: Host> Engine<H> {
         ready: Ready,
         steps: &mut Steps<L>,
     ) -> Result<Acted, NoMemory>
-        ensures means { IfOk result (λ acted. Same (names_of natives.now) H.table self.new self.old (acted_next H.table acted self.new.question) (ready_next (names_of natives.now) H.table ready)) }
+        ensures means { IfOk result (λ acted. Same (names_of natives.now) H.table self.new self.old (acted_next (names_of natives.now) H.table acted self.new.question) (ready_next (names_of natives.now) H.table ready)) }
         ensures moves { IfOk result (λ acted. Moves acted (ready_free ready) self.new self.old) }
         ensures opens { IfOk result (λ acted. Opens acted self.new self.old) }
         ensures steps { steps.old ≤ steps.new }
+        ensures counts { Counts steps.new steps.old self.new self.old }
     {
         match ready {
             Ready::Command { words, levels } => {
-                let acted = self.command(natives, words, levels, steps)?;
+                let acted = self.do_command(natives, words, levels, steps)?;
                 Ok(acted)
             }
             Ready::Branch { branch, value } => {
@@ -76,10 +78,11 @@ impl<H: Host> Engine<H> {
         steps: &mut Steps<L>,
     ) -> Result<Outcome, NoMemory>
         requires { self.old.question ≡ None }
-        ensures means { IfOk result (λ outcome. Same (names_of natives.now) H.table self.new self.old (outcome_next H.table outcome self.new.question) (step_next (names_of natives.now) H.table step)) }
+        ensures means { IfOk result (λ outcome. Same (names_of natives.now) H.table self.new self.old (outcome_next (names_of natives.now) H.table outcome self.new.question) (step_next (names_of natives.now) H.table step)) }
         ensures leaves { IfOk result (λ outcome. Leaves outcome self.new) }
-        ensures falls { IfOk result (λ outcome. FellTo outcome self.new self.old) }
+        ensures falls { IfOk result (λ outcome. FellTo outcome self.new self.old.budget) }
         ensures steps { steps.old ≤ steps.new }
+        ensures counts { Counts steps.new steps.old self.new self.old }
     {
         'steps: loop {
             let ready = match self.settle(step)? {
@@ -108,10 +111,11 @@ impl<H: Host> Engine<H> {
         steps: &mut Steps<L>,
     ) -> Result<Outcome, NoMemory>
         requires { Begins acted self.old }
-        ensures means { IfOk result (λ outcome. Same (names_of natives.now) H.table self.new self.old (outcome_next H.table outcome self.new.question) (acted_next H.table acted self.old.question)) }
+        ensures means { IfOk result (λ outcome. Same (names_of natives.now) H.table self.new self.old (outcome_next (names_of natives.now) H.table outcome self.new.question) (acted_next (names_of natives.now) H.table acted self.old.question)) }
         ensures leaves { IfOk result (λ outcome. Leaves outcome self.new) }
         ensures falls { IfOk result (λ outcome. FellFrom acted outcome self.new self.old) }
         ensures steps { steps.old ≤ steps.new }
+        ensures counts { Counts steps.new steps.old self.new self.old }
     {
         match acted {
             Acted::Gives(value) => {
@@ -121,6 +125,38 @@ impl<H: Host> Engine<H> {
             Acted::Asks(question) => Ok(Outcome::Asks(question)),
             Acted::TooDeep => Ok(Outcome::TooDeep),
             Acted::Spent => Ok(Outcome::Spent),
+        }
+    }
+
+    /// Begins what is run.
+    fn first<L: Ledger>(
+        &mut self,
+        natives: &Natives,
+        work: Work,
+        depth: u32,
+        steps: &mut Steps<L>,
+    ) -> Result<Acted, NoMemory>
+        requires least { 1 ≤ depth }
+        requires most { depth ≤ 200 }
+        ensures means { IfOk result (λ acted. Same (names_of natives.now) H.table self.new self.old (acted_next (names_of natives.now) H.table acted self.new.question) (run_work (names_of natives.now) H.table depth work)) }
+        ensures fell { IfOk result (λ acted. Fell acted self.new self.old.budget) }
+        ensures opens { IfOk result (λ acted. Opens acted self.new self.old) }
+        ensures steps { steps.old ≤ steps.new }
+        ensures counts { Counts steps.new steps.old self.new self.old }
+    {
+        match work {
+            Work::Script(text) => {
+                let acted = self.enter_text(&text, MOST_LEVELS + 1 - depth)?;
+                Ok(acted)
+            }
+            Work::Call(words) => {
+                let acted = self.do_command(natives, words, MOST_LEVELS - depth, steps)?;
+                Ok(acted)
+            }
+            Work::Page(pieces) => {
+                let acted = self.enter_page(pieces, MOST_LEVELS + 1 - depth)?;
+                Ok(acted)
+            }
         }
     }
 
@@ -137,13 +173,11 @@ impl<H: Host> Engine<H> {
         requires most { depth ≤ 200 }
         ensures stands { IfOk result (λ outcome. Stands (names_of natives.now) H.table outcome self.new (record { work = work; depth = depth; budget = self.old.budget; state = state_of self.old }) []) }
         ensures leaves { IfOk result (λ outcome. Leaves outcome self.new) }
-        ensures lower { OnOk result (self.new.budget ≤ self.old.budget) }
+        ensures falls { IfOk result (λ outcome. FellTo outcome self.new self.old.budget) }
         ensures steps { steps.old ≤ steps.new }
+        ensures counts { Counts steps.new steps.old self.new self.old }
     {
-        let acted = match work {
-            Work::Script(text) => self.enter_text(&text, MOST_LEVELS + 1 - depth)?,
-            Work::Call(words) => self.command(natives, words, MOST_LEVELS - depth, steps)?,
-        };
+        let acted = self.first(natives, work, depth, steps)?;
         let outcome = self.run_on(natives, acted, steps)?;
         Ok(outcome)
     }
@@ -160,6 +194,7 @@ impl<H: Host> Engine<H> {
         ensures leaves { IfOk result (λ outcome. Leaves outcome self.new) }
         ensures falls { IfOk result (λ outcome. Falls H.table outcome self.new self.old answer) }
         ensures steps { steps.old ≤ steps.new }
+        ensures counts { Counts steps.new steps.old self.new self.old }
     {
         let Some(open) = self.question.take() else {
             unreachable!()

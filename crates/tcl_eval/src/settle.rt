@@ -4,19 +4,19 @@ ghost use Rattle.std.specs.Prelude.{◌≡◌, ◌<◌, ◌≤◌, ◌+◌, ◌^
 ghost use Rattle.tcl_eval.specs.Eval.{give, read_as, read_variable, command_end, proc_end, catch_end, run_parts, run_words, run_script, nested, read};
 ghost use Rattle.tcl_eval.specs.Places.{tree_of, command_at, words_from, place_parts, inside, behind, parts_size, words_size, commands_size};
 ghost use Rattle.tcl_eval.specs.Stack.{frame_next, step_next, settled_next, frame_weight, stack_weight, step_weight, frame_free, stack_free, step_free, settled_free};
-ghost use Rattle.tcl_eval.specs.Engine.{Same, Pays, Stays, Remains, Emptied};
+ghost use Rattle.tcl_eval.specs.Engine.{Holds, Same, Pays, Stays, Remains, Emptied};
 ghost use Rattle.tcl_eval.specs.Natives.{Names};
 ghost use Rattle.tcl_eval.specs.declared.stack.Frame.{Frame};
 
 use crate::engine::Engine;
-use crate::host::Host;
 use crate::message::variable_fault;
 use crate::place::{Place, Seen, has_command, has_word};
 use crate::stack::{Ended, Frame, Ready, Settled, Step};
-use crate::value::{OK, done, error, returned, too_long};
+use crate::value::{done, error, returned, too_long};
 use crate::words::{BYTES_FOR_ONE, push_word};
 use std::rc::Rc;
 use tcl_frame::VarFault;
+use tcl_host::{Host, OK};
 use tcl_parse::Script;
 use txt_core::{MOST_BYTES, NoMemory, Text, Words};
 
@@ -56,6 +56,7 @@ impl<H: Host> Engine<H> {
         ensures means { IfOk result (λ step. (names : Names) → Same names H.table self.new self.old (step_next names H.table step) (λ k. run_parts (nested names H.table levels) (inside (place_parts place)) [] (frame_next names H.table (Frame.Index array) (frame_next names H.table (Frame.Word (behind place) so_far levels) k)))) }
         ensures weighs { IfOk result (λ step. stack_weight self.new.stack.items + step_weight step ≤ stack_weight self.old.stack.items + (parts_size (inside (place_parts place)) + parts_size (place_parts (behind place)) + 4)) }
         ensures keeps { IfOk result (λ step. Stays step self.new self.old) }
+        ensures holds { Holds self.new self.old }
     {
         let index = place.inside(self.alloc)?;
         let place = place.behind();
@@ -84,6 +85,7 @@ impl<H: Host> Engine<H> {
         ensures means { IfOk result (λ step. (names : Names) → Same names H.table self.new self.old (step_next names H.table step) (λ k. run_script names H.table levels (read (tree_of script.value)) (frame_next names H.table (Frame.Word (behind place) so_far levels) k))) }
         ensures weighs { IfOk result (λ step. stack_weight self.new.stack.items + step_weight step ≤ stack_weight self.old.stack.items + (commands_size (tree_of script.value) + parts_size (place_parts (behind place)) + 3)) }
         ensures keeps { IfOk result (λ step. Stays step self.new self.old) }
+        ensures holds { Holds self.new self.old }
     {
         if levels == 0 {
             return Ok(Step::Stop(Ready::TooDeep));
@@ -112,6 +114,7 @@ impl<H: Host> Engine<H> {
         ensures means { IfOk result (λ step. (names : Names) → Same names H.table self.new self.old (step_next names H.table step) (λ k. read_variable name.now (frame_next names H.table (Frame.Word place so_far levels) k))) }
         ensures weighs { IfOk result (λ step. stack_weight self.new.stack.items + step_weight step ≤ stack_weight self.old.stack.items + (parts_size (place_parts place) + 1)) }
         ensures keeps { IfOk result (λ step. Stays step self.new self.old) }
+        ensures holds { Holds self.new self.old }
     {
         let value = self.read(name)?;
         if value.code != OK {
@@ -130,6 +133,7 @@ impl<H: Host> Engine<H> {
         ensures means { IfOk result (λ step. (names : Names) → Same names H.table self.new self.old (step_next names H.table step) (run_parts (nested names H.table levels) (place_parts place) so_far)) }
         ensures falls { IfOk result (λ step. stack_weight self.new.stack.items + step_weight step < stack_weight self.old.stack.items + (parts_size (place_parts place) + 1)) }
         ensures keeps { IfOk result (λ step. Stays step self.new self.old) }
+        ensures holds { Holds self.new self.old }
     {
         match place.piece() {
             None => Ok(Step::Value(Ended {
@@ -173,6 +177,7 @@ impl<H: Host> Engine<H> {
         ensures means { IfOk result (λ step. (names : Names) → Same names H.table self.new self.old (step_next names H.table step) (run_words names H.table (nested names H.table levels) (words_from (length values) (command_at at (tree_of script.value))) values)) }
         ensures falls { IfOk result (λ step. stack_weight self.new.stack.items + step_weight step ≤ stack_weight self.old.stack.items + words_size (words_from (length values) (command_at at (tree_of script.value)))) }
         ensures keeps { IfOk result (λ step. Stays step self.new self.old) }
+        ensures holds { Holds self.new self.old }
     {
         let word = values.len();
         if !has_word(&script, at, word) {
@@ -213,6 +218,7 @@ impl<H: Host> Engine<H> {
         ensures means { IfOk result (λ step. (names : Names) → Same names H.table self.new self.old (step_next names H.table step) (λ k. frame_next names H.table (Frame.Command script at values levels) k value.code value.result)) }
         ensures falls { IfOk result (λ step. stack_weight self.new.stack.items + step_weight step < stack_weight self.old.stack.items + frame_weight (Frame.Command script at values levels)) }
         ensures keeps { IfOk result (λ step. Stays step self.new self.old) }
+        ensures holds { Holds self.new self.old }
     {
         if value.code != OK {
             return Ok(Step::Value(value));
@@ -236,6 +242,7 @@ impl<H: Host> Engine<H> {
         ensures means { IfOk result (λ step. (names : Names) → Same names H.table self.new self.old (step_next names H.table step) (λ k. frame_next names H.table (Frame.Word place so_far levels) k value.code value.result)) }
         ensures falls { IfOk result (λ step. stack_weight self.new.stack.items + step_weight step < stack_weight self.old.stack.items + frame_weight (Frame.Word place so_far levels)) }
         ensures keeps { IfOk result (λ step. Stays step self.new self.old) }
+        ensures holds { Holds self.new self.old }
     {
         if value.code != OK {
             return Ok(Step::Value(value));
@@ -259,6 +266,7 @@ impl<H: Host> Engine<H> {
         ensures means { IfOk result (λ step. (names : Names) → Same names H.table self.new self.old (step_next names H.table step) (λ k. frame_next names H.table (Frame.Script script next levels) k value.code value.result)) }
         ensures falls { IfOk result (λ step. stack_weight self.new.stack.items + step_weight step < stack_weight self.old.stack.items + frame_weight (Frame.Script script next levels)) }
         ensures keeps { IfOk result (λ step. Stays step self.new self.old) }
+        ensures holds { Holds self.new self.old }
     {
         if value.code != OK {
             return Ok(Step::Value(value));
@@ -281,6 +289,7 @@ impl<H: Host> Engine<H> {
         ensures means { IfOk result (λ step. (names : Names) → Same names H.table self.new self.old (step_next names H.table step) (λ k. frame_next names H.table (Frame.Index array) k value.code value.result)) }
         ensures falls { IfOk result (λ step. stack_weight self.new.stack.items + step_weight step < stack_weight self.old.stack.items + frame_weight (Frame.Index array)) }
         ensures keeps { IfOk result (λ step. Stays step self.new self.old) }
+        ensures holds { Holds self.new self.old }
     {
         if value.code != OK {
             return Ok(Step::Value(value));
@@ -297,6 +306,7 @@ impl<H: Host> Engine<H> {
         ensures means { IfOk result (λ step. (names : Names) → Same names H.table self.new self.old (step_next names H.table step) (λ k. command_end k value.code value.result)) }
         ensures falls { IfOk result (λ step. stack_weight self.new.stack.items + step_weight step ≤ stack_weight self.old.stack.items) }
         ensures keeps { IfOk result (λ step. Stays step self.new self.old) }
+        ensures holds { Holds self.new self.old }
     {
         if value.result.len() > MOST_BYTES {
             return Ok(Step::Value(too_long(self.alloc)?));
@@ -312,6 +322,7 @@ impl<H: Host> Engine<H> {
         ensures means { IfOk result (λ step. (names : Names) → Same names H.table self.new self.old (step_next names H.table step) (λ k. proc_end k value.code value.result)) }
         ensures falls { IfOk result (λ step. stack_weight self.new.stack.items + step_weight step ≤ stack_weight self.old.stack.items) }
         ensures keeps { IfOk result (λ step. Stays step self.new self.old) }
+        ensures holds { Holds self.new self.old }
     {
         // The call put a frame there, which nothing else takes away. No fact says so here, and `pop`
         // wants a frame above the global one.
@@ -326,6 +337,7 @@ impl<H: Host> Engine<H> {
         ensures means { IfOk result (λ step. (names : Names) → Same names H.table self.new self.old (step_next names H.table step) (λ k. catch_end name k value.code value.result)) }
         ensures falls { IfOk result (λ step. stack_weight self.new.stack.items + step_weight step ≤ stack_weight self.old.stack.items) }
         ensures keeps { IfOk result (λ step. Stays step self.new self.old) }
+        ensures holds { Holds self.new self.old }
     {
         let code = value.code;
         let code = Text::new(self.alloc, format!(in self.alloc; "{code}")?.as_bytes())?;
@@ -347,6 +359,7 @@ impl<H: Host> Engine<H> {
         ensures falls { IfOk result (λ step. stack_weight self.new.stack.items + step_weight step < stack_weight self.old.stack.items + frame_weight frame) }
         ensures keeps { OnOk result (Remains self.new self.old) }
         ensures free { IfOk result (λ step. stack_free self.new.stack.items + step_free step ≤ stack_free self.old.stack.items + frame_free frame) }
+        ensures holds { Holds self.new self.old }
     {
         let step = match frame {
             Frame::Script {
@@ -391,6 +404,7 @@ impl<H: Host> Engine<H> {
         ensures empty { IfOk result (λ settled. Emptied settled self.new) }
         ensures keeps { OnOk result (Remains self.new self.old) }
         ensures free { IfOk result (λ settled. stack_free self.new.stack.items + settled_free settled ≤ stack_free self.old.stack.items + step_free step) }
+        ensures holds { Holds self.new self.old }
     {
         'steps: loop {
             step = match step {

@@ -82,7 +82,7 @@ pub enum Frame {
     },
     /// An `expr` under way.
     Value,
-    /// A choice or a loop under way, which goes on with a text.
+    /// A choice, a loop or a page under way, which goes on with a text.
     Branch(Branch),
 }
 
@@ -91,7 +91,7 @@ pub enum Frame {
 pub enum Ready {
     /// A command, which is to be paid for.
     Command { words: Words, levels: u32 },
-    /// A choice or a loop gets what it waited for.
+    /// A choice, a loop or a page gets what it waited for.
     Branch { branch: Branch, value: Ended },
     TooDeep,
     Spent,

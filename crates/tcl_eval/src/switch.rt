@@ -3,19 +3,19 @@
 ghost use Rattle.std.specs.Prelude.{◌≡◌, ◌-◌, IfOk, OnOk, Option, false, length, bytes_eq, codes};
 ghost use Rattle.std.specs.Option.{option_copied};
 ghost use Rattle.tcl_eval.specs.Natives.{Names};
-ghost use Rattle.tcl_eval.specs.Words.{word_at};
+ghost use Rattle.tcl_eval.specs.Words.{arg};
 ghost use Rattle.tcl_eval.specs.Eval.{nested, do_switch};
 ghost use Rattle.tcl_eval.specs.Switch.{options, fits, body_or_next, body_for, by_pairs, by_words};
-ghost use Rattle.tcl_eval.specs.Engine.{Same, Opens, Lower, acted_next};
+ghost use Rattle.tcl_eval.specs.Engine.{Holds, Same, Opens, Lower, acted_next};
 ghost use Rattle.tcl_eval.specs.declared.engine.OpenQuestion.{OpenQuestion};
 ghost use Rattle.tcl_eval.specs.SwitchSeen.{OptionsAre};
 
 use crate::engine::Engine;
-use crate::host::Host;
 use crate::message::{bad_list, bad_value};
 use crate::stack::Acted;
 use crate::value::{done, wrong_words};
 use crate::words::behind_name;
+use tcl_host::Host;
 use tcl_list::{ListFault, split};
 use txt_core::{NoMemory, Text, Words, glob};
 
@@ -66,7 +66,7 @@ fn fits(globs: bool, text: &Text, pattern: &Text, behind: &[Text]) -> bool
 
 /// Whether the last word is `-`.
 fn ends_in_dash(words: &[Text]) -> bool
-    ensures { result ≡ bytes_eq (word_at words.now (length words.now - 1)) (codes "-") }
+    ensures { result ≡ bytes_eq (arg words.now (length words.now - 1)) (codes "-") }
 {
     match words {
         [] => false,
@@ -114,9 +114,10 @@ impl<H: Host> Engine<H> {
         pairs: &[Text],
         levels: u32,
     ) -> Result<Acted, NoMemory>
-        ensures means { IfOk result (λ acted. (names : Names) (opened : Option OpenQuestion) → Same names H.table self.new self.old (acted_next H.table acted opened) (by_pairs (nested names H.table levels) globs text.now pairs.now)) }
+        ensures means { IfOk result (λ acted. (names : Names) (opened : Option OpenQuestion) → Same names H.table self.new self.old (acted_next names H.table acted opened) (by_pairs (nested names H.table levels) globs text.now pairs.now)) }
         ensures lower { OnOk result (Lower self.new self.old 1) }
         ensures opens { IfOk result (λ acted. Opens acted self.new self.old) }
+        ensures holds { Holds self.new self.old }
     {
         if ends_in_dash(pairs) {
             let acted = self.fails(bad_value(self.alloc, b"-", b"switch")?)?;
@@ -140,9 +141,10 @@ impl<H: Host> Engine<H> {
         words: &Words,
         levels: u32,
     ) -> Result<Acted, NoMemory>
-        ensures means { IfOk result (λ acted. (names : Names) (opened : Option OpenQuestion) → Same names H.table self.new self.old (acted_next H.table acted opened) (by_words (nested names H.table levels) globs text.now behind.now words.now)) }
+        ensures means { IfOk result (λ acted. (names : Names) (opened : Option OpenQuestion) → Same names H.table self.new self.old (acted_next names H.table acted opened) (by_words (nested names H.table levels) globs text.now behind.now words.now)) }
         ensures lower { OnOk result (Lower self.new self.old 1) }
         ensures opens { IfOk result (λ acted. Opens acted self.new self.old) }
+        ensures holds { Holds self.new self.old }
     {
         let list = match behind {
             [list] => list,
@@ -174,9 +176,10 @@ impl<H: Host> Engine<H> {
 
     /// `switch ?-exact? ?-glob? ?--? text pairs`.
     pub(crate) fn do_switch(&mut self, words: &Words, levels: u32) -> Result<Acted, NoMemory>
-        ensures means { IfOk result (λ acted. (names : Names) (opened : Option OpenQuestion) → Same names H.table self.new self.old (acted_next H.table acted opened) (do_switch (nested names H.table levels) words.now)) }
+        ensures means { IfOk result (λ acted. (names : Names) (opened : Option OpenQuestion) → Same names H.table self.new self.old (acted_next names H.table acted opened) (do_switch (nested names H.table levels) words.now)) }
         ensures lower { OnOk result (Lower self.new self.old 1) }
         ensures opens { IfOk result (λ acted. Opens acted self.new self.old) }
+        ensures holds { Holds self.new self.old }
     {
         match read_options(behind_name(words)) {
             Options::Bad(word) => {

@@ -8,20 +8,8 @@ use crate::message::{outside_loop, wrong_count};
 use crate::stack::Ended;
 use crate::words::{copy_word, word_at};
 use std::alloc::Global;
+use tcl_host::{BREAK, CONTINUE, ERROR, OK, RETURN};
 use txt_core::{MOST_BYTES, NoMemory, Text, Words};
-
-/// The code of a good end.
-pub const OK: u8 = 0;
-
-const ERROR: u8 = 1;
-
-const RETURN: u8 = 2;
-
-/// The code of a `break`.
-pub const BREAK: u8 = 3;
-
-/// The code of a `continue`.
-pub const CONTINUE: u8 = 4;
 
 /// A good end with the empty result.
 pub fn done(alloc: Global) -> Ended

@@ -1,7 +1,7 @@
 //! The words of commands.
 
 ghost use Rattle.std.specs.Prelude.{◌≡◌, ◌∷◌, ◌<◌, ◌++◌, IfOk, OnOk, drop, []};
-ghost use Rattle.tcl_eval.specs.Eval.{command_cost, word_at, joined};
+ghost use Rattle.tcl_eval.specs.Eval.{command_cost, arg, joined};
 
 use std::alloc::Global;
 use txt_core::{NoMemory, Text, Words};
@@ -11,7 +11,7 @@ pub const BYTES_FOR_ONE: u64 = 1024;
 
 /// The word at a place; the empty text where there is none.
 pub fn word_at(words: &Words, place: usize) -> &[u8]
-    ensures { result.now ≡ word_at words.now place }
+    ensures { result.now ≡ arg words.now place }
 {
     match words.get(place) {
         Some(word) => word.bytes(),
@@ -21,7 +21,7 @@ pub fn word_at(words: &Words, place: usize) -> &[u8]
 
 /// A copy of the word at a place; the empty text where there is none.
 pub fn copy_word(alloc: Global, words: &Words, place: usize) -> Result<Text, NoMemory>
-    ensures { IfOk result (λ word. word ≡ word_at words.now place) }
+    ensures { IfOk result (λ word. word ≡ arg words.now place) }
 {
     Text::new(alloc, word_at(words, place))
 }

@@ -1,7 +1,12 @@
 //! Tests of the language: scripts over a host that echoes, and what they come to.
 #![tactic(auto)]
 
+mod echo;
 #[cfg(test)]
 mod lines;
+#[cfg(test)]
+mod marks;
+#[cfg(test)]
+mod pages;
 #[cfg(test)]
 mod runs;

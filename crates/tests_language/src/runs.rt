@@ -6,134 +6,27 @@ ghost use Rattle.natives.specs.Answers.{Answers};
 ghost use Rattle.natives.specs.Names.{name_of, names_of, has_name};
 ghost use Rattle.natives.specs.Pure.{pure_of};
 ghost use Rattle.natives.specs.Ranges.{InRange};
-ghost use Rattle.tcl_eval.specs.Words.{word_at};
-ghost use Rattle.tcl_eval.specs.Answers.{Replies};
-ghost use Rattle.tests_language.specs.Echo.{calls};
 ghost use Rattle.tcl_eval.specs.Engine.{IsIdle, IsOpenTo, Leaves};
-ghost use Rattle.tcl_eval.specs.declared.host.HostReply.{HostReply};
+ghost use Rattle.tcl_frame.specs.Frames.{fresh};
 ghost use Rattle.cmd_table.specs.declared.definition.Def.{Def};
 ghost use Rattle.outside.specs.declared.question.Service.{Service};
 
+use crate::echo::{Echo, word_at};
 use crate::lines::{COMMANDS, EXPRESSIONS, PICKS, ROWS, TURNS};
+use crate::marks::taken_back;
+use crate::pages::{DEEP_PAGES, PAGES};
+use adp_parse::pieces;
 use cmd_table::{Cmd, CmdTable, Def, Steps};
 use natives::{Fault, Native, Natives};
-use outside::{Answer, Question, Service};
+use outside::{Answer, Service};
 use std::alloc::Global;
 use std::marker::Brand;
 use std::process::Abort;
 use std::sync::ledger::{Blank, Ledger};
 use std::test::Fail;
-use tcl_eval::{Engine, Host, HostReply, Outcome, Work};
+use tcl_eval::{Engine, Outcome, Work};
 use tcl_frame::Frames;
 use txt_core::{NoMemory, Text, Words};
-
-/// A host without a state: `ask ..` asks, and its answer is its result; `keep name value` writes a
-/// variable; `note script` is a definition.
-#[derive(Drop)]
-struct Echo {
-    alloc: Global,
-}
-
-/// The word at a place; the empty text where there is none.
-fn word_at(words: &Words, place: usize) -> &[u8]
-    ensures { result.now ≡ word_at words.now place }
-{
-    match words.get(place) {
-        Some(word) => word.bytes(),
-        None => &[],
-    }
-}
-
-fn copy_word(alloc: Global, words: &Words, place: usize) -> Result<Text, NoMemory>
-    ensures { IfOk result (λ word. word ≡ word_at words.now place) }
-{
-    Text::new(alloc, word_at(words, place))
-}
-
-fn copy_words(alloc: Global, words: &Words) -> Result<Words, NoMemory>
-    ensures { IfOk result (λ copy. copy ≡ words.now) }
-{
-    Words::of_copies(alloc, words.as_slice())
-}
-
-impl Echo {
-    fn ask(&self, words: &Words) -> Result<HostReply, NoMemory>
-        ensures { IfOk result (λ reply. reply ≡ HostReply.Ask (record { service = Service.Inner; words = words.now })) }
-    {
-        Ok(HostReply::Ask(Question {
-            service: Service::Inner,
-            words: copy_words(self.alloc, words)?,
-        }))
-    }
-
-    fn keep(&self, words: &Words) -> Result<HostReply, NoMemory>
-        ensures { IfOk result (λ reply. reply ≡ HostReply.Store (word_at words.now 1) (word_at words.now 2) (word_at words.now 2)) }
-    {
-        Ok(HostReply::Store {
-            name: copy_word(self.alloc, words, 1)?,
-            value: copy_word(self.alloc, words, 2)?,
-            result: copy_word(self.alloc, words, 2)?,
-        })
-    }
-
-    fn note(&self, words: &Words) -> Result<HostReply, NoMemory>
-        ensures { IfOk result (λ reply. reply ≡ HostReply.Define (Def.Cleanup (word_at words.now 1))) }
-    {
-        Ok(HostReply::Define(Def::Cleanup {
-            script: copy_word(self.alloc, words, 1)?,
-        }))
-    }
-
-    fn say(&self, code: u8, text: &Text) -> Result<HostReply, NoMemory>
-        ensures { IfOk result (λ reply. reply ≡ HostReply.Done code text.now) }
-    {
-        Ok(HostReply::Done {
-            code,
-            result: Text::new(self.alloc, text.bytes())?,
-        })
-    }
-
-    /// What the host says of a command. Its only error is want of memory.
-    fn reply(&self, words: &Words) -> Result<HostReply, NoMemory>
-        ensures { IfOk result (λ reply. Replies reply self.now (calls words.now self.now)) }
-    {
-        let name = word_at(words, 0);
-        if name == b"ask".as_slice() {
-            let reply = self.ask(words)?;
-            return Ok(reply);
-        }
-        if name == b"keep".as_slice() {
-            let reply = self.keep(words)?;
-            return Ok(reply);
-        }
-        if name == b"note".as_slice() {
-            let reply = self.note(words)?;
-            return Ok(reply);
-        }
-        Ok(HostReply::NotMine)
-    }
-}
-
-impl Host for Echo {
-    ghost use Rattle.tests_language.specs.Echo.{echo};
-
-    ghost table = { echo };
-
-    fn call(&mut self, words: &Words) -> HostReply {
-        self.reply(words).unwrap_or(HostReply::NoMemory)
-    }
-
-    fn answered(&mut self, words: &Words, answer: &Answer) -> HostReply {
-        let reply = match answer {
-            Answer::Said(text) => self.say(0, text),
-            Answer::Failed(text) => self.say(1, text),
-            Answer::Page(text) => self.say(0, text),
-            Answer::NoPage => self.ask(words),
-            Answer::PageFault => Ok(HostReply::NotMine),
-        };
-        reply.unwrap_or(HostReply::NoMemory)
-    }
-}
 
 /// `list` of no word; it gives up on others.
 fn list_none(alloc: Global, words: &Words) -> Result<Text, Fault>
@@ -172,7 +65,16 @@ fn add(natives: &mut Natives, native: Native) -> Result<(), NoMemory>
 }
 
 /// The commands of the host.
-const ECHOES: [&str; 3] = ["ask", "keep", "note"];
+const ECHOES: [&str; 8] = [
+    "ask",
+    "keep",
+    "note",
+    "page",
+    "ns_adp_append",
+    "ns_adp_return",
+    "ns_adp_break",
+    "ns_adp_abort",
+];
 
 /// Puts a command of the host into a table.
 fn put_echo<L: Ledger>(
@@ -202,16 +104,17 @@ fn commands<L: Ledger>(
 }
 
 /// An engine with these commands.
-fn engine<L: Ledger>(
+pub fn engine<L: Ledger>(
     alloc: Global,
     natives: &Natives,
     steps: &mut Steps<L>,
 ) -> Result<Engine<Echo>, NoMemory>
-    ensures { IfOk result (λ made. IsIdle made) }
+    ensures idle { IfOk result (λ made. IsIdle made) }
+    ensures frames { IfOk result (λ made. made.frames ≡ fresh) }
 {
     let table = commands(alloc, natives, steps)?;
     let frames = Frames::new(alloc)?;
-    Ok(Engine::new(alloc, table, frames, Echo { alloc }))
+    Ok(Engine::new(alloc, table, frames, Echo::new(alloc)))
 }
 
 /// Starts a run at a depth from 1 to 200.
@@ -234,14 +137,14 @@ fn answer<L: Ledger>(
     engine: &mut Engine<Echo>,
     natives: &Natives,
     outcome: Outcome,
-    said: Text,
+    answer: Answer,
     steps: &mut Steps<L>,
 ) -> Outcome
     requires { Leaves outcome engine.old }
     ensures { Leaves result engine.new }
 {
     match outcome {
-        Outcome::Asks(_) => engine.resume(natives, Answer::Said(said), steps),
+        Outcome::Asks(_) => engine.resume(natives, answer, steps),
         ended => ended,
     }
 }
@@ -264,7 +167,7 @@ fn charge_three(engine: &mut Engine<Echo>, service: Service)
 
 /// Appends what an engine came to: its code and result, the words of its question, or how it ended;
 /// and what is left of its budget.
-fn show(outcome: &Outcome, left: u64, alloc: Global, all: &mut Text) -> Result<(), NoMemory> {
+pub fn show(outcome: &Outcome, left: u64, alloc: Global, all: &mut Text) -> Result<(), NoMemory> {
     match outcome {
         Outcome::Done { code, result } => {
             all.append(format!(in alloc; "{code} ")?.as_bytes())?;
@@ -308,12 +211,12 @@ fn go_on<L: Ledger>(
     ensures { IfOk result (λ after. Leaves after engine.new) }
 {
     if !tells {
-        return Ok(answer(engine, natives, outcome, said, steps));
+        return Ok(answer(engine, natives, outcome, Answer::Said(said), steps));
     }
     let alloc = engine.host().alloc;
     show(&outcome, engine.left(), alloc, all)?;
     charge(engine, &outcome);
-    Ok(answer(engine, natives, outcome, said, steps))
+    Ok(answer(engine, natives, outcome, Answer::Said(said), steps))
 }
 
 /// A script with its budget and depth, and the answers that it is given, with `<-` between them. Each question
@@ -377,6 +280,54 @@ fn check_lines<L: Ledger, R: Abort + AllocGlobal>(
             tells: true,
         };
         let came = played(rt.alloc(), natives, &run, steps)?;
+        assert_eq!(rt; came.bytes(), want.as_bytes(), "{line}");
+        count = count.wrapping_add(1);
+    }
+    assert_eq!(rt; count, number);
+    Ok(())
+}
+
+/// What a first page, and the pages that it includes in turn, come to at a depth.
+fn paged<L: Ledger>(
+    alloc: Global,
+    natives: &Natives,
+    front: &str,
+    depth: u32,
+    steps: &mut Steps<L>,
+) -> Result<Text, NoMemory> {
+    let mut all = Text::empty(alloc);
+    let mut engine = engine(alloc, natives, steps)?;
+    let (first, others) = front.split_once(" <- ").unwrap_or((front, ""));
+    let first = Text::new(alloc, first.as_bytes())?;
+    let work = Work::Page(pieces(alloc, &first, Words::new(alloc))?);
+    let mut outcome = start(&mut engine, natives, work, 100, depth, steps);
+    'pages: for page in others.split(" <- ") {
+        if page.is_empty() {
+            continue;
+        }
+        let page = Answer::Page(Text::new(alloc, page.as_bytes())?);
+        outcome = answer(&mut engine, natives, outcome, page, steps);
+    }
+    show(&outcome, engine.left(), alloc, &mut all)?;
+    all.append(engine.host().output.bytes())?;
+    let told = engine.host().told;
+    all.append(format!(in alloc; "|{told}")?.as_bytes())?;
+    Ok(all)
+}
+
+/// Runs the pages of each line at a depth, and checks how many lines there are.
+fn check_pages<L: Ledger, R: Abort + AllocGlobal>(
+    rt: &R,
+    natives: &Natives,
+    lines: &str,
+    depth: u32,
+    number: u64,
+    steps: &mut Steps<L>,
+) -> Result<(), Fail> {
+    let mut count = 0u64;
+    for line in lines.lines() {
+        let (front, want) = line.split_once(" => ").ok_or("a line has an arrow")?;
+        let came = paged(rt.alloc(), natives, front, depth, steps)?;
         assert_eq!(rt; came.bytes(), want.as_bytes(), "{line}");
         count = count.wrapping_add(1);
     }
@@ -556,7 +507,7 @@ fn call_of_procedure(alloc: Global) -> Result<Work, NoMemory> {
 
 /// Runs this and abandons what is left of it; appends what it came to, and how many definitions are
 /// listed as made.
-fn run_and_abandon<L: Ledger>(
+pub fn run_and_abandon<L: Ledger>(
     engine: &mut Engine<Echo>,
     natives: &Natives,
     work: Work,
@@ -602,7 +553,7 @@ fn unpaid<L: Ledger>(
     let outcome = start(&mut engine, natives, asking, 3, 1, steps);
     show(&outcome, engine.left(), alloc, &mut all)?;
     let long = repeated(alloc, "", "sixteen.bytes.xx", "", 128)?;
-    let ended = answer(&mut engine, natives, outcome, long, steps);
+    let ended = answer(&mut engine, natives, outcome, Answer::Said(long), steps);
     show(&ended, engine.left(), alloc, &mut all)?;
     engine.abandon();
     let script = Work::Script(Text::new(alloc, b"return $a")?);
@@ -626,11 +577,17 @@ fn check_all<L: Ledger, R: Abort + AllocGlobal>(
     check_lines(rt, natives, PICKS, 28, &mut steps)?;
     check_lines(rt, natives, COMMANDS, 19, &mut steps)?;
     check_answered(rt, natives, &mut steps)?;
+    check_pages(rt, natives, PAGES, 1, 20, &mut steps)?;
+    check_pages(rt, natives, DEEP_PAGES, 200, 3, &mut steps)?;
     let came = left_alone(rt.alloc(), natives, &mut steps)?;
     let want = "asks ask 3 96|2|1 can't read \"v\": no such variable 99|2|";
     assert_eq!(rt; came.bytes(), want.as_bytes());
     let came = unpaid(rt.alloc(), natives, &mut steps)?;
     let want = "asks ask 2 1|spent 1|2 1 99|0|";
+    assert_eq!(rt; came.bytes(), want.as_bytes());
+    let came = taken_back(rt.alloc(), natives, &mut steps)?;
+    let want =
+        "asks ask bye 2 94|0 hello 99|0|1 invalid command name \"g\" 99|0|1|1 can't read \"motd\": no such variable 99|0|";
     assert_eq!(rt; came.bytes(), want.as_bytes());
     Ok(())
 }

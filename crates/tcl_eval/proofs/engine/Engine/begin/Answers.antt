@@ -1,23 +1,25 @@
-use Rattle.std.proofs.Common.{◌∙◌, ◌+◌, ◌-◌, ap, sym, List}
+use Rattle.std.proofs.Common.{◌∙◌, ap, sym, List}
 use Rattle.natives.specs.Names.{names_of}
-use Rattle.tcl_eval.specs.Eval.{most_levels, nested, command, run_script, unread}
+use Rattle.tcl_eval.specs.Eval.{run_work}
 use Rattle.tcl_eval.specs.Stack.{stack_next}
 use Rattle.tcl_eval.specs.Engine.{state_of}
 use Rattle.tcl_eval.specs.declared.stack.Frame.{Frame}
+use Rattle.tcl_eval.proofs.Acts.{fell_on}
+use Rattle.tcl_eval.proofs.Counts.{counted_both}
 use Rattle.tcl_eval.proofs.engine.Engine.begin.Goals as goal
-use Rattle.tcl_eval.proofs.engine.Engine.begin.Goals.{in-Script+in_ok-acted-in-Script, in-Call+in_ok-acted-in-Call}
 
 pub returns-clause-stands : goal.returns-clause-stands
 returns-clause-stands g c = λ further.
     let ns = names_of c.args.natives.now in
     let t = g.H.Host.table in
     let e = c.args.self.now in
-    let ran = c.in_ok-outcome.ensures.means further in
-    elim c.match-work.branch [
-      | in-Script+in_ok-acted-in-Script w ↦
-          rw w.in-Script.is (sym ((rw (w.self-is, w.acted-is) at ran) ∙ w.in_ok-acted-in-Script.ensures.means ns _ further
-          ∙ ap (λ (fs : List Frame). run_script ns t (most_levels + 1 - c.args.depth) (unread w.in-Script.text) (stack_next ns t fs) (state_of e) e.budget further) c.requires.idle.0))
-      | in-Call+in_ok-acted-in-Call w ↦
-          rw w.in-Call.is (sym ((rw (w.self-is, w.acted-is) at ran) ∙ w.in_ok-acted-in-Call.ensures.means further
-          ∙ ap (λ (fs : List Frame). command ns t (nested ns t (most_levels - c.args.depth)) w.in-Call.words (stack_next ns t fs) (state_of e) e.budget further) c.requires.idle.0))
-    ]
+    sym (c.in_ok-outcome.ensures.means further ∙ c.in_ok-acted.ensures.means further
+    ∙ ap (λ (fs : List Frame). run_work ns t c.args.depth c.args.work (stack_next ns t fs) (state_of e) e.budget further) c.requires.idle.0)
+
+pub returns-clause-falls : goal.returns-clause-falls
+returns-clause-falls g c =
+    fell_on c.in_ok-acted.acted c.in_ok-outcome.outcome c.run_on.new.self c.first.new.self c.args.self.now.budget c.in_ok-outcome.ensures.falls c.in_ok-acted.ensures.fell
+
+pub returns-clause-counts : goal.returns-clause-counts
+returns-clause-counts g c =
+    counted_both c.run_on.new.steps c.first.new.steps c.args.steps.now c.run_on.new.self c.first.new.self c.args.self.now c.in_ok-outcome.ensures.counts c.in_ok-acted.ensures.counts

@@ -4,7 +4,7 @@ use Rattle.tcl_eval.proofs.engine.Engine.do_ready.Goals as goal
 
 pub returns-in_ok-acted-in-Command-clause-moves : goal.returns-in_ok-acted-in-Command-clause-moves
 returns-in_ok-acted-in-Command-clause-moves g c =
-    rw c.in-Command.is (paid_moves c.in_ok-acted-in-Command.acted c.command.new.self c.args.self.now c.in_ok-acted-in-Command.ensures.pays)
+    rw c.in-Command.is (paid_moves c.in_ok-acted-in-Command.acted c.do_command.new.self c.args.self.now c.in_ok-acted-in-Command.ensures.pays)
 
 pub returns-in_ok-acted-in-Branch-clause-moves : goal.returns-in_ok-acted-in-Branch-clause-moves
 returns-in_ok-acted-in-Branch-clause-moves g c =

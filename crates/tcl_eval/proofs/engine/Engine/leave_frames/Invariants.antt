@@ -1,5 +1,5 @@
 use Rattle.std.proofs.Common.{◌≡◌, length}
-use Rattle.tcl_eval.specs.Engine.{state_of, at_global}
+use Rattle.tcl_eval.specs.Engine.{state_of, at_global, Holds}
 use Rattle.tcl_eval.proofs.engine.Engine.leave_frames.Given as goal
 
 abbrev pub invariant-frames : goal.invariant-frames
@@ -8,6 +8,7 @@ invariant-frames g l = record {
   stack : l.self.stack ≡ l.fn.self.stack;
   budget : l.self.budget ≡ l.fn.self.budget;
   question : l.self.question ≡ l.fn.self.question;
+  holds : Holds l.self l.fn.self;
 }
 
 abbrev pub decreases-frames : goal.decreases-frames

@@ -1,7 +1,7 @@
 use Rattle.natives.specs.Names.{names_of}
 use Rattle.std.proofs.Common.{◌≡◌, ◌≤◌, ◌+◌, None}
 use Rattle.tcl_eval.specs.Stack.{step_next, step_free}
-use Rattle.tcl_eval.specs.Engine.{Same, credit}
+use Rattle.tcl_eval.specs.Engine.{Same, Counts, credit}
 use Rattle.tcl_eval.proofs.engine.Engine.run.Given as goal
 
 abbrev pub invariant-steps : goal.invariant-steps
@@ -13,6 +13,7 @@ invariant-steps g l =
       closed : l.self.question ≡ None;
       lower : l.self.budget ≤ l.fn.self.budget;
       steps : l.fn.steps ≤ l.steps;
+      counts : Counts l.steps l.fn.steps l.self l.fn.self;
     }
 
 abbrev pub decreases-steps : goal.decreases-steps

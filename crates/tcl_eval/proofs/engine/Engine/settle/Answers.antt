@@ -2,6 +2,7 @@ use Rattle.std.proofs.Common.{◌∙◌, ap, arith}
 use Rattle.tcl_eval.specs.Stack.{step_weight, step_free}
 use Rattle.tcl_eval.specs.Engine.{state_of}
 use Rattle.tcl_eval.specs.declared.stack.Step.{Step}
+use Rattle.tcl_eval.proofs.Counts.{held_both}
 use Rattle.tcl_eval.proofs.Stacks.{weighed, freed, gave}
 use Rattle.tcl_eval.proofs.engine.Engine.settle.Goals as goal
 
@@ -13,6 +14,7 @@ steps-preserved-in_ok-step-in-Pieces g c =
       means = λ ns gv. c.in_ok-step-in-Pieces.ensures.means ns gv ∙ before ns gv;
       keeps = (omega (arith, kept.0, c.steps.invariant.keeps.0), kept.1 ∙ c.steps.invariant.keeps.1);
       free = omega (arith, kept.2, c.steps.invariant.free, ap (λ (s : Step). step_free s) c.in-Pieces.is);
+      holds = held_both c.next_piece.new.self c.steps.self c.args.self.now c.in_ok-step-in-Pieces.ensures.holds c.steps.invariant.holds;
     }
 
 pub steps-preserved : goal.steps-preserved
@@ -25,6 +27,7 @@ steps-preserved g c =
       means = λ ns gv. gave ns t e.stack.items c.pop.new.self.items c.in-Some.frame c.in-Value.value.code c.in-Value.value.result (state_of e) e.budget gv _ _ c.in-Some.ensures.items (c.in_ok-step-in-Some.ensures.means ns gv) (before ns gv);
       keeps = (omega (arith, kept.0, c.steps.invariant.keeps.0), kept.1 ∙ c.steps.invariant.keeps.1);
       free = omega (arith, freed _ _ _ c.in-Some.ensures.items, c.in_ok-step-in-Some.ensures.free, c.steps.invariant.free, ap (λ (s : Step). step_free s) c.in-Value.is);
+      holds = held_both c.give.new.self e c.args.self.now c.in_ok-step-in-Some.ensures.holds c.steps.invariant.holds;
     }
 
 pub steps-smaller : goal.steps-smaller

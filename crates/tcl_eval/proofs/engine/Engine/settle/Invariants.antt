@@ -1,7 +1,7 @@
 use Rattle.std.proofs.Common.{◌+◌, ◌≤◌}
 use Rattle.tcl_eval.specs.Natives.{Names}
 use Rattle.tcl_eval.specs.Stack.{stack_weight, step_weight, stack_free, step_free, step_next}
-use Rattle.tcl_eval.specs.Engine.{Same, Remains}
+use Rattle.tcl_eval.specs.Engine.{Same, Remains, Holds}
 use Rattle.tcl_eval.proofs.engine.Engine.settle.Given as goal
 
 abbrev pub invariant-steps : goal.invariant-steps
@@ -11,6 +11,7 @@ invariant-steps g l =
       means : (ns : Names) → Same ns t l.self l.fn.self (step_next ns t l.step) (step_next ns t l.fn.step);
       keeps : Remains l.self l.fn.self;
       free : stack_free l.self.stack.items + step_free l.step ≤ stack_free l.fn.self.stack.items + step_free l.fn.step;
+      holds : Holds l.self l.fn.self;
     }
 
 abbrev pub decreases-steps : goal.decreases-steps

@@ -1,7 +1,7 @@
 use Rattle.natives.specs.Names.{names_of}
 use Rattle.tcl_eval.specs.Eval.{nested}
 use Rattle.tcl_eval.proofs.Acts.{paid_step}
-use Rattle.tcl_eval.proofs.engine.Engine.command.Goals as goal
+use Rattle.tcl_eval.proofs.engine.Engine.do_command.Goals as goal
 
 pub returns-clause-means : goal.returns-clause-means
 returns-clause-means g c = λ gv.
