@@ -1,6 +1,20 @@
-pub mod Copying
-pub mod Gathering
-pub mod Routing
-pub mod Serving
-pub mod Settling
-pub mod WordsAt
+mod Asking
+mod Beginnings
+mod Buildings
+mod Cuts
+mod Definings
+mod Ends
+mod Following
+mod Globals
+mod Inners
+mod Interpreters
+mod Lasting
+mod Overs
+mod Pages
+mod Questions
+mod Resets
+mod Runs
+mod Silent
+mod Settles
+mod Settlings
+mod Updates

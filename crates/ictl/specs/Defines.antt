@@ -1,21 +1,24 @@
--- A definition run: a script without a connection, whose definitions are published where it ends well.
-use Rattle.std.specs.Prelude.{ℕ, zero, suc, List, [], ◌∷◌}
+-- A definition run: a script without a connection, whose definitions are published where it ends well. A question for a run inside
+-- is answered by one on the same blueprint.
+use Rattle.std.specs.Prelude.{ℕ, ℤ, pos, negsuc, zero, suc, ◌&&◌, nat_le, List, [], ◌∷◌, if◌then◌else◌, Option, Some, None}
+use Rattle.txt_core.specs.Number.{number}
+use Rattle.txt_core.specs.Limits.{most_nested}
+use Rattle.natives.specs.Words.{arg}
 use Rattle.outside.specs.declared.question.Answer.{Answer}
 use Rattle.outside.specs.declared.question.Answer.TheVariants.{Said, Failed, Page, NoPage, PageFault}
 use Rattle.outside.specs.declared.question.Question.{Question}
 use Rattle.outside.specs.declared.question.Service.TheVariants as service
 use Rattle.cmd_table.specs.declared.definition.Def.{Def}
+use Rattle.blueprint.specs.Scripts.{script_of}
+use Rattle.server_host.specs.declared.edition.Edition.{Edition}
+use Rattle.server_host.specs.Hosts.{HostState}
+use Rattle.server_host.specs.Leaf.{host_table}
 use Rattle.tcl_eval.specs.State.{State}
 use Rattle.tcl_eval.specs.Eval.{eval, returned}
 use Rattle.tcl_eval.specs.declared.stack.Ended.{Ended}
 use Rattle.tcl_eval.specs.declared.outcome.Work.TheVariants as works
-use Rattle.tcl_eval.specs.declared.outcome.Outcome.{Outcome}
-use Rattle.tcl_eval.specs.declared.outcome.Outcome.TheVariants as outcomes
-use Rattle.ictl.specs.Hosts.{HostState, defining}
-use Rattle.ictl.specs.Leaf.{host_table}
-use Rattle.ictl.specs.Scripts.{script_of}
-use Rattle.ictl.specs.Settle.{Settled, ended, asking, exhausted, nested, settle}
-use Rattle.ictl.specs.Main.{Blueprint, fresh, Progress, asks, ends}
+use Rattle.ictl.specs.Fresh.{define_state, build_steps}
+use Rattle.ictl.specs.Settle.{Settled, ended, asking, exhausted, nested, Defined, said, stands, gone, sunk, Handler, settle}
 
 -- the question whether what was made is published: its one word is the script of that
 abbrev pub publish : List Def → Question
@@ -23,42 +26,69 @@ publish made = record { service = service.Publish; words = script_of made ∷ []
 
 -- What comes of the answer: where it was published, the script's result, and else an error with the reason. An answer that
 -- speaks of a page counts as a refusal without a reason.
-abbrev pub published : List ℕ → Answer → Outcome
-published result (Said text) = outcomes.Done 0 result
-published result (Failed why) = outcomes.Done 1 why
-published result (Page page) = outcomes.Done 1 []
-published result NoPage = outcomes.Done 1 []
-published result PageFault = outcomes.Done 1 []
+abbrev pub published : List ℕ → Answer → Answer
+published result (Said text) = Said result
+published result (Failed why) = Failed why
+published result (Page page) = Failed []
+published result NoPage = Failed []
+published result PageFault = Failed []
 
--- the run stands at this question, and its script's result is this
-abbrev pub publishing : Question → List ℕ → State HostState → List Answer → Progress
-publishing question result state [] = asks question state
-publishing question result state (answer ∷ left) = ends (published result answer) state left
+-- the run stands at this question whether to publish, and its script's result is this
+abbrev pub publishing : Question → List ℕ → ℕ → State HostState → List Answer → Defined
+publishing question result budget state [] = stands question state
+publishing question result budget state (answer ∷ left) = said (published result answer) budget state left
 
 -- after a good end what was made is published, where anything was
-abbrev pub good_end : List Def → List ℕ → State HostState → List Answer → Progress
-good_end [] result state left = ends (outcomes.Done 0 result) state left
-good_end (def ∷ defs) result state left = publishing (publish (def ∷ defs)) result state left
+abbrev pub good_end : List Def → List ℕ → ℕ → State HostState → List Answer → Defined
+good_end [] result budget state left = said (Said result) budget state left
+good_end (def ∷ defs) result budget state left = publishing (publish (def ∷ defs)) result budget state left
 
--- another code is an error, after which nothing is published
-abbrev pub by_code : ℕ → List ℕ → State HostState → List Answer → Progress
-by_code zero result state left = good_end state.made result state left
-by_code (suc code) result state left = ends (outcomes.Done (suc code) result) state left
+-- another code is an error, and nothing is published
+abbrev pub by_code : ℕ → List ℕ → ℕ → State HostState → List Answer → Defined
+by_code zero result budget state left = good_end state.made result budget state left
+by_code (suc code) result budget state left = said (Failed result) budget state left
 
 -- a script ends as a procedure does: code 2 is a good end too, and codes 3 and 4 are errors of their own
-abbrev pub script_end : Ended → State HostState → List Answer → Progress
-script_end value state left = by_code value.code value.result state left
+abbrev pub script_end : Ended → ℕ → State HostState → List Answer → Defined
+script_end value budget state left = by_code value.code value.result budget state left
 
-abbrev pub define_end : Settled → Progress
-define_end (ended code result state left) = script_end (returned code result) state left
-define_end (asking question state) = asks question state
-define_end (exhausted state left) = ends outcomes.Spent state left
-define_end (nested state left) = ends outcomes.TooDeep state left
+abbrev pub define_end : Settled → Defined
+define_end (ended code result state account left) = script_end (returned code result) account.budget state left
+define_end (asking question state inside) = stands question state
+define_end (exhausted state inside left) = gone state left
+define_end (nested state inside left) = sunk state left
 
--- the definition run of a script from a state on, on natives of these names
-unfoldable pub script_run : List (List ℕ) → List ℕ → State HostState → ℕ → ℕ → List Answer → Progress
-script_run natives script state budget depth answers = define_end (settle (eval natives host_table depth (works.Script script) state budget) answers)
+-- There is no run inside a definition run: its host answers the command that would ask for one by itself. What would ask is spent.
+abbrev pub no_inner : List (List ℕ) → Edition → ℕ → Handler
+no_inner names blueprint moment =
+    record { runs = (λ words budget questions answers. gone (define_state names blueprint moment) answers); build = 0 }
 
--- The definition run of a script, on natives of these names and a blueprint, at a moment, with so much budget and at such a depth, with these answers.
-abbrev pub Define : List (List ℕ) → Blueprint → List ℕ → ℕ → ℕ → ℕ → List Answer → Progress
-Define natives blueprint script moment budget depth answers = script_run natives script (fresh natives blueprint (defining moment)) budget depth answers
+-- the depths at which a run may stand
+abbrev pub depth_in : ℤ → Option ℕ
+depth_in (pos n) = if nat_le 1 n && nat_le n most_nested then Some n else None
+depth_in (negsuc n) = None
+
+abbrev pub depth_of : Option ℤ → Option ℕ
+depth_of None = None
+depth_of (Some n) = depth_in n
+
+module _ (names : List (List ℕ)) (blueprint : Edition) (moment : ℕ) where
+  -- The definition run of a script on natives of these names and a blueprint, at a moment: with so much budget, so many
+  -- questions, at such a depth, and with these answers.
+  abbrev pub Define : List ℕ → ℕ → ℕ → ℕ → List Answer → Defined
+  Define script budget questions depth answers =
+      define_end (settle (no_inner names blueprint moment) questions 0
+      (eval names host_table depth (works.Script script) (define_state names blueprint moment) budget) answers)
+
+  -- at any other depth a run is too deep
+  abbrev pub at_depth : Option ℕ → List ℕ → ℕ → ℕ → List Answer → Defined
+  at_depth None script budget questions answers = sunk (define_state names blueprint moment) answers
+  at_depth (Some depth) script budget questions answers = Define script budget questions depth answers
+
+  -- A question for a run inside has the script and the depth at which that stands, in decimal.
+  abbrev pub inner_run : List (List ℕ) → ℕ → ℕ → List Answer → Defined
+  inner_run words budget questions answers = at_depth (depth_of (number (arg words 1))) (arg words 0) budget questions answers
+
+  -- such a question is answered by a definition run in an interpreter made for it, on the same blueprint
+  abbrev pub inner_runs : Handler
+  inner_runs = record { runs = inner_run; build = build_steps names blueprint.defs }

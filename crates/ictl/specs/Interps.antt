@@ -1,212 +1,212 @@
--- What an interpreter stands for.
-use Rattle.std.specs.Prelude.{◌≡◌, ◌<◌, ◌⊎◌, ℕ, ◌+◌, ◌*◌, ◌-◌, List, [], ◌∷◌, ◌++◌, length, IsSome}
+-- What an interpreter is, and what it stands for.
+use Rattle.std.specs.Prelude.{◌≡◌, ◌≤◌, ℕ, ◌+◌, ◌-◌, List, [], ◌∷◌, ◌++◌, drop, Option, Some, None}
+use Rattle.std.specs.Option.{option_map}
 use Rattle.outside.specs.declared.question.Answer.{Answer}
 use Rattle.outside.specs.declared.question.Question.{Question}
+use Rattle.cmd_table.specs.Table.{mark_of, table_at}
+use Rattle.cmd_table.specs.Commands.{Commands, Writes}
+use Rattle.url_tables.specs.Tables.{IsBuiltOf}
+use Rattle.server_host.specs.declared.edition.Edition.{Edition}
+use Rattle.server_host.specs.Hosts.{HostState, with_blueprint}
 use Rattle.tcl_eval.specs.State.{State}
-use Rattle.tcl_frame.specs.Frames.{fresh as fresh_frames}
-use Rattle.tcl_eval.specs.Engine.{state_of as engine_state, comes_to}
-use Rattle.tcl_eval.specs.declared.outcome.Outcome.{Outcome}
+use Rattle.tcl_eval.specs.Engine.{Lasts, IsIdle}
 use Rattle.tcl_eval.specs.declared.outcome.Outcome.TheVariants as outcomes
-use Rattle.cmd_table.specs.Commands.{Commands}
-use Rattle.ictl.specs.Hosts.{HostState, no_run}
-use Rattle.ictl.specs.Leaf.{host_table}
-use Rattle.ictl.specs.Settle.{settle}
-use Rattle.ictl.specs.Sharing.{buckets}
-use Rattle.ictl.specs.Defines.{define_end, publishing}
-use Rattle.ictl.specs.Main.{Blueprint, Progress, asks, writes, ends, main_end}
+use Rattle.ictl.specs.Fresh.{fresh_but_marked, keeps_of}
+use Rattle.ictl.specs.Settle.{account_of, Settled}
+use Rattle.ictl.specs.Replies.{verdict, access}
+use Rattle.ictl.specs.Visits.{cleanups_of, no_visit}
+use Rattle.ictl.specs.Main.{Stretch, Progress, writes, ends, main_on, after_on, filter_end, access_end, procedure_end, page_end, trace_end, script_end, defined_end, page_asked, serve, filters_from, authorised, unauthorised, traces_from, cleanups_from}
+use Rattle.ictl.specs.Standing.{state_of, define_at, settling_gives, written}
+use Rattle.ictl.specs.declared.running.Stop.{Stop}
+use Rattle.ictl.specs.declared.running.Stop.TheVariants as stops
 use Rattle.ictl.specs.declared.ending.Ending.{Ending}
 use Rattle.ictl.specs.declared.ending.Ending.TheVariants.{Answered}
-use Rattle.ictl.specs.declared.interp.Interp.{Interp}
-use Rattle.ictl.specs.declared.interp.Stage.{Stage}
-use Rattle.ictl.specs.declared.interp.Stage.TheVariants.{New, Serving, Defining, Publishing, Writing, Over, Lost}
+use Rattle.ictl.specs.declared.task.Task.{Task}
+use Rattle.ictl.specs.declared.task.Task.TheVariants.{New, Preauth, Authorise, Postauth, PageAsked, Procedure, Page, Writing, Trace, Cleanup, Script, Define, Over}
+use Rattle.ictl.specs.declared.task.Move.{Move}
+use Rattle.ictl.specs.declared.task.Move.TheVariants as moves
 use Rattle.ictl.specs.declared.next.Next.{Next}
 use Rattle.ictl.specs.declared.next.Next.TheVariants.{Asks, Write, Ended, NoMemory}
+use Rattle.ictl.specs.declared.interp.Interp.{Interp}
 
--- the blueprint that it was made from
-abbrev pub blueprint_of : Interp → Blueprint
-blueprint_of interp = record { epoch = interp.epoch; definitions = interp.defs }
+-- ---- what it holds
 
--- the state that it holds, as far as it has come; nothing is known where memory wanted
-abbrev pub stage_state : Stage → State HostState
-stage_state (New table frames) = record { commands = table.table; frames = frames; host = no_run; made = [] }
-stage_state (Serving engine) = engine_state engine
-stage_state (Defining engine) = engine_state engine
-stage_state (Publishing engine value) = engine_state engine
-stage_state (Writing engine ending) = engine_state engine
-stage_state (Over engine) = engine_state engine
-stage_state Lost = record { commands = []; frames = fresh_frames; host = no_run; made = [] }
-
-abbrev pub state_of : Interp → State HostState
-state_of interp = stage_state interp.stage
-
--- what is left of the budget of what runs
-abbrev pub stage_budget : Stage → ℕ
-stage_budget (New table frames) = 0
-stage_budget (Serving engine) = engine.budget
-stage_budget (Defining engine) = engine.budget
-stage_budget (Publishing engine value) = engine.budget
-stage_budget (Writing engine ending) = engine.budget
-stage_budget (Over engine) = engine.budget
-stage_budget Lost = 0
-
-abbrev pub budget_of : Interp → ℕ
-budget_of interp = stage_budget interp.stage
-
--- A bound on the questions that an engine can still ask, one after the other. Each command that asks is paid for. It asks once,
--- or it gathers answers and asks so many buckets. And a question comes behind a script that made something.
-abbrev pub engine_questions : ℕ → ℕ → ℕ
-engine_questions budget gathered = (buckets + 1) * budget + (buckets - gathered) + 1
-
--- the same of an interpreter; behind the question whether to publish, none comes
-abbrev pub stage_questions : Stage → ℕ
-stage_questions (New table frames) = 0
-stage_questions (Serving engine) = engine_questions engine.budget (length engine.host.gathered)
-stage_questions (Defining engine) = engine_questions engine.budget (length engine.host.gathered)
-stage_questions (Publishing engine value) = 0
-stage_questions (Writing engine ending) = 0
-stage_questions (Over engine) = 0
-stage_questions Lost = 0
-
-abbrev pub questions_left : Interp → ℕ
-questions_left interp = stage_questions interp.stage
+abbrev pub interp_state : Interp → State HostState
+interp_state interp = state_of interp.settling.run
 
 -- how the run up to the response ended
-abbrev pub stage_ending : Stage → Ending
-stage_ending (New table frames) = Answered
-stage_ending (Serving engine) = Answered
-stage_ending (Defining engine) = Answered
-stage_ending (Publishing engine value) = Answered
-stage_ending (Writing engine ending) = ending
-stage_ending (Over engine) = Answered
-stage_ending Lost = Answered
+abbrev pub ending_of : Task → Ending
+ending_of New = Answered
+ending_of (Preauth next) = Answered
+ending_of Authorise = Answered
+ending_of (Postauth next) = Answered
+ending_of (PageAsked path budget) = Answered
+ending_of Procedure = Answered
+ending_of Page = Answered
+ending_of (Writing ending) = ending
+ending_of (Trace next ending) = ending
+ending_of (Cleanup next ending) = ending
+ending_of Script = Answered
+ending_of (Define defining) = Answered
+ending_of Over = Answered
 
-abbrev pub ending_of : Interp → Ending
-ending_of interp = stage_ending interp.stage
+-- the blueprint on which `reset` puts the host, where a run was begun, which may leave the host in any state
+abbrev pub spare_of : Interp → Option Edition
+spare_of interp = option_map (λ spare. spare.value) interp.spare
 
--- It is as newly made: nothing was started, and its state is the fresh one on natives of these names and its blueprint.
-abbrev pub IsNewStage : List (List ℕ) → Stage → Blueprint → Type 0
-IsNewStage natives (New table frames) blueprint = (table.table ≡ Commands natives blueprint.definitions) × (frames ≡ fresh_frames)
-IsNewStage natives (Serving engine) blueprint = ⊥
-IsNewStage natives (Defining engine) blueprint = ⊥
-IsNewStage natives (Publishing engine value) blueprint = ⊥
-IsNewStage natives (Writing engine ending) blueprint = ⊥
-IsNewStage natives (Over engine) blueprint = ⊥
-IsNewStage natives Lost blueprint = ⊥
+-- the host behind a `reset` with this spare
+abbrev pub put_on : Option Edition → HostState → HostState
+put_on None host = host
+put_on (Some spare) host = with_blueprint host spare
 
+-- The spare is the interpreter's own blueprint; without a spare nothing was begun, and the host is on that blueprint itself.
+abbrev pub HasBlueprint : Option Edition → Task → Edition → Edition → Type 0
+HasBlueprint None task on own = (task ≡ New) × (on ≡ own)
+HasBlueprint (Some spare) task on own = spare ≡ own
+
+-- Its commands go back to those of its blueprint at its mark, and the entries above the mark are those that the run made; its base
+-- scalars, its tables of registrations and cleanup scripts, and what its host goes back to, are those of its blueprint.
+pub record IsSound (names : List (List ℕ)) (interp : Interp) : Type 0 where
+  pub commands : table_at interp.settling.run.engine.table interp.mark ≡ Commands names interp.blueprint.value.defs
+  pub entries : mark_of interp.settling.run.engine.table ≡ interp.mark + Writes interp.settling.run.engine.made
+  pub keeps : interp.settling.run.engine.frames.keeps ≡ keeps_of interp.blueprint.value.defs
+  pub routes : IsBuiltOf interp.routes interp.blueprint.value.defs
+  pub cleanups : interp.cleanups ≡ cleanups_of interp.blueprint.value.defs
+  pub blueprint : HasBlueprint (spare_of interp) interp.task interp.settling.run.engine.host.blueprint interp.blueprint.value
+
+-- It is as newly made: its state is the fresh one of its blueprint, but for the mark of the last run, which stands beside it; nothing
+-- is suspended and no run inside is under way; and nothing is left of a request, a moment or a task.
+pub record IsFresh (names : List (List ℕ)) (interp : Interp) : Type 0 where
+  pub state : interp_state interp ≡ fresh_but_marked names interp.blueprint.value interp.settling.run.engine.host.marked
+  pub idle : IsIdle interp.settling.run.engine
+  pub inner : interp.settling.inner ≡ None
+  pub visit : interp.visit ≡ no_visit
+  pub moment : interp.moment ≡ 0
+  pub task : interp.task ≡ New
+
+-- both: what each start and `update` ask for
 abbrev pub IsNew : List (List ℕ) → Interp → Type 0
-IsNew natives interp = IsNewStage natives interp.stage (blueprint_of interp)
+IsNew names interp = IsSound names interp × IsFresh names interp
 
--- It stands at a question.
-abbrev pub IsAskingStage : Stage → Type 0
-IsAskingStage (New table frames) = ⊥
-IsAskingStage (Serving engine) = IsSome engine.question
-IsAskingStage (Defining engine) = IsSome engine.question
-IsAskingStage (Publishing engine value) = Unit {0}
-IsAskingStage (Writing engine ending) = ⊥
-IsAskingStage (Over engine) = ⊥
-IsAskingStage Lost = ⊥
+-- ---- what stays
 
-abbrev pub IsAsking : Interp → Type 0
-IsAsking interp = IsAskingStage interp.stage
+-- What no run changes, also where memory wants: of its engine the marks of the table with the entries above them, and the base
+-- scalars; and its blueprint, its mark and its tables.
+pub record Holds (new old : Interp) : Type 0 where
+  pub engine : Lasts new.settling.run.engine old.settling.run.engine
+  pub blueprint : new.blueprint.value ≡ old.blueprint.value
+  pub mark : new.mark ≡ old.mark
+  pub routes : new.routes ≡ old.routes
+  pub cleanups : new.cleanups ≡ old.cleanups
 
--- It stands where a response is to be written.
-abbrev pub IsWritingStage : Stage → Type 0
-IsWritingStage (New table frames) = ⊥
-IsWritingStage (Serving engine) = ⊥
-IsWritingStage (Defining engine) = ⊥
-IsWritingStage (Publishing engine value) = ⊥
-IsWritingStage (Writing engine ending) = Unit {0}
-IsWritingStage (Over engine) = ⊥
-IsWritingStage Lost = ⊥
+-- Within one run the request's filters, its authorisation and what serves it stay, and so do the moment and the spare blueprint.
+pub record IsSameRun (new old : Interp) : Type 0 where
+  pub visit : new.visit ≡ old.visit
+  pub moment : new.moment ≡ old.moment
+  pub spare : spare_of new ≡ spare_of old
 
-abbrev pub IsWriting : Interp → Type 0
-IsWriting interp = IsWritingStage interp.stage
+-- ---- steps
 
--- It is over: its run has ended.
-abbrev pub IsOverStage : Stage → Type 0
-IsOverStage (New table frames) = ⊥
-IsOverStage (Serving engine) = ⊥
-IsOverStage (Defining engine) = ⊥
-IsOverStage (Publishing engine value) = ⊥
-IsOverStage (Writing engine ending) = ⊥
-IsOverStage (Over engine) = Unit {0}
-IsOverStage Lost = ⊥
+-- The entries that a run has written in its own command table, with those of the run inside that hasn't ended.
+abbrev pub interp_written : List (List ℕ) → Interp → ℕ
+interp_written names interp = written names interp.blueprint.value interp.settling
 
--- how a run ends: neither at a question nor with want of memory
-abbrev pub IsEnd : Outcome → Type 0
-IsEnd (outcomes.Done code result) = Unit {0}
-IsEnd (outcomes.Asks question) = ⊥
-IsEnd outcomes.Spent = Unit {0}
-IsEnd outcomes.TooDeep = Unit {0}
-IsEnd outcomes.NoMemory = ⊥
+-- The entries that the runs inside which ended in a call have written: of the steps that were counted before and after it, those
+-- that the call didn't write in the table of the run itself.
+abbrev pub taken : List (List ℕ) → ℕ → ℕ → Interp → Interp → ℕ
+taken names after before new old = (after + interp_written names old) - (before + interp_written names new)
 
--- It stands at what it answered. Where its run has ended it is over: it stands at no question and at no response, and is not as
--- newly made, so nothing goes on.
-abbrev pub StageStandsAt : Next → Stage → Type 0
-StageStandsAt (Asks question) stage = IsAskingStage stage
-StageStandsAt (Write response) stage = IsWritingStage stage
-StageStandsAt (Ended outcome) stage = IsEnd outcome × IsOverStage stage
-StageStandsAt NoMemory stage = Unit {0}
+-- No step is left out: each entry that was written in the table of the run itself was counted.
+abbrev pub Counts : List (List ℕ) → ℕ → ℕ → Interp → Interp → Type 0
+Counts names after before new old = before + interp_written names new ≤ after + interp_written names old
 
-abbrev pub StandsAt : Next → Interp → Type 0
-StandsAt next interp = StageStandsAt next interp.stage
-
--- What comes of what runs, with further answers: its questions get them in order.
-abbrev pub run_gives : List (List ℕ) → Question → Stage → List Answer → Progress
-run_gives natives question (Serving engine) answers = main_end (settle (comes_to natives host_table (outcomes.Asks question) engine) answers)
-run_gives natives question (Defining engine) answers = define_end (settle (comes_to natives host_table (outcomes.Asks question) engine) answers)
-run_gives natives question (Publishing engine value) answers = publishing question value (engine_state engine) answers
-run_gives natives question (New table frames) answers = asks question (stage_state (New table frames))
-run_gives natives question (Writing engine ending) answers = asks question (stage_state (Writing engine ending))
-run_gives natives question (Over engine) answers = asks question (stage_state (Over engine))
-run_gives natives question Lost answers = asks question (stage_state Lost)
-
--- What comes of an interpreter that answered this, with further answers. Of want of memory nothing is said.
-abbrev pub stage_gives : List (List ℕ) → Next → Stage → List Answer → Progress
-stage_gives natives (Asks question) stage answers = run_gives natives question stage answers
-stage_gives natives (Write response) stage answers = writes response (stage_ending stage) (stage_state stage) answers
-stage_gives natives (Ended outcome) stage answers = ends outcome (stage_state stage) answers
-stage_gives natives NoMemory stage answers = ends outcomes.NoMemory (stage_state stage) answers
-
-abbrev pub gives : List (List ℕ) → Next → Interp → List Answer → Progress
-gives natives next interp answers = stage_gives natives next interp.stage answers
+-- ---- what it stands for
 
 -- whatever is answered but want of memory
 abbrev pub UnlessNoMemory : Next → Type 0 → Type 0
-UnlessNoMemory (Asks question) P = P
-UnlessNoMemory (Write response) P = P
-UnlessNoMemory (Ended outcome) P = P
-UnlessNoMemory NoMemory P = Unit {0}
+UnlessNoMemory (Asks question) fact = fact
+UnlessNoMemory (Write response) fact = fact
+UnlessNoMemory (Ended outcome) fact = fact
+UnlessNoMemory NoMemory fact = Unit {0}
 
--- An interpreter that answered this stands for a run and a list that was given to it: whatever is given further, the run
--- comes with the whole list as far as the interpreter itself comes with the further one.
-abbrev pub Stands : List (List ℕ) → (List Answer → Progress) → Next → Interp → List Answer → Type 0
-Stands natives run next interp given =
-    UnlessNoMemory next ((further : List Answer) → run (given ++ further) ≡ gives natives next interp further)
+module _ (names : List (List ℕ)) where
+  -- what serves its request
+  abbrev pub served : Interp → Stretch
+  served i = serve names i.blueprint.value i.moment i.visit.serving
 
--- a number falls where a question is asked again
-abbrev pub Falls : Next → ℕ → ℕ → Type 0
-Falls (Asks question) before after = after < before
-Falls (Write response) before after = Unit {0}
-Falls (Ended outcome) before after = Unit {0}
-Falls NoMemory before after = Unit {0}
+  -- its cleanup scripts from a place on
+  abbrev pub cleaned : Interp → ℕ → Ending → Stretch
+  cleaned i next ending = cleanups_from names i.blueprint.value i.moment (drop next i.cleanups) ending
 
--- What comes of an answer: what the new interpreter gives on further answers is what the old one, at its question, gives on
--- the answer and those behind it.
-abbrev pub GoesOn : List (List ℕ) → Next → Interp → Interp → Answer → Type 0
-GoesOn natives next new old answer =
-    (question : Question) (further : List Answer) → gives natives next new further ≡ gives natives (Asks question) old (answer ∷ further)
+  -- What comes of a script in the task under way. Where no script can run, this is never met.
+  abbrev pub task_end : Interp → Task → Settled → Progress
+  task_end i New x = main_on x procedure_end
+  task_end i (Preauth next) x = main_on x (λ code result.
+      filter_end (filters_from names i.blueprint.value i.moment (drop next i.visit.preauth) (unauthorised names i.blueprint.value i.moment i.visit)) (unauthorised names i.blueprint.value i.moment i.visit) (verdict code result))
+  task_end i Authorise x = main_on x (λ code result. access_end (authorised names i.blueprint.value i.moment i.visit) (access code result))
+  task_end i (Postauth next) x = main_on x (λ code result.
+      filter_end (filters_from names i.blueprint.value i.moment (drop next i.visit.postauth) (served i)) (served i) (verdict code result))
+  task_end i (PageAsked path budget) x = main_on x procedure_end
+  task_end i Procedure x = main_on x procedure_end
+  task_end i Page x = main_on x page_end
+  task_end i (Writing ending) x = main_on x procedure_end
+  task_end i (Trace next ending) x = after_on ending x (λ code result.
+      trace_end (traces_from names i.blueprint.value i.moment (drop next i.visit.trace) i.cleanups ending) (cleaned i 0 ending) (verdict code result))
+  task_end i (Cleanup next ending) x = after_on ending x (λ code result. cleaned i next ending)
+  task_end i Script x = script_end x
+  task_end i (Define defining) x = main_on x procedure_end
+  task_end i Over x = main_on x procedure_end
 
--- The same of all that was given since the start: where the old interpreter, at its question, stood for a run and a list, the
--- new one stands for that run and the list followed by the answer.
-abbrev pub StandsOn : List (List ℕ) → Next → Interp → Interp → Answer → Type 0
-StandsOn natives next new old answer =
-    (question : Question) (run : List Answer → Progress) (given : List Answer)
-    → Stands natives run (Asks question) old given → Stands natives run next new (given ++ answer ∷ [])
+  -- what comes of a script that stopped so; the runs inside that have ended wrote so much
+  abbrev pub goes_to : Stop → ℕ → Interp → List Answer → Progress
+  goes_to stop inside i answers = task_end i i.task (settling_gives names i.blueprint.value i.moment stop i.settling inside answers)
 
--- a question is asked only where the engine asked it, and then this number is that one; or it is the last one, and none is left
-abbrev pub AsksWhere : Next → Outcome → ℕ → ℕ → Type 0
-AsksWhere (Asks question) outcome left engine_left = (left ≡ 0) ⊎ ((outcome ≡ outcomes.Asks question) × (left ≡ engine_left))
-AsksWhere (Write response) outcome left engine_left = Unit {0}
-AsksWhere (Ended last) outcome left engine_left = Unit {0}
-AsksWhere NoMemory outcome left engine_left = Unit {0}
+  -- what comes of it at a question: that of a script, for a first page, or of a definition run
+  abbrev pub asking_gives : Question → Task → ℕ → Interp → List Answer → Progress
+  asking_gives question (PageAsked path budget) inside i answers =
+      page_asked names i.blueprint.value i.moment question path (interp_state i) (account_of budget i.settling.questions inside) answers
+  asking_gives question (Define defining) inside i answers =
+      defined_end inside (define_at names i.blueprint.value i.moment question i.settling.run defining defining.value answers)
+  asking_gives question New inside i answers = goes_to (stops.Asks question) inside i answers
+  asking_gives question (Preauth next) inside i answers = goes_to (stops.Asks question) inside i answers
+  asking_gives question Authorise inside i answers = goes_to (stops.Asks question) inside i answers
+  asking_gives question (Postauth next) inside i answers = goes_to (stops.Asks question) inside i answers
+  asking_gives question Procedure inside i answers = goes_to (stops.Asks question) inside i answers
+  asking_gives question Page inside i answers = goes_to (stops.Asks question) inside i answers
+  asking_gives question (Writing ending) inside i answers = goes_to (stops.Asks question) inside i answers
+  asking_gives question (Trace next ending) inside i answers = goes_to (stops.Asks question) inside i answers
+  asking_gives question (Cleanup next ending) inside i answers = goes_to (stops.Asks question) inside i answers
+  asking_gives question Script inside i answers = goes_to (stops.Asks question) inside i answers
+  asking_gives question Over inside i answers = goes_to (stops.Asks question) inside i answers
+
+  -- What comes of an interpreter that answered this, with further answers, where the runs inside that have ended wrote so much. Of
+  -- want of memory nothing is said.
+  abbrev pub gives : Next → ℕ → Interp → List Answer → Progress
+  gives (Asks question) inside i answers = asking_gives question i.task inside i answers
+  gives (Write response) inside i answers = writes response (ending_of i.task) (interp_state i) inside answers
+  gives (Ended outcome) inside i answers = ends outcome (interp_state i) inside answers
+  gives NoMemory inside i answers = ends outcomes.NoMemory (interp_state i) inside answers
+
+  abbrev pub move_gives : Move → ℕ → Interp → List Answer → Progress
+  move_gives (moves.Goes stop) inside i answers = goes_to stop inside i answers
+  move_gives (moves.Stops next) inside i answers = gives next inside i answers
+
+  -- An interpreter that answered this stands for a run and a list that was given to it: whatever is given further, the run comes
+  -- with the whole list as far as the interpreter itself comes with the further one. The runs inside that have ended wrote so much.
+  abbrev pub Stands : (List Answer → Progress) → Next → ℕ → Interp → List Answer → Type 0
+  Stands run next inside i given =
+      UnlessNoMemory next ((further : List Answer) → run (given ++ further) ≡ gives next inside i further)
+
+  -- What comes of an answer: what the new interpreter gives on further answers is what the old one, at its question, gives on the
+  -- answer and those behind it. In the call the runs inside that ended took so many steps.
+  abbrev pub GoesOn : Next → ℕ → Interp → Interp → Answer → Type 0
+  GoesOn next took new old answer =
+      UnlessNoMemory next ((question : Question) (inside : ℕ) (further : List Answer)
+      → gives next (inside + took) new further ≡ gives (Asks question) inside old (answer ∷ further))
+
+  -- The same of all that was given since the start: where the old interpreter, at its question, stood for a run and a list, the new
+  -- one stands for that run and the list followed by the answer.
+  abbrev pub StandsOn : Next → ℕ → Interp → Interp → Answer → Type 0
+  StandsOn next took new old answer =
+      (question : Question) (inside : ℕ) (run : List Answer → Progress) (given : List Answer)
+      → Stands run (Asks question) inside old given → Stands run next (inside + took) new (given ++ answer ∷ [])

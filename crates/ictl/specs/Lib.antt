@@ -1,16 +1,13 @@
 -- What a reader believes.
-pub mod Routes
-pub mod Hosts
-pub mod Says
-pub mod Responding
-pub mod Registering
-pub mod Sharing
-pub mod Leaf
+pub mod Fresh
 pub mod Settle
-pub mod Main
-pub mod Scripts
 pub mod Defines
+pub mod Replies
+pub mod Visits
+pub mod Main
+pub mod Standing
 pub mod Interps
+pub mod Falls
 pub mod Laws
 -- What only proofs use.
-pub mod Serving
+pub mod Steps

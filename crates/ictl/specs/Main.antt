@@ -1,93 +1,76 @@
--- The run of a request: up to its response, and behind it.
-use Rattle.std.specs.Prelude.{ℕ, zero, suc, List, [], codes, Bool, true, false, Option, Some, None}
+-- The runs of an interpreter: a request up to its response and behind it, a scheduled script, and a definition run.
+use Rattle.std.specs.Prelude.{ℕ, List, [], ◌∷◌, Bool, true, false, codes, Option, Some, None}
 use Rattle.outside.specs.declared.question.Answer.{Answer}
+use Rattle.outside.specs.declared.question.Answer.TheVariants as kinds
 use Rattle.outside.specs.declared.question.Question.{Question}
+use Rattle.outside.specs.declared.question.Service.TheVariants as service
 use Rattle.http_req.specs.declared.request.Request.{Request}
 use Rattle.http_resp.specs.declared.response.Response.{Response}
-use Rattle.http_resp.specs.Replies.{plain_reply, text_reply}
-use Rattle.cmd_table.specs.declared.definition.Def.{Def}
-use Rattle.cmd_table.specs.Commands.{Commands}
-use Rattle.tcl_frame.specs.Frames.{fresh as fresh_frames}
+use Rattle.http_resp.specs.Replies.{plain_reply}
+use Rattle.tcl_host.specs.Leaf.{Onward, goes, enters}
+use Rattle.server_host.specs.declared.edition.Edition.{Edition}
+use Rattle.server_host.specs.Hosts.{HostState}
+use Rattle.server_host.specs.Leaf.{host_table}
 use Rattle.tcl_eval.specs.State.{State}
-use Rattle.tcl_eval.specs.Eval.{eval}
-use Rattle.tcl_eval.specs.declared.outcome.Work.TheVariants.{Call}
+use Rattle.tcl_eval.specs.Eval.{eval, with_host}
+use Rattle.tcl_eval.specs.Engine.{at_global}
+use Rattle.tcl_eval.specs.declared.outcome.Work.{Work}
+use Rattle.tcl_eval.specs.declared.outcome.Work.TheVariants as works
 use Rattle.tcl_eval.specs.declared.outcome.Outcome.{Outcome}
 use Rattle.tcl_eval.specs.declared.outcome.Outcome.TheVariants as outcomes
-use Rattle.ictl.specs.Hosts.{HostState, serving}
-use Rattle.ictl.specs.Leaf.{host_table}
-use Rattle.ictl.specs.Routes.{route}
-use Rattle.ictl.specs.Settle.{Settled, ended, asking, exhausted, nested, settle}
+use Rattle.ictl.specs.Fresh.{request_state, script_state, outset}
+use Rattle.ictl.specs.Settle.{Account, account_of, Settled, ended, asking, exhausted, nested, Defined, said, stands, gone, sunk, settle}
+use Rattle.ictl.specs.Defines.{Define as define_run, inner_runs}
+use Rattle.ictl.specs.Replies.{failed, budget_reply, nesting_reply, unauthorized, given_or_failed, procedure_reply, page_reply, verdict, access}
+use Rattle.ictl.specs.Visits.{visit_of, cleanups_of}
+use Rattle.ictl.specs.declared.visit.Serving.{Serving}
+use Rattle.ictl.specs.declared.visit.Serving.TheVariants.{Procedure, Page, Nothing}
+use Rattle.ictl.specs.declared.visit.Visit.{Visit}
 use Rattle.ictl.specs.declared.ending.Ending.{Ending}
 use Rattle.ictl.specs.declared.ending.Ending.TheVariants.{Answered, Spent, TooDeep}
-
--- What was published: how often, and all definitions.
-pub record Blueprint : Type 0 where
-  pub epoch : ℕ
-  pub definitions : List Def
-
--- The state on natives of these names and a blueprint, with such a host: its commands, an empty global frame, and nothing that
--- was made.
-abbrev pub fresh : List (List ℕ) → Blueprint → HostState → State HostState
-fresh natives blueprint host = record {
-  commands = Commands natives blueprint.definitions;
-  frames = fresh_frames;
-  host = host;
-  made = [];
-}
+use Rattle.ictl.specs.declared.ending.Verdict.{Verdict}
+use Rattle.ictl.specs.declared.ending.Verdict.TheVariants.{Goes, Breaks, Returns, Fails}
+use Rattle.ictl.specs.declared.ending.Access.{Access}
+use Rattle.ictl.specs.declared.ending.Access.TheVariants.{Allowed, Unauthorized, Forbidden, Failed}
 
 -- How far a run comes with the answers that are given.
 pub data Progress : Type 0 where
   -- it stands at this question
-  asks : (question : Question) (state : State HostState) → Progress
+  asks : (question : Question) (state : State HostState) (inside : ℕ) → Progress
   -- it stands where this response is to be written, and how it ended so far; these answers are left
-  writes : (response : Response) (ending : Ending) (state : State HostState) (left : List Answer) → Progress
+  writes : (response : Response) (ending : Ending) (state : State HostState) (inside : ℕ) (left : List Answer) → Progress
   -- it has ended, and these answers are left
-  ends : (outcome : Outcome) (state : State HostState) (left : List Answer) → Progress
+  ends : (outcome : Outcome) (state : State HostState) (inside : ℕ) (left : List Answer) → Progress
 
--- what a request may spend up to its response, and a definition run in all
+-- what a run may spend: a request up to its response, and anew behind it; a scheduled script; a definition run in all
 abbrev pub run_budget : ℕ
 run_budget = 200000
 
--- how deep the call of the words that serve a request stands, and the script of a definition run
+-- how many questions it may ask in that: eight for each command, and one more
+abbrev pub run_questions : ℕ
+run_questions = 1800000
+
+-- where the first script or call of a run stands, and the blocks of a first page
 abbrev pub first_depth : ℕ
 first_depth = 1
 
--- the response that was given, or the 500 reply where none was
-abbrev pub given_or_500 : Option Response → Response
-given_or_500 None = plain_reply 500
-given_or_500 (Some response) = response
+-- an account from which nothing was taken, where the runs inside have written so much
+abbrev pub full : ℕ → Account
+full inside = account_of run_budget run_questions inside
 
--- the response after a code: another code than 0 and 2 is a failure, and gives the 500 reply also where a response was given
-abbrev pub after_code : ℕ → Option Response → Response
-after_code zero given = given_or_500 given
-after_code (suc zero) given = plain_reply 500
-after_code (suc (suc zero)) given = given_or_500 given
-after_code (suc (suc (suc code))) given = plain_reply 500
+-- what comes of a stretch of a run, from a state on
+abbrev pub Stretch : Type 0
+Stretch = State HostState → Account → List Answer → Progress
 
--- where a run was spent or too deep, a reply says so, whatever response was given
-abbrev pub main_end : Settled → Progress
-main_end (ended code result state left) = writes (after_code code state.host.response) Answered state left
-main_end (asking question state) = asks question state
-main_end (exhausted state left) = writes (text_reply 500 (codes "budget spent")) Spent state left
-main_end (nested state left) = writes (text_reply 500 (codes "nesting too deep")) TooDeep state left
+-- what comes of a script's code and result
+abbrev pub Then : Type 0
+Then = ℕ → List ℕ → Stretch
 
--- the words that serve the request are called; where there are none, the answer is the 404 reply
-abbrev pub main_by : List (List ℕ) → Option (List (List ℕ)) → State HostState → List Answer → Progress
-main_by natives None state answers = writes (plain_reply 404) Answered state answers
-main_by natives (Some words) state answers = main_end (settle (eval natives host_table first_depth (Call words) state run_budget) answers)
-
--- The run of a request up to its response, on natives of these names and a blueprint, at a moment, with these answers.
-abbrev pub Main : List (List ℕ) → Blueprint → Request → ℕ → List Answer → Progress
-Main natives blueprint request moment answers =
-    main_by natives (route blueprint.definitions request.method request.segments) (fresh natives blueprint (serving request moment)) answers
+-- ---- endings
 
 -- how a run that was answered ends
 abbrev pub answered : Outcome
 answered = outcomes.Done 0 []
-
--- What runs behind a response that was written whole, from the state then: nothing, so it ends well.
-abbrev pub After : List (List ℕ) → Blueprint → State HostState → List Answer → Progress
-After natives blueprint state answers = ends answered state answers
 
 -- the outcome of both parts: that of the first unless it was answered, else that of the second
 abbrev pub both : Ending → Outcome → Outcome
@@ -95,12 +78,191 @@ both Answered after = after
 both Spent after = outcomes.Spent
 both TooDeep after = outcomes.TooDeep
 
-abbrev pub both_end : Ending → Progress → Progress
-both_end ending (asks question state) = asks question state
-both_end ending (writes response more state left) = writes response more state left
-both_end ending (ends outcome state left) = ends (both ending outcome) state left
+-- a response that is to be written where nothing cut the run off
+abbrev pub responds : Response → Stretch
+responds response state account left = writes response Answered state account.inside left
 
--- What comes behind the response, which was written whole or not: where it wasn't, nothing runs.
-abbrev pub behind : List (List ℕ) → Bool → Ending → Blueprint → State HostState → List Answer → Progress
-behind natives true ending blueprint state answers = both_end ending (After natives blueprint state answers)
-behind natives false ending blueprint state answers = ends (both ending answered) state answers
+-- ---- what follows a script
+
+-- up to the response: where it was spent or too deep, a reply says so, whatever response was given
+abbrev pub main_on : Settled → Then → Progress
+main_on (ended code result state account left) go = go code result state account left
+main_on (asking question state inside) go = asks question state inside
+main_on (exhausted state inside left) go = writes budget_reply Spent state inside left
+main_on (nested state inside left) go = writes nesting_reply TooDeep state inside left
+
+-- behind the response: where it was spent or too deep, the rest of the run isn't run
+abbrev pub after_on : Ending → Settled → Then → Progress
+after_on ending (ended code result state account left) go = go code result state account left
+after_on ending (asking question state inside) go = asks question state inside
+after_on ending (exhausted state inside left) go = ends (both ending outcomes.Spent) state inside left
+after_on ending (nested state inside left) go = ends (both ending outcomes.TooDeep) state inside left
+
+-- a filter before the response: the next one follows; or what is behind its stage; or the response, as it was given; or it failed
+abbrev pub filter_end : Stretch → Stretch → Verdict → Stretch
+filter_end next behind Goes state = next state
+filter_end next behind Breaks state = behind state
+filter_end next behind Returns state = responds (given_or_failed state.host.conn.response) state
+filter_end next behind Fails state = responds failed state
+
+-- the authorisation
+abbrev pub access_end : Stretch → Access → Stretch
+access_end next Allowed = next
+access_end next Unauthorized = responds unauthorized
+access_end next Forbidden = responds (plain_reply 403)
+access_end next Failed = responds failed
+
+-- the procedure
+abbrev pub procedure_end : Then
+procedure_end code result state = responds (procedure_reply code state.host.conn.response) state
+
+-- the first page
+abbrev pub page_end : Then
+page_end code result state = responds (page_reply state.host) state
+
+-- a filter behind the response: only a break counts, which ends its stage
+abbrev pub trace_end : Stretch → Stretch → Verdict → Stretch
+trace_end next behind Breaks = behind
+trace_end next behind Goes = next
+trace_end next behind Returns = next
+trace_end next behind Fails = next
+
+-- a scheduled script
+abbrev pub script_end : Settled → Progress
+script_end (ended code result state account left) = ends (outcomes.Done code result) state account.inside left
+script_end (asking question state inside) = asks question state inside
+script_end (exhausted state inside left) = ends outcomes.Spent state inside left
+script_end (nested state inside left) = ends outcomes.TooDeep state inside left
+
+-- what a definition run said, as an outcome
+abbrev pub outcome_of : Answer → Outcome
+outcome_of (kinds.Said text) = outcomes.Done 0 text
+outcome_of (kinds.Failed why) = outcomes.Done 1 why
+outcome_of (kinds.Page page) = outcomes.Done 1 []
+outcome_of kinds.NoPage = outcomes.Done 1 []
+outcome_of kinds.PageFault = outcomes.Done 1 []
+
+-- a definition run, inside which nothing runs: what others wrote stays as it was
+abbrev pub defined_end : ℕ → Defined → Progress
+defined_end inside (said answer budget state left) = ends (outcome_of answer) state inside left
+defined_end inside (stands question state) = asks question state inside
+defined_end inside (gone state left) = ends outcomes.Spent state inside left
+defined_end inside (sunk state left) = ends outcomes.TooDeep state inside left
+
+-- ---- first pages
+
+-- the question for a first page
+abbrev pub page_question : List ℕ → Question
+page_question path = record { service = service.Page; words = path ∷ [] }
+
+-- a first page is entered as an included one is, by these words
+abbrev pub page_words : List ℕ → List (List ℕ)
+page_words path = codes "ns_adp_include" ∷ path ∷ []
+
+-- a page that isn't there is not found; what can't be read, or is too long, failed
+abbrev pub unentered : Answer → Response
+unentered kinds.NoPage = plain_reply 404
+unentered (kinds.Said text) = failed
+unentered (kinds.Failed why) = failed
+unentered (kinds.Page page) = failed
+unentered kinds.PageFault = failed
+
+module _ (names : List (List ℕ)) (blueprint : Edition) (moment : ℕ) where
+  -- A script, a call or a page, from a state on, with what is left of an account.
+  abbrev pub runs : Work → State HostState → Account → List Answer → Settled
+  runs work state account answers =
+      settle (inner_runs names blueprint moment) account.questions account.inside
+      (eval names host_table first_depth work state account.budget) answers
+
+  -- A call or a script, which begins at the global frame and outside of every page.
+  abbrev pub calls : List (List ℕ) → State HostState → Account → List Answer → Settled
+  calls words state account answers = runs (works.Call words) (outset state) account answers
+
+  abbrev pub scripts : List ℕ → State HostState → Account → List Answer → Settled
+  scripts script state account answers = runs (works.Script script) (outset state) account answers
+
+  -- ---- up to the response
+
+  -- the answer for a first page, which costs nothing, enters it or doesn't
+  abbrev pub page_entered : Answer → Onward HostState → Stretch
+  page_entered answer (enters pieces host) state account left =
+      main_on (runs (works.Page pieces) (at_global (with_host state host)) account left) page_end
+  page_entered answer (goes leaf) state account left = responds (unentered answer) state account left
+
+  -- a run that stands at the question for a first page
+  abbrev pub page_asked : Question → List ℕ → Stretch
+  page_asked question path state account [] = asks question state account.inside
+  page_asked question path state account (answer ∷ left) =
+      page_entered answer (host_table.answers (page_words path) answer state.host) state account left
+
+  -- the procedure is called, or the page asked for; what is neither is not found
+  abbrev pub serve : Serving → Stretch
+  serve (Procedure words) state account answers = main_on (calls words state account answers) procedure_end
+  serve (Page path) state account answers = page_asked (page_question path) path (outset state) account answers
+  serve Nothing state account answers = responds (plain_reply 404) state account answers
+
+  -- the filters of a stage, and then what is behind it
+  abbrev pub filters_from : List (List (List ℕ)) → Stretch → Stretch
+  filters_from [] behind state account answers = behind state account answers
+  filters_from (call ∷ more) behind state account answers =
+      main_on (calls call state account answers)
+      (λ code result. filter_end (filters_from more behind) behind (verdict code result))
+
+  -- the authorisation, where there is one
+  abbrev pub authorise : Option (List (List ℕ)) → Stretch → Stretch
+  authorise None behind state account answers = behind state account answers
+  authorise (Some call) behind state account answers =
+      main_on (calls call state account answers) (λ code result. access_end behind (access code result))
+
+  -- behind the authorisation: the postauth filters, and what serves
+  abbrev pub authorised : Visit → Stretch
+  authorised visit = filters_from visit.postauth (serve visit.serving)
+
+  -- behind the preauth filters
+  abbrev pub unauthorised : Visit → Stretch
+  unauthorised visit = authorise visit.authorisation (authorised visit)
+
+  -- the whole request
+  abbrev pub visited : Visit → Stretch
+  visited visit = filters_from visit.preauth (unauthorised visit)
+
+  -- ---- behind the response
+
+  -- the cleanup scripts, whatever comes of each
+  abbrev pub cleanups_from : List (List ℕ) → Ending → Stretch
+  cleanups_from [] ending state account answers = ends (both ending answered) state account.inside answers
+  cleanups_from (script ∷ more) ending state account answers =
+      after_on ending (scripts script state account answers) (λ code result. cleanups_from more ending)
+
+  -- the trace filters, and then these cleanup scripts
+  abbrev pub traces_from : List (List (List ℕ)) → List (List ℕ) → Ending → Stretch
+  traces_from [] cleanups ending state account answers = cleanups_from cleanups ending state account answers
+  traces_from (call ∷ more) cleanups ending state account answers =
+      after_on ending (calls call state account answers)
+      (λ code result. trace_end (traces_from more cleanups ending) (cleanups_from cleanups ending) (verdict code result))
+
+  -- The run of a request behind a response that was written whole, from the state then, by how the run ended up to there: with a
+  -- budget anew.
+  abbrev pub After : Request → Ending → State HostState → ℕ → List Answer → Progress
+  After request ending state inside answers =
+      traces_from (visit_of names blueprint request).trace (cleanups_of blueprint.defs) ending state (full inside) answers
+
+  -- What comes behind the response, which was written whole or not: where it wasn't, nothing runs.
+  abbrev pub behind : Bool → Request → Ending → State HostState → ℕ → List Answer → Progress
+  behind true request ending state inside answers = After request ending state inside answers
+  behind false request ending state inside answers = ends (both ending answered) state inside answers
+
+-- The run of a request up to its response, on natives of these names and a blueprint, at a moment, with these answers.
+abbrev pub Main : List (List ℕ) → Edition → Request → ℕ → List Answer → Progress
+Main names blueprint request moment answers =
+    visited names blueprint moment (visit_of names blueprint request) (request_state names blueprint request moment) (full 0) answers
+
+-- The run of a scheduled script. No filter and no cleanup script follows.
+unfoldable pub Script : List (List ℕ) → Edition → List ℕ → ℕ → List Answer → Progress
+Script names blueprint script moment answers =
+    script_end (scripts names blueprint moment script (script_state names blueprint moment) (full 0) answers)
+
+-- The definition run of a script that stands for itself, as a start script does.
+unfoldable pub Define : List (List ℕ) → Edition → List ℕ → ℕ → List Answer → Progress
+Define names blueprint script moment answers =
+    defined_end 0 (define_run names blueprint moment script run_budget run_questions first_depth answers)

@@ -1,180 +1,173 @@
-//! Definition runs: scripts without a connection, whose definitions are published.
+//! Definition runs. The only error of each call is want of memory.
 
-ghost use Rattle.std.specs.Prelude.{◌≡◌, ◌≤◌, ℕ, ◌∷◌, List, IfOk, IsSome, length};
-ghost use Rattle.outside.specs.declared.question.Question.{Question};
-ghost use Rattle.outside.specs.declared.question.Answer.{Answer};
-ghost use Rattle.tcl_eval.specs.Engine.{state_of as engine_state, IsIdle, Leaves, comes_to};
-ghost use Rattle.tcl_eval.specs.Eval.{returned};
+ghost use Rattle.std.specs.Prelude.{◌≡◌, ◌<◌, ◌≤◌, ◌+◌, ◌∷◌, ℕ, List, None, IfOk};
+ghost use Rattle.cmd_table.specs.Commands.{Writes};
 ghost use Rattle.natives.specs.Names.{names_of};
-ghost use Rattle.ictl.specs.Leaf.{host_table};
+ghost use Rattle.outside.specs.declared.question.Answer.{Answer};
+ghost use Rattle.outside.specs.declared.question.Question.{Question};
+ghost use Rattle.server_host.specs.declared.edition.Edition.{Edition as Published};
 ghost use Rattle.ictl.specs.Settle.{settle};
-ghost use Rattle.ictl.specs.Defines.{publish, published, good_end, script_end, define_end, script_run};
-ghost use Rattle.ictl.specs.Interps.{stage_gives, StageStandsAt, stage_questions, engine_questions, Falls, AsksWhere};
+ghost use Rattle.ictl.specs.Defines.{published, publish, script_end, define_end, no_inner};
+ghost use Rattle.tcl_eval.specs.Eval.{returned};
+ghost use Rattle.ictl.specs.Standing.{state_of, comes_to, define_at, define_gives};
+ghost use Rattle.tcl_eval.specs.Engine.{Lasts};
+ghost use Rattle.ictl.specs.Falls.{Suffices, StopAsks, DefineAsks, DefineStopAsks, DefineFalls, define_number};
 
-use crate::copy::push;
-use crate::host::RunHost;
-use crate::interp::Stage;
-use crate::next::Next;
-use crate::script::script_of;
-use cmd_table::Steps;
+use crate::ending::is_good;
+use crate::running::{Running, Stop};
+use blueprint::script_of;
+use cmd_table::{Defs, Steps};
 use natives::Natives;
 use outside::{Answer, Question, Service};
 use std::alloc::Global;
 use std::sync::ledger::Ledger;
-use tcl_eval::{Engine, Outcome, Work, outside_loop};
+use tcl_eval::outside_loop;
+use tcl_host::{BREAK, CONTINUE};
 use txt_core::{NoMemory, Text, Words};
 
-/// The codes of a good end, of an error, of a return, of a break and of a continue.
-const OK: u8 = 0;
+/// What is kept of a definition run beside what runs: how many questions it may still ask, and the
+/// result of its script, where that ended well and waits for the answer whether to publish.
+#[derive(Drop)]
+pub struct DefineRun {
+    pub questions: u64,
+    pub value: Option<Text>,
+}
 
-const ERROR: u8 = 1;
+/// What a definition run came to.
+#[derive(Drop)]
+pub enum DefineStop {
+    /// It stands at this question.
+    Stands(Question),
+    /// It answers this.
+    Said(Answer),
+    /// It was spent.
+    Gone,
+    /// It was too deep.
+    Sunk,
+}
 
-const RETURN: u8 = 2;
-
-const BREAK: u8 = 3;
-
-const CONTINUE: u8 = 4;
-
-/// How a script ends that came to this code and value: as a procedure does.
-fn returned(alloc: Global, code: u8, value: Text) -> Result<(u8, Text), NoMemory>
-    ensures { IfOk result (λ x. record { code = x.0; result = x.1 } ≡ returned code value) }
+/// What comes of the answer to the question whether to publish.
+fn published(alloc: Global, value: Text, answer: Answer) -> Answer
+    ensures { result ≡ published value answer }
 {
-    match code {
-        RETURN => Ok((OK, value)),
-        BREAK => Ok((ERROR, outside_loop(alloc, b"break")?)),
-        CONTINUE => Ok((ERROR, outside_loop(alloc, b"continue")?)),
-        _ => Ok((code, value)),
+    match answer {
+        Answer::Said(_) => Answer::Said(value),
+        Answer::Failed(why) => Answer::Failed(why),
+        Answer::Page(_) | Answer::NoPage | Answer::PageFault => Answer::Failed(Text::empty(alloc)),
     }
 }
 
-/// The question whether what an engine made is published.
-fn publish(alloc: Global, engine: &Engine<RunHost>) -> Result<Question, NoMemory>
-    ensures { IfOk result (λ question. question ≡ publish engine.now.made) }
+/// The question whether what was made is published.
+fn publish(alloc: Global, made: &Defs) -> Result<Question, NoMemory>
+    ensures { IfOk result (λ question. question ≡ publish made.now) }
 {
     let mut words = Words::new(alloc);
-    push(&mut words, script_of(alloc, engine.made())?)?;
+    words.add(script_of(alloc, made)?)?;
     Ok(Question {
         service: Service::Publish,
         words,
     })
 }
 
-/// A script ended well: what it made is to be published, where it made anything.
-fn end_well(alloc: Global, engine: Engine<RunHost>, value: Text) -> Result<(Stage, Next), NoMemory>
-    ensures gives { IfOk result (λ x. (natives : List (List ℕ)) (further : List Answer) → stage_gives natives x.1 x.0 further ≡ good_end engine.made value (engine_state engine) further) }
-    ensures next { IfOk result (λ x. StageStandsAt x.1 x.0) }
-    ensures last { IfOk result (λ x. stage_questions x.0 ≡ 0) }
+/// The error of a script that ended with another code than 0 and 2.
+fn error_text(alloc: Global, code: u8, value: Text) -> Result<Text, NoMemory>
+    ensures { IfOk result (λ text. text ≡ (returned code value).result) }
 {
-    if engine.made().is_empty() {
-        return Ok(over(engine, OK, value));
+    if code == BREAK {
+        outside_loop(alloc, b"break")
+    } else if code == CONTINUE {
+        outside_loop(alloc, b"continue")
+    } else {
+        Ok(value)
     }
-    let question = publish(alloc, &engine)?;
-    Ok((Stage::Publishing { engine, value }, Next::Asks(question)))
 }
 
-/// A run has ended with this code and value.
-fn over(engine: Engine<RunHost>, code: u8, value: Text) -> (Stage, Next)
-    ensures { result ≡ (Stage.Over engine, Next.Ended (Outcome.Done code value)) }
-{
-    (
-        Stage::Over(engine),
-        Next::Ended(Outcome::Done {
-            code,
-            result: value,
-        }),
-    )
-}
-
-/// A script ended with this code and value.
-fn end(
-    alloc: Global,
-    engine: Engine<RunHost>,
-    code: u8,
-    value: Text,
-) -> Result<(Stage, Next), NoMemory>
-    ensures gives { IfOk result (λ x. (natives : List (List ℕ)) (further : List Answer) → stage_gives natives x.1 x.0 further ≡ script_end (returned code value) (engine_state engine) further) }
-    ensures next { IfOk result (λ x. StageStandsAt x.1 x.0) }
-    ensures last { IfOk result (λ x. stage_questions x.0 ≡ 0) }
-{
-    let (code, value) = returned(alloc, code, value)?;
-    if code == OK {
-        return end_well(alloc, engine, value);
-    }
-    Ok(over(engine, code, value))
-}
-
-/// Where a definition run stands that came to this, and what is to be done next.
-fn stop(alloc: Global, engine: Engine<RunHost>, outcome: Outcome) -> Result<(Stage, Next), NoMemory>
-    ensures gives { IfOk result (λ x. (natives : List (List ℕ)) (further : List Answer) → stage_gives natives x.1 x.0 further ≡ define_end (settle (comes_to natives host_table outcome engine) further)) }
-    ensures next { IfOk result (λ x. Leaves outcome engine → StageStandsAt x.1 x.0) }
-    ensures asks { IfOk result (λ x. AsksWhere x.1 outcome (stage_questions x.0) (engine_questions engine.budget (length engine.host.gathered))) }
-    ensures ran { IfOk result (λ _. ¬ (outcome ≡ Outcome.NoMemory)) }
-{
-    match outcome {
-        Outcome::Asks(question) => Ok((Stage::Defining(engine), Next::Asks(question))),
-        Outcome::Done { code, result } => {
-            let ended = end(alloc, engine, code, result)?;
-            Ok(ended)
+impl DefineRun {
+    /// A run that may ask so many questions.
+    pub fn new(questions: u64) -> DefineRun
+        ensures { result ≡ record { questions = questions; value = None } }
+    {
+        DefineRun {
+            questions,
+            value: None,
         }
-        Outcome::Spent => Ok((Stage::Over(engine), Next::Ended(Outcome::Spent))),
-        Outcome::TooDeep => Ok((Stage::Over(engine), Next::Ended(Outcome::TooDeep))),
-        Outcome::NoMemory => Err(NoMemory),
     }
-}
 
-/// Begins the definition run of a script on a fresh engine, with this budget and at this depth.
-pub fn begin<L: Ledger>(
-    alloc: Global,
-    natives: &Natives,
-    script: Text,
-    mut engine: Engine<RunHost>,
-    budget: u64,
-    depth: u32,
-    steps: &mut Steps<L>,
-) -> Result<(Stage, Next), NoMemory>
-    requires idle { IsIdle engine }
-    requires least { 1 ≤ depth }
-    requires most { depth ≤ 200 }
-    ensures gives { IfOk result (λ x. (further : List Answer) → stage_gives (names_of natives.now) x.1 x.0 further ≡ script_run (names_of natives.now) script (engine_state engine) budget depth further) }
-    ensures next { IfOk result (λ x. StageStandsAt x.1 x.0) }
-{
-    let outcome = engine.start(natives, Work::Script(script), budget, depth, steps);
-    let stopped = stop(alloc, engine, outcome)?;
-    Ok(stopped)
-}
-
-/// Goes on with the definition run of a script, whose question is answered.
-pub fn go_on<L: Ledger>(
-    alloc: Global,
-    natives: &Natives,
-    mut engine: Engine<RunHost>,
-    answer: Answer,
-    steps: &mut Steps<L>,
-) -> Result<(Stage, Next), NoMemory>
-    requires { IsSome engine.question }
-    ensures gives { IfOk result (λ x. (question : Question) (further : List Answer) → stage_gives (names_of natives.now) x.1 x.0 further ≡ define_end (settle (comes_to (names_of natives.now) host_table (Outcome.Asks question) engine) (answer ∷ further))) }
-    ensures next { IfOk result (λ x. StageStandsAt x.1 x.0) }
-    ensures falls { IfOk result (λ x. Falls x.1 (engine_questions engine.budget (length engine.host.gathered)) (stage_questions x.0)) }
-{
-    let outcome = engine.resume(natives, answer, steps);
-    let stopped = stop(alloc, engine, outcome)?;
-    Ok(stopped)
-}
-
-/// Ends a definition run, whose question whether to publish is answered.
-pub fn answer_publish(
-    alloc: Global,
-    engine: Engine<RunHost>,
-    value: Text,
-    answer: Answer,
-) -> (Stage, Next)
-    ensures { result ≡ (Stage.Over engine, Next.Ended (published value answer)) }
-{
-    match answer {
-        Answer::Said(_) => over(engine, OK, value),
-        Answer::Failed(why) => over(engine, ERROR, why),
-        Answer::Page(_) | Answer::NoPage | Answer::PageFault => {
-            over(engine, ERROR, Text::empty(alloc))
+    /// Goes on with an answer to the question at which it stands.
+    pub fn answer<L: Ledger>(
+        &mut self,
+        alloc: Global,
+        natives: &Natives,
+        run: &mut Running,
+        answer: Answer,
+        steps: &mut Steps<L>,
+    ) -> Result<DefineStop, NoMemory>
+        requires { DefineAsks run.old self.old.questions self.old.value }
+        ensures gives { IfOk result (λ stop. (blueprint : Published) (moment : ℕ) (question : Question) (further : List Answer) → define_gives (names_of natives.now) blueprint moment stop run.new self.new further ≡ define_at (names_of natives.now) blueprint moment question run.old self.old self.old.value (answer ∷ further)) }
+        ensures lasts { Lasts run.new.engine run.old.engine }
+        ensures counts { steps.new + Writes run.old.engine.made ≡ steps.old + Writes run.new.engine.made }
+        ensures asks { IfOk result (λ stop. DefineStopAsks stop run.new self.new) }
+        ensures falls { IfOk result (λ stop. DefineFalls stop self.new (define_number self.old.questions self.old.value)) }
+    {
+        match self.value.take() {
+            Some(value) => Ok(DefineStop::Said(published(alloc, value, answer))),
+            None => {
+                let came = run.resume(natives, answer, steps)?;
+                let stop = self.stop(alloc, run, came)?;
+                Ok(stop)
+            }
         }
+    }
+
+    /// What it comes to where its script stopped so.
+    pub fn stop(&mut self, alloc: Global, run: &Running, stop: Stop) -> Result<DefineStop, NoMemory>
+        requires value { self.old.value ≡ None }
+        requires asks { StopAsks stop run.now }
+        requires suffices { Suffices stop run.now self.old.questions }
+        ensures gives { IfOk result (λ last. (names : List (List ℕ)) (blueprint : Published) (moment : ℕ) (further : List Answer) → define_gives names blueprint moment last run.now self.new further ≡ define_end (settle (no_inner names blueprint moment) self.old.questions 0 (comes_to names stop run.now) further)) }
+        ensures asks { IfOk result (λ last. DefineStopAsks last run.now self.new) }
+        ensures falls { IfOk result (λ last. (before : ℕ) → self.old.questions < before → DefineFalls last self.new before) }
+        ensures fewer { self.new.questions ≤ self.old.questions }
+    {
+        match stop {
+            Stop::Spent => Ok(DefineStop::Gone),
+            Stop::TooDeep => Ok(DefineStop::Sunk),
+            Stop::Ended { code, result } => {
+                let last = self.ended(alloc, run, code, result)?;
+                Ok(last)
+            }
+            Stop::Asks(question) => {
+                self.questions -= 1;
+                match question.service {
+                    Service::Inner => Ok(DefineStop::Gone),
+                    _ => Ok(DefineStop::Stands(question)),
+                }
+            }
+        }
+    }
+
+    /// Its script ended with this code and result.
+    fn ended(
+        &mut self,
+        alloc: Global,
+        run: &Running,
+        code: u8,
+        value: Text,
+    ) -> Result<DefineStop, NoMemory>
+        requires { self.old.value ≡ None }
+        ensures gives { IfOk result (λ last. (names : List (List ℕ)) (blueprint : Published) (moment : ℕ) (further : List Answer) → define_gives names blueprint moment last run.now self.new further ≡ script_end (returned code value) run.now.engine.budget (state_of run.now) further) }
+        ensures asks { IfOk result (λ last. DefineStopAsks last run.now self.new) }
+        ensures falls { IfOk result (λ last. (before : ℕ) → 0 < before → DefineFalls last self.new before) }
+        ensures same { self.new.questions ≡ self.old.questions }
+    {
+        if !is_good(code) {
+            return Ok(DefineStop::Said(Answer::Failed(error_text(alloc, code, value)?)));
+        }
+        if run.engine.made().is_empty() {
+            return Ok(DefineStop::Said(Answer::Said(value)));
+        }
+        let question = publish(alloc, run.engine.made())?;
+        self.value = Some(value);
+        Ok(DefineStop::Stands(question))
     }
 }

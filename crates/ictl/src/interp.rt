@@ -1,281 +1,104 @@
 //! Interpreters.
 
-ghost use Rattle.std.specs.Prelude.{◌≡◌, ℕ, ◌∷◌, [], Bool, List, IfOk, OnOk, IsSome, length};
-ghost use Rattle.outside.specs.declared.question.Question.{Question};
-ghost use Rattle.outside.specs.declared.question.Answer.{Answer};
-ghost use Rattle.cmd_table.specs.Commands.{Commands, defined};
-ghost use Rattle.tcl_frame.specs.Frames.{fresh as fresh_frames};
-ghost use Rattle.tcl_eval.specs.Engine.{state_of as engine_state, IsIdle, Leaves, comes_to};
+ghost use Rattle.std.specs.Prelude.{◌≡◌, ◌≤◌, ◌<◌, ◌+◌, ◌-◌, ◌*◌, ◌++◌, ◌∷◌, [], ℕ, List, Some, None, false, IfOk, OnOk, OnErr, MatchResult, length, take};
+ghost use Rattle.cmd_table.specs.Commands.{Writes};
+ghost use Rattle.blueprint.specs.States.{first_misfit};
 ghost use Rattle.natives.specs.Names.{names_of};
-ghost use Rattle.ictl.specs.Leaf.{host_table};
-ghost use Rattle.ictl.specs.Routes.{route};
-ghost use Rattle.ictl.specs.Settle.{settle};
-ghost use Rattle.ictl.specs.Main.{Blueprint, run_budget, first_depth, Main, main_by, main_end, behind, both, answered};
-ghost use Rattle.ictl.specs.Defines.{Define};
-ghost use Rattle.ictl.specs.Interps.{blueprint_of, state_of, stage_questions, engine_questions, stage_state, stage_ending, ending_of, IsNewStage, IsWritingStage, stage_gives, run_gives, gives, IsNew, IsAskingStage, IsAsking, IsWriting, StandsAt, StageStandsAt, Stands, GoesOn, StandsOn, UnlessNoMemory, Falls, questions_left, AsksWhere};
+ghost use Rattle.outside.specs.declared.question.Answer.{Answer};
+ghost use Rattle.outside.specs.declared.question.Question.{Question};
+ghost use Rattle.http_req.specs.declared.request.Request.{Request};
+ghost use Rattle.server_host.specs.Hosts.{added};
+ghost use Rattle.ictl.specs.Fresh.{build_steps, updated};
+ghost use Rattle.tcl_frame.specs.Base.{IsAtBase};
+ghost use Rattle.tcl_eval.specs.Engine.{state_of, IsIdle};
+ghost use Rattle.url_tables.specs.Tables.{IsBuiltOf};
+ghost use Rattle.ictl.specs.Visits.{cleanups_of, visit_of};
+ghost use Rattle.ictl.specs.Steps.{cut_stop, cut_reply};
+ghost use Rattle.ictl.specs.Main.{Main, Script, Define, behind, both, answered};
+ghost use Rattle.ictl.specs.Interps.{IsSound, IsNew, Holds, IsSameRun, ending_of, interp_state, spare_of, put_on, taken, Counts, goes_to, gives, move_gives, UnlessNoMemory, Stands, GoesOn, StandsOn};
+ghost use Rattle.ictl.specs.Steps.{Lowers, scripts_left};
+ghost use Rattle.ictl.specs.declared.task.Task.{Task as Tasks};
+ghost use Rattle.ictl.specs.Falls.{IsAsking, IsWriting, StandsAt, MoveStandsAt, IsScriptTask, SettlingAt, number_of, first_number, Falls, MoveFalls, StopFalls, EndFalls};
 
-use crate::copy::{copy_defs, copy_text, copy_words};
-use crate::defining;
-use crate::ending::Ending;
-use crate::host::RunHost;
+use crate::building::{Tables, copy_edition, define_all, engine_on, tables_of};
+use crate::ending::{Ending, both};
 use crate::next::Next;
-use crate::reply::{after_code, text_reply};
-use crate::route::find_route;
-use cmd_table::{Cmd, CmdTable, Def, Defs, Steps};
+use crate::reply::{budget_reply, failed, nesting_reply};
+use crate::running::{Running, Stop};
+use crate::settling::Settling;
+use crate::task::{Move, Task};
+use crate::visit::Visit;
+use cmd_table::{Defs, Steps, copy_defs};
 use http_req::Request;
-use http_resp::{Response, plain};
+use http_resp::Response;
 use natives::Natives;
 use outside::Answer;
+use server_host::Edition;
 use std::alloc::Global;
 use std::mem;
+use std::rc::Rc;
 use std::sync::ledger::Ledger;
-use tcl_eval::{Engine, Outcome, Work};
-use tcl_frame::Frames;
+use tcl_eval::Outcome;
 use txt_core::{NoMemory, Text, Words};
+use url_tables::Routes;
 
-/// What a request may spend up to its response, and a definition run in all.
+/// What a run may spend: a request up to its response, and anew behind it; a scheduled script; a
+/// definition run in all.
 pub const RUN_BUDGET: u64 = 200_000;
 
-/// How deep the call of the words that serve a request stands, and the script of a definition run.
-pub const FIRST_DEPTH: u32 = 1;
+/// How many questions it may ask in that. It never asks so many: each command that asks is paid for, and
+/// asks eight times at most.
+pub const RUN_QUESTIONS: u64 = 1_800_000;
 
-const NOT_FOUND: u16 = 404;
-
-/// How far an interpreter has come.
-#[derive(Drop)]
-pub enum Stage {
-    /// Nothing was started: the commands and the variables with which a run begins.
-    New {
-        table: CmdTable,
-        frames: Frames,
-    },
-    /// What serves the request runs, or stands at a question.
-    Serving(Engine<RunHost>),
-    /// A script that makes definitions runs, or stands at a question.
-    Defining(Engine<RunHost>),
-    /// It stands at the question whether what a script made is published; this is its result.
-    Publishing {
-        engine: Engine<RunHost>,
-        value: Text,
-    },
-    /// A response is to be written.
-    Writing {
-        engine: Engine<RunHost>,
-        ending: Ending,
-    },
-    /// The run has ended.
-    Over(Engine<RunHost>),
-    /// Memory wanted.
-    Lost,
-}
-
-/// Runs one request, or one script that makes definitions, on the blueprint that it was made from. It can
-/// stand at a question.
-///
-/// Once its run has ended nothing goes on: it stands at no question and at no response, and is not as
-/// newly made.
+/// Runs requests, scheduled scripts and scripts that make definitions, one after the other, on the
+/// blueprint that it was made from. It can stand at a question. One engine stays in it in every state,
+/// and `reset` makes it as newly made from each.
 #[derive(Drop)]
 pub struct Interp {
-    alloc: Global,
-    epoch: u64,
-    defs: Defs,
-    stage: Stage,
+    pub(crate) alloc: Global,
+    /// The blueprint. Its definitions are those that the engine's table and base scalars have.
+    pub(crate) blueprint: Rc<Edition>,
+    /// The same once more, for the host, where a run was begun, which may leave the host in any state.
+    pub(crate) spare: Option<Rc<Edition>>,
+    /// What the blueprint registers, and its filters.
+    pub(crate) routes: Routes,
+    /// Its cleanup scripts.
+    pub(crate) cleanups: Words,
+    /// Where the table of commands goes back to.
+    pub(crate) mark: u64,
+    pub(crate) settling: Settling,
+    /// The moment of the run, in seconds since 1970.
+    pub(crate) moment: u64,
+    /// What the request goes through.
+    pub(crate) visit: Visit,
+    pub(crate) task: Task,
 }
 
-/// The commands that definitions make of the built-in names. A definition that doesn't apply changes
-/// nothing. Its only error is want of memory.
-pub fn commands<L: Ledger>(
-    alloc: Global,
-    natives: &Natives,
-    defs: &Defs,
-    steps: &mut Steps<L>,
-) -> Result<CmdTable, NoMemory>
-    ensures { IfOk result (λ table. table.table ≡ Commands (names_of natives.now) defs.now) }
+/// What is answered of a run: want of memory is an answer of its own.
+fn next_of(came: Result<Next, NoMemory>) -> Next
+    ensures { MatchResult came (λ next. result ≡ next) (λ _. result ≡ Next.NoMemory) }
 {
-    let mut table = CmdTable::new(alloc, natives, steps)?;
-    for def in defs.as_slice() {
-        make(&mut table, alloc, def, steps)?;
-    }
-    Ok(table)
-}
-
-/// Makes a definition, where it applies.
-fn make<L: Ledger>(
-    table: &mut CmdTable,
-    alloc: Global,
-    def: &Def,
-    steps: &mut Steps<L>,
-) -> Result<(), NoMemory>
-    ensures { OnOk result (table.new.table ≡ defined table.old.table def.now) }
-{
-    match def {
-        Def::Proc { name, params, body } => table.put(
-            copy_text(alloc, name)?,
-            Cmd::Proc {
-                params: copy_text(alloc, params)?,
-                body: copy_text(alloc, body)?,
-            },
-            steps,
-        ),
-        Def::Rename { old, new } => {
-            let _renamed = table.rename(old, new, steps)?;
-            Ok(())
-        }
-        Def::Route { .. } | Def::Filter { .. } | Def::Cleanup { .. } | Def::Set { .. } => Ok(()),
+    match came {
+        Ok(next) => next,
+        Err(NoMemory) => Next::NoMemory,
     }
 }
 
-/// Where a run stands that came to this, and what is to be done next.
-fn stop(alloc: Global, engine: Engine<RunHost>, outcome: Outcome) -> Result<(Stage, Next), NoMemory>
-    ensures gives { IfOk result (λ x. (natives : List (List ℕ)) (further : List Answer) → stage_gives natives x.1 x.0 further ≡ main_end (settle (comes_to natives host_table outcome engine) further)) }
-    ensures next { IfOk result (λ x. Leaves outcome engine → StageStandsAt x.1 x.0) }
-    ensures asks { IfOk result (λ x. AsksWhere x.1 outcome (stage_questions x.0) (engine_questions engine.budget (length engine.host.gathered))) }
-    ensures ran { IfOk result (λ _. ¬ (outcome ≡ Outcome.NoMemory)) }
-{
-    match outcome {
-        Outcome::Asks(question) => Ok((Stage::Serving(engine), Next::Asks(question))),
-        Outcome::Done { code, .. } => {
-            let response = after_code(alloc, code, engine.host().response())?;
-            Ok(write(engine, Ending::Answered, response))
-        }
-        Outcome::Spent => {
-            let response = text_reply(alloc, b"budget spent")?;
-            Ok(write(engine, Ending::Spent, response))
-        }
-        Outcome::TooDeep => {
-            let response = text_reply(alloc, b"nesting too deep")?;
-            Ok(write(engine, Ending::TooDeep, response))
-        }
-        Outcome::NoMemory => Err(NoMemory),
-    }
-}
-
-/// A run that ended so, and whose response is to be written.
-fn write(engine: Engine<RunHost>, ending: Ending, response: Response) -> (Stage, Next)
-    ensures { result ≡ (Stage.Writing engine ending, Next.Write response) }
-{
-    (Stage::Writing { engine, ending }, Next::Write(response))
-}
-
-/// The words that serve a request, if any.
-fn serving_words(alloc: Global, defs: &Defs, request: &Request) -> Result<Option<Words>, NoMemory>
-    ensures { IfOk result (λ words. words ≡ route defs.now request.now.method request.now.segments) }
-{
-    match find_route(defs, &request.method, &request.segments) {
-        None => Ok(None),
-        Some(words) => Ok(Some(copy_words(alloc, words)?)),
-    }
-}
-
-/// Begins the run of a request on a fresh engine.
-fn begin<L: Ledger>(
-    alloc: Global,
-    natives: &Natives,
-    words: Option<Words>,
-    mut engine: Engine<RunHost>,
-    steps: &mut Steps<L>,
-) -> Result<(Stage, Next), NoMemory>
-    requires { IsIdle engine }
-    ensures gives { IfOk result (λ x. (further : List Answer) → stage_gives (names_of natives.now) x.1 x.0 further ≡ main_by (names_of natives.now) words (engine_state engine) further) }
-    ensures next { IfOk result (λ x. StageStandsAt x.1 x.0) }
-{
-    match words {
-        None => {
-            let response = plain(alloc, NOT_FOUND)?;
-            Ok(write(engine, Ending::Answered, response))
-        }
-        Some(words) => {
-            let outcome = engine.start(natives, Work::Call(words), RUN_BUDGET, FIRST_DEPTH, steps);
-            let stopped = stop(alloc, engine, outcome)?;
-            Ok(stopped)
-        }
-    }
-}
-
-/// Goes on with the run of a request, whose question is answered.
-fn go_on<L: Ledger>(
-    alloc: Global,
-    natives: &Natives,
-    mut engine: Engine<RunHost>,
-    answer: Answer,
-    steps: &mut Steps<L>,
-) -> Result<(Stage, Next), NoMemory>
-    requires { IsSome engine.question }
-    ensures gives { IfOk result (λ x. (question : Question) (further : List Answer) → stage_gives (names_of natives.now) x.1 x.0 further ≡ main_end (settle (comes_to (names_of natives.now) host_table (Outcome.Asks question) engine) (answer ∷ further))) }
-    ensures next { IfOk result (λ x. StageStandsAt x.1 x.0) }
-    ensures falls { IfOk result (λ x. Falls x.1 (engine_questions engine.budget (length engine.host.gathered)) (stage_questions x.0)) }
-{
-    let outcome = engine.resume(natives, answer, steps);
-    let stopped = stop(alloc, engine, outcome)?;
-    Ok(stopped)
-}
-
-/// Goes on with what stands at a question, which is answered.
-fn stepped<L: Ledger>(
-    alloc: Global,
-    natives: &Natives,
-    stage: Stage,
-    answer: Answer,
-    steps: &mut Steps<L>,
-) -> Result<(Stage, Next), NoMemory>
-    requires { IsAskingStage stage }
-    ensures gives { IfOk result (λ x. (question : Question) (further : List Answer) → stage_gives (names_of natives.now) x.1 x.0 further ≡ run_gives (names_of natives.now) question stage (answer ∷ further)) }
-    ensures next { IfOk result (λ x. StageStandsAt x.1 x.0) }
-    ensures falls { IfOk result (λ x. Falls x.1 (stage_questions stage) (stage_questions x.0)) }
-{
-    match stage {
-        Stage::Serving(engine) => go_on(alloc, natives, engine, answer, steps),
-        Stage::Defining(engine) => defining::go_on(alloc, natives, engine, answer, steps),
-        Stage::Publishing { engine, value } => {
-            Ok(defining::answer_publish(alloc, engine, value, answer))
-        }
-        _ => unreachable!(),
-    }
-}
-
-/// How the run of a request has ended.
-fn outcome_of(alloc: Global, ending: Ending) -> Outcome
-    ensures { result ≡ both ending answered }
+/// The reply of a run that was cut off up to its response.
+fn cut_reply(alloc: Global, ending: Ending) -> Result<Response, NoMemory>
+    ensures { IfOk result (λ response. response ≡ cut_reply ending) }
 {
     match ending {
-        Ending::Answered => Outcome::Done {
-            code: 0,
-            result: Text::empty(alloc),
-        },
-        Ending::Spent => Outcome::Spent,
-        Ending::TooDeep => Outcome::TooDeep,
-    }
-}
-
-/// The commands and the variables with which a run begins.
-fn opened(stage: Stage) -> (CmdTable, Frames)
-    requires { (natives : List (List ℕ)) × (blueprint : Blueprint) × IsNewStage natives stage blueprint }
-    ensures { (natives : List (List ℕ)) (blueprint : Blueprint) → IsNewStage natives stage blueprint → (result.0.table ≡ Commands natives blueprint.definitions) × (result.1 ≡ fresh_frames) }
-{
-    match stage {
-        Stage::New { table, frames } => (table, frames),
-        _ => unreachable!(),
-    }
-}
-
-/// Ends the run of a request behind its response.
-fn closed(alloc: Global, stage: Stage) -> (Stage, Next)
-    requires { IsWritingStage stage }
-    ensures gives { (natives : List (List ℕ)) (whole : Bool) (blueprint : Blueprint) (further : List Answer) → behind natives whole (stage_ending stage) blueprint (stage_state stage) further ≡ stage_gives natives result.1 result.0 further }
-    ensures next { StageStandsAt result.1 result.0 }
-{
-    match stage {
-        Stage::Writing { engine, ending } => {
-            let outcome = outcome_of(alloc, ending);
-            (Stage::Over(engine), Next::Ended(outcome))
-        }
-        _ => unreachable!(),
+        Ending::Spent => budget_reply(alloc),
+        Ending::TooDeep => nesting_reply(alloc),
+        Ending::Answered => failed(alloc),
     }
 }
 
 impl Interp {
     /// An interpreter on a blueprint of this epoch and these definitions, which are made one after the
-    /// other: one that doesn't apply changes nothing. Its only error is want of memory.
+    /// other: one that doesn't apply changes nothing. Its only error is want of memory; the steps are then
+    /// no more than with ample memory.
     pub fn build<L: Ledger>(
         alloc: Global,
         natives: &Natives,
@@ -284,32 +107,67 @@ impl Interp {
         steps: &mut Steps<L>,
     ) -> Result<Interp, NoMemory>
         ensures is_new { IfOk result (λ made. IsNew (names_of natives.now) made) }
-        ensures blueprint { IfOk result (λ made. blueprint_of made ≡ record { epoch = epoch; definitions = defs.now }) }
+        ensures blueprint { IfOk result (λ made. made.blueprint.value ≡ record { epoch = epoch; defs = defs.now }) }
+        ensures unmarked { IfOk result (λ made. made.settling.run.engine.host.marked ≡ false) }
+        ensures steps { OnOk result (steps.new ≡ steps.old + build_steps (names_of natives.now) defs.now) }
+        ensures least { steps.old ≤ steps.new }
+        ensures most { steps.new ≤ steps.old + build_steps (names_of natives.now) defs.now }
     {
-        let table = commands(alloc, natives, defs, steps)?;
-        let frames = Frames::new(alloc)?;
-        Ok(Interp {
-            alloc,
+        let edition = Edition {
             epoch,
             defs: copy_defs(alloc, defs)?,
-            stage: Stage::New { table, frames },
+        };
+        let tables = tables_of(alloc, edition)?;
+        let Ok(engine) = engine_on(alloc, natives, &tables.blueprint, steps) else {
+            drop(tables);
+            return Err(NoMemory);
+        };
+        let mark = engine.mark();
+        Ok(Interp {
+            alloc,
+            blueprint: tables.blueprint,
+            spare: None,
+            routes: tables.routes,
+            cleanups: tables.cleanups,
+            mark,
+            settling: Settling {
+                alloc,
+                run: Running { engine },
+                questions: 0,
+                inner: None,
+            },
+            moment: 0,
+            visit: Visit::none(alloc),
+            task: Task::New,
         })
     }
 
-    /// The epoch of its blueprint.
+    /// The epoch of its blueprint. It takes no memory.
     pub fn epoch(&self) -> u64
-        ensures { result ≡ (blueprint_of self.now).epoch }
+        ensures { result ≡ self.now.blueprint.value.epoch }
     {
-        self.epoch
+        self.blueprint.epoch
     }
 
-    /// Begins the run of a request, whose moment is in seconds since 1970. The interpreter is as
-    /// newly made.
+    /// Whether the last run asked, by `ns_ictl markfordelete`, that the interpreter be built anew. The next
+    /// start takes the mark off; `reset` and `update` leave it. It takes no memory.
+    pub fn marked(&self) -> bool
+        ensures { result ≡ self.now.settling.run.engine.host.marked }
+    {
+        self.settling.run.engine.host().marked()
+    }
+
+    /// Begins the run of a request, which came at this moment, in seconds since 1970. The interpreter is
+    /// as newly made.
     ///
-    /// What serves the request is called; where no registration serves it, the response is the plain
-    /// reply of 404. It stands then at a question or at its response; the run ends only behind that, and
-    /// nothing goes on from there. Where memory wants, the interpreter is in any state, but its
-    /// blueprint stays.
+    /// It goes through the preauth filters, the authorisation, the postauth filters and the procedure or
+    /// page, with one budget. It stands then at a question or at its response; the run ends only behind
+    /// that. Where memory wants, the interpreter is in any state, but its blueprint stays, and `reset`
+    /// makes it as newly made.
+    ///
+    /// The steps are the entries that the run wrote in its own table, and those that its runs inside
+    /// wrote, from their making on.
+    /// Where memory wants, each entry of its own table is counted too.
     pub fn start_request<L: Ledger>(
         &mut self,
         natives: &Natives,
@@ -318,25 +176,54 @@ impl Interp {
         steps: &mut Steps<L>,
     ) -> Next
         requires { IsNew (names_of natives.now) self.old }
-        ensures blueprint { blueprint_of self.new ≡ blueprint_of self.old }
-        ensures stands { Stands (names_of natives.now) (Main (names_of natives.now) (blueprint_of self.old) request moment) result self.new [] }
+        ensures stands { let names = names_of natives.now in Stands names (Main names self.old.blueprint.value request moment) result (taken names steps.new steps.old self.new self.old) self.new [] }
+        ensures counts { Counts (names_of natives.now) steps.new steps.old self.new self.old }
+        ensures visit { UnlessNoMemory result ((self.new.visit ≡ visit_of (names_of natives.now) self.old.blueprint.value request) × (self.new.moment ≡ moment)) }
+        ensures holds { Holds self.new self.old }
+        ensures sound { (names : List (List ℕ)) → IsSound names self.old → IsSound names self.new }
         ensures next { StandsAt result self.new }
+        ensures falls { Falls result self.new first_number }
     {
-        match self.started(natives, request, moment, steps) {
-            Ok(next) => next,
+        match self.take_spare() {
+            Ok(()) => next_of(self.begin_request(natives, request, moment, steps)),
             Err(NoMemory) => Next::NoMemory,
         }
     }
 
-    /// Begins the definition run of a script, which has no connection. The interpreter is as newly
-    /// made.
+    /// Begins the run of a scheduled script at this moment, without a connection. The interpreter is as
+    /// newly made.
     ///
-    /// Where the script ends well and made anything, what it made is to be published: the question
-    /// has the script of that as its one word. A refusal is an error with its reason; else, and where
-    /// nothing was made, the run ends with code 0 and the result of the script. It ends with the
-    /// script's error where that ends so; `break` and `continue` are errors. No response comes of it.
-    /// Once the run has ended nothing goes on. Where memory wants, the interpreter is in any state, but
-    /// its blueprint stays.
+    /// It stands at a question, or the run ended with the code and result of the script, or was spent or
+    /// too deep. No filter and no cleanup script follows. Where memory wants it is as with a request.
+    pub fn start_script<L: Ledger>(
+        &mut self,
+        natives: &Natives,
+        script: &Text,
+        moment: u64,
+        steps: &mut Steps<L>,
+    ) -> Next
+        requires { IsNew (names_of natives.now) self.old }
+        ensures stands { let names = names_of natives.now in Stands names (Script names self.old.blueprint.value script.now moment) result (taken names steps.new steps.old self.new self.old) self.new [] }
+        ensures counts { Counts (names_of natives.now) steps.new steps.old self.new self.old }
+        ensures holds { Holds self.new self.old }
+        ensures sound { (names : List (List ℕ)) → IsSound names self.old → IsSound names self.new }
+        ensures next { StandsAt result self.new }
+        ensures falls { Falls result self.new first_number }
+    {
+        match self.take_spare() {
+            Ok(()) => next_of(self.begin_script(natives, script, moment, steps)),
+            Err(NoMemory) => Next::NoMemory,
+        }
+    }
+
+    /// Begins the definition run of a script at this moment, without a connection. The interpreter is as
+    /// newly made.
+    ///
+    /// Where the script ends well and made anything, what it made is to be published: the question has the
+    /// script of that as its one word. A refusal is an error with its reason; else, and where nothing was
+    /// made, the run ends with code 0 and the result of the script. It ends with code 1 and the script's
+    /// error where that ends so; `break` and `continue` are errors. No response comes of it, and nothing
+    /// runs inside it. Where memory wants it is as with a request.
     pub fn start_define<L: Ledger>(
         &mut self,
         natives: &Natives,
@@ -345,32 +232,21 @@ impl Interp {
         steps: &mut Steps<L>,
     ) -> Next
         requires { IsNew (names_of natives.now) self.old }
-        ensures blueprint { blueprint_of self.new ≡ blueprint_of self.old }
-        ensures stands { Stands (names_of natives.now) (Define (names_of natives.now) (blueprint_of self.old) script.now moment run_budget first_depth) result self.new [] }
+        ensures stands { let names = names_of natives.now in Stands names (Define names self.old.blueprint.value script.now moment) result 0 self.new [] }
+        ensures steps { steps.new + Writes self.old.settling.run.engine.made ≡ steps.old + Writes self.new.settling.run.engine.made }
+        ensures holds { Holds self.new self.old }
+        ensures sound { (names : List (List ℕ)) → IsSound names self.old → IsSound names self.new }
         ensures next { StandsAt result self.new }
+        ensures falls { Falls result self.new first_number }
     {
-        match self.defining(natives, script, moment, steps) {
-            Ok(next) => next,
+        match self.take_spare() {
+            Ok(()) => next_of(self.begin_define(natives, script, moment, steps)),
             Err(NoMemory) => Next::NoMemory,
         }
     }
 
-    /// What its run has made so far, in order. It stands at a question.
-    pub fn made(&self) -> &Defs
-        requires { IsAsking self.now }
-        ensures { result.now ≡ (state_of self.now).made }
-    {
-        match &self.stage {
-            Stage::Serving(engine) => engine.made(),
-            Stage::Defining(engine) => engine.made(),
-            Stage::Publishing { engine, .. } => engine.made(),
-            _ => unreachable!(),
-        }
-    }
-
-    /// Goes on with the answer to the question at which it stands. It stands then at what it answered;
-    /// where its run has ended, it can't be gone on with: no question is left to answer, and no response
-    /// to write. Where memory wants, the interpreter is in any state, but its blueprint stays.
+    /// Goes on with the answer to the question at which it stands. Where memory wants, the interpreter is
+    /// in any state, but its blueprint stays, and `reset` makes it as newly made.
     pub fn resume<L: Ledger>(
         &mut self,
         natives: &Natives,
@@ -378,120 +254,364 @@ impl Interp {
         steps: &mut Steps<L>,
     ) -> Next
         requires { IsAsking self.old }
-        ensures blueprint { blueprint_of self.new ≡ blueprint_of self.old }
-        ensures step { UnlessNoMemory result (GoesOn (names_of natives.now) result self.new self.old answer) }
-        ensures stands { UnlessNoMemory result (StandsOn (names_of natives.now) result self.new self.old answer) }
-        ensures falls { Falls result (questions_left self.old) (questions_left self.new) }
+        ensures step { let names = names_of natives.now in GoesOn names result (taken names steps.new steps.old self.new self.old) self.new self.old answer }
+        ensures stands { let names = names_of natives.now in StandsOn names result (taken names steps.new steps.old self.new self.old) self.new self.old answer }
+        ensures counts { Counts (names_of natives.now) steps.new steps.old self.new self.old }
+        ensures same { IsSameRun self.new self.old }
+        ensures holds { Holds self.new self.old }
+        ensures sound { (names : List (List ℕ)) → IsSound names self.old → IsSound names self.new }
         ensures next { StandsAt result self.new }
+        ensures falls { Falls result self.new (number_of self.old) }
     {
-        match self.resumed(natives, answer, steps) {
-            Ok(next) => next,
-            Err(NoMemory) => Next::NoMemory,
-        }
+        next_of(self.answered(natives, answer, steps))
     }
 
-    /// Tells it that the response was written, whole or not. Nothing runs behind a response, so the
-    /// run of the request ends: as it did up to the response, and well where it was answered. Nothing
-    /// goes on from there.
+    /// Tells that the response was written, whole or not. Behind a whole one the trace filters and then
+    /// the cleanup scripts run, with a budget anew; they may ask. Behind one that wasn't written whole
+    /// nothing runs: the run ends at once, as it ended up to the response, and no memory is wanted.
     pub fn written<L: Ledger>(
         &mut self,
         natives: &Natives,
         whole: bool,
-        _steps: &mut Steps<L>,
+        steps: &mut Steps<L>,
     ) -> Next
         requires { IsWriting self.old }
-        ensures blueprint { blueprint_of self.new ≡ blueprint_of self.old }
-        ensures stands { Stands (names_of natives.now) (behind (names_of natives.now) whole (ending_of self.old) (blueprint_of self.old) (state_of self.old)) result self.new [] }
+        ensures stands { let names = names_of natives.now in (request : Request) → IsSound names self.old → self.old.visit ≡ visit_of names self.old.blueprint.value request → (inside : ℕ) → Stands names (behind names self.old.blueprint.value self.old.moment whole request (ending_of self.old.task) (interp_state self.old) inside) result (inside + taken names steps.new steps.old self.new self.old) self.new [] }
+        ensures unwritten { whole ≡ false → (result ≡ Next.Ended (both (ending_of self.old.task) answered)) × (steps.new ≡ steps.old) }
+        ensures counts { Counts (names_of natives.now) steps.new steps.old self.new self.old }
+        ensures same { IsSameRun self.new self.old }
+        ensures holds { Holds self.new self.old }
+        ensures sound { (names : List (List ℕ)) → IsSound names self.old → IsSound names self.new }
         ensures next { StandsAt result self.new }
+        ensures falls { Falls result self.new first_number }
     {
-        let stage = self.leave();
-        let (stage, next) = closed(self.alloc, stage);
-        self.stand_at(stage);
-        next
+        if whole {
+            next_of(self.go_behind(natives, steps))
+        } else {
+            self.end_unwritten()
+        }
     }
 
-    /// Leaves where it stands.
-    fn leave(&mut self) -> Stage
-        ensures was { result ≡ self.old.stage }
-        ensures lost { self.new ≡ record self.old { stage = Stage.Lost } }
+    /// Makes it as newly made, from every state and after every outcome, also in the midst of a run inside
+    /// and after want of memory. It takes no memory and can't be refused. The mark of the run stays until
+    /// the next start.
+    ///
+    /// The steps are the entries that the run's own definitions wrote: each is taken back.
+    pub fn reset<L: Ledger>(&mut self, steps: &mut Steps<L>)
+        ensures is_new { (names : List (List ℕ)) → IsSound names self.old → IsNew names self.new }
+        ensures steps { (names : List (List ℕ)) → IsSound names self.old → steps.new ≡ steps.old + Writes self.old.settling.run.engine.made }
+        ensures blueprint { self.new.blueprint.value ≡ self.old.blueprint.value }
+        ensures marked { self.new.settling.run.engine.host.marked ≡ self.old.settling.run.engine.host.marked }
     {
-        mem::replace(&mut self.stage, Stage::Lost)
+        let mark = self.mark.min(self.settling.run.engine.mark());
+        drop(self.settling.inner.take());
+        self.settling.run.engine.clear(mark, steps);
+        self.put_back();
+        drop(mem::replace(&mut self.visit, Visit::none(self.alloc)));
+        self.moment = 0;
+        self.task = Task::New;
     }
 
-    /// Stands here from now on.
-    fn stand_at(&mut self, stage: Stage)
-        ensures { self.new ≡ record self.old { stage = stage } }
+    /// Puts the host back on the blueprint, where there is a spare.
+    fn put_back(&mut self)
+        ensures { self.new ≡ record self.old { settling = record self.old.settling { run = record { engine = record self.old.settling.run.engine { host = put_on (spare_of self.old) self.old.settling.run.engine.host } } }; spare = None } }
     {
-        self.stage = stage;
+        match self.spare.take() {
+            Some(spare) => self.settling.run.engine.host_mut().set_blueprint(spare),
+            None => {}
+        }
     }
 
-    fn started<L: Ledger>(
+    /// Takes the blueprint once more, for the host. Its only error is want of memory, and nothing is
+    /// changed then.
+    fn take_spare(&mut self) -> Result<(), NoMemory>
+        ensures ok { OnOk result (spare_of self.new ≡ Some self.old.blueprint.value) }
+        ensures err { OnErr result (self.new ≡ self.old) }
+        ensures rest { self.new ≡ record self.old { spare = self.new.spare } }
+    {
+        let spare = self.blueprint.clone()?;
+        self.spare = Some(spare);
+        Ok(())
+    }
+
+    /// Goes to a later epoch of its blueprint, by the definitions that were added since, which apply one
+    /// after the other behind those that stand. The interpreter is as newly made, and so it is then. Its
+    /// only error is want of memory: then it is as it was, but for the steps, since what was defined was
+    /// taken back.
+    pub fn update<L: Ledger>(
         &mut self,
-        natives: &Natives,
-        request: Request,
-        moment: u64,
+        epoch: u64,
+        defs: &Defs,
         steps: &mut Steps<L>,
-    ) -> Result<Next, NoMemory>
-        requires { IsNew (names_of natives.now) self.old }
-        ensures blueprint { blueprint_of self.new ≡ blueprint_of self.old }
-        ensures gives { IfOk result (λ next. (further : List Answer) → Main (names_of natives.now) (blueprint_of self.old) request moment further ≡ gives (names_of natives.now) next self.new further) }
-        ensures next { IfOk result (λ next. StandsAt next self.new) }
+    ) -> Result<(), NoMemory>
+        requires is_new { (names : List (List ℕ)) × IsNew names self.old }
+        requires applies { first_misfit self.old.settling.run.engine.table.table defs.now ≡ None }
+        ensures ok { OnOk result ((names : List (List ℕ)) → IsNew names self.old → IsNew names self.new) }
+        ensures blueprint { OnOk result (self.new.blueprint.value ≡ added self.old.blueprint.value epoch defs.now) }
+        ensures err { OnErr result (((names : List (List ℕ)) → IsNew names self.old → IsNew names self.new) × (self.new.blueprint.value ≡ self.old.blueprint.value)) }
+        ensures marked { self.new.settling.run.engine.host.marked ≡ self.old.settling.run.engine.host.marked }
+        ensures steps { OnOk result (steps.new ≡ steps.old + Writes defs.now) }
+        ensures most { steps.new ≤ steps.old + 2 * Writes defs.now }
     {
-        let stage = self.leave();
-        let (table, frames) = opened(stage);
-        let words = serving_words(self.alloc, &self.defs, &request)?;
-        let host = RunHost::serving(self.alloc, request, moment);
-        let engine = Engine::new(self.alloc, table, frames, host);
-        let (stage, next) = begin(self.alloc, natives, words, engine, steps)?;
-        self.stand_at(stage);
-        Ok(next)
+        let (tables, shared) = self.later(epoch, defs)?;
+        match self.define_more(defs, steps) {
+            Ok(()) => {
+                self.mark = self.settling.run.engine.mark();
+                self.settling.run.engine.host_mut().set_blueprint(shared);
+                self.blueprint = tables.blueprint;
+                self.spare = None;
+                self.routes = tables.routes;
+                self.cleanups = tables.cleanups;
+                Ok(())
+            }
+            Err(NoMemory) => {
+                drop(shared);
+                drop(tables);
+                Err(NoMemory)
+            }
+        }
     }
 
-    fn defining<L: Ledger>(
-        &mut self,
-        natives: &Natives,
-        script: &Text,
-        moment: u64,
-        steps: &mut Steps<L>,
-    ) -> Result<Next, NoMemory>
-        requires { IsNew (names_of natives.now) self.old }
-        ensures blueprint { blueprint_of self.new ≡ blueprint_of self.old }
-        ensures gives { IfOk result (λ next. (further : List Answer) → Define (names_of natives.now) (blueprint_of self.old) script.now moment run_budget first_depth further ≡ gives (names_of natives.now) next self.new further) }
-        ensures next { IfOk result (λ next. StandsAt next self.new) }
+    /// The tables of its blueprint with further definitions, and that blueprint once more.
+    fn later(&self, epoch: u64, defs: &Defs) -> Result<(Tables, Rc<Edition>), NoMemory>
+        ensures blueprint { IfOk result (λ x. x.0.blueprint.value ≡ added self.now.blueprint.value epoch defs.now) }
+        ensures routes { IfOk result (λ x. IsBuiltOf x.0.routes x.0.blueprint.value.defs) }
+        ensures cleanups { IfOk result (λ x. x.0.cleanups ≡ cleanups_of x.0.blueprint.value.defs) }
+        ensures shared { IfOk result (λ x. x.1.value ≡ x.0.blueprint.value) }
     {
-        let stage = self.leave();
-        let (table, frames) = opened(stage);
-        let script = copy_text(self.alloc, script)?;
-        let host = RunHost::defining(self.alloc, moment);
-        let engine = Engine::new(self.alloc, table, frames, host);
-        let (stage, next) = defining::begin(
-            self.alloc,
-            natives,
-            script,
-            engine,
-            RUN_BUDGET,
-            FIRST_DEPTH,
-            steps,
-        )?;
-        self.stand_at(stage);
-        Ok(next)
+        let edition = self.extended(epoch, defs)?;
+        let tables = tables_of(self.alloc, edition)?;
+        match tables.blueprint.clone() {
+            Ok(shared) => Ok((tables, shared)),
+            Err(_) => {
+                drop(tables);
+                Err(NoMemory)
+            }
+        }
     }
 
-    fn resumed<L: Ledger>(
+    /// Its blueprint, to which definitions were added, with which it has this epoch.
+    fn extended(&self, epoch: u64, defs: &Defs) -> Result<Edition, NoMemory>
+        ensures { IfOk result (λ edition. edition ≡ added self.now.blueprint.value epoch defs.now) }
+    {
+        let mut edition = copy_edition(self.alloc, &self.blueprint)?;
+        edition.add(self.alloc, epoch, defs)?;
+        Ok(edition)
+    }
+
+    /// Puts further definitions into the engine, or none where memory wants.
+    fn define_more<L: Ledger>(&mut self, defs: &Defs, steps: &mut Steps<L>) -> Result<(), NoMemory>
+        requires is_new { (names : List (List ℕ)) × IsNew names self.old }
+        requires applies { first_misfit self.old.settling.run.engine.table.table defs.now ≡ None }
+        ensures ok { OnOk result ((interp_state self.new ≡ updated defs.now (interp_state self.old)) × (self.new ≡ record self.old { settling = self.new.settling })) }
+        ensures err { OnErr result ((interp_state self.new ≡ interp_state self.old) × (self.new.settling.run.engine.table ≡ self.old.settling.run.engine.table) × (self.new ≡ record self.old { settling = self.new.settling })) }
+        ensures idle { IsIdle self.new.settling.run.engine }
+        ensures inner { self.new.settling.inner ≡ self.old.settling.inner }
+        ensures steps { OnOk result (steps.new ≡ steps.old + Writes defs.now) }
+        ensures most { steps.new ≤ steps.old + 2 * Writes defs.now }
+    {
+        let mark = self.mark;
+        let engine = &mut self.settling.run.engine;
+        engine.abandon();
+        let kept = engine.kept();
+        match define_all(engine, defs.as_slice(), steps) {
+            Ok(()) => Ok(()),
+            Err(NoMemory) => {
+                engine.unkeep(kept);
+                engine.clear(mark, steps);
+                Err(NoMemory)
+            }
+        }
+    }
+
+    /// Goes on with an answer.
+    #[tactic(auto, using(crate::proofs::Interpreters::holds_on))]
+    fn answered<L: Ledger>(
         &mut self,
         natives: &Natives,
         answer: Answer,
         steps: &mut Steps<L>,
     ) -> Result<Next, NoMemory>
         requires { IsAsking self.old }
-        ensures blueprint { blueprint_of self.new ≡ blueprint_of self.old }
-        ensures step { IfOk result (λ next. GoesOn (names_of natives.now) next self.new self.old answer) }
-        ensures falls { IfOk result (λ next. Falls next (questions_left self.old) (questions_left self.new)) }
+        ensures step { let names = names_of natives.now in IfOk result (λ next. (question : Question) (inside : ℕ) (further : List Answer) → gives names next (inside + taken names steps.new steps.old self.new self.old) self.new further ≡ gives names (Next.Asks question) inside self.old (answer ∷ further)) }
+        ensures counts { Counts (names_of natives.now) steps.new steps.old self.new self.old }
+        ensures same { IsSameRun self.new self.old }
+        ensures holds { Holds self.new self.old }
         ensures next { IfOk result (λ next. StandsAt next self.new) }
+        ensures falls { IfOk result (λ next. Falls next self.new (number_of self.old)) }
     {
-        let stage = self.leave();
-        let (stage, next) = stepped(self.alloc, natives, stage, answer, steps)?;
-        self.stand_at(stage);
-        Ok(next)
+        match self.task {
+            Task::PageAsked { .. } => {
+                let step = self.enter_page(natives, answer, steps)?;
+                let next = self.moves(natives, step, steps)?;
+                Ok(next)
+            }
+            Task::Define(_) => {
+                let next = self.answer_define(natives, answer, steps)?;
+                Ok(next)
+            }
+            _ => {
+                let stop = self
+                    .settling
+                    .answer(natives, &self.blueprint, self.moment, answer, steps)?;
+                let next = self.go_on(natives, stop, steps)?;
+                Ok(next)
+            }
+        }
+    }
+
+    /// Goes on until something goes out, where something runs.
+    #[tactic(auto, using(crate::proofs::Interpreters::holds_on))]
+    pub(crate) fn moves<L: Ledger>(
+        &mut self,
+        natives: &Natives,
+        step: Move,
+        steps: &mut Steps<L>,
+    ) -> Result<Next, NoMemory>
+        requires { MoveStandsAt step self.old }
+        ensures gives { let names = names_of natives.now in IfOk result (λ next. (inside : ℕ) (further : List Answer) → gives names next (inside + taken names steps.new steps.old self.new self.old) self.new further ≡ move_gives names step inside self.old further) }
+        ensures counts { Counts (names_of natives.now) steps.new steps.old self.new self.old }
+        ensures same { IsSameRun self.new self.old }
+        ensures holds { Holds self.new self.old }
+        ensures next { IfOk result (λ next. StandsAt next self.new) }
+        ensures falls { IfOk result (λ next. (before : ℕ) → MoveFalls step self.old before → Falls next self.new before) }
+    {
+        match step {
+            Move::Stops(next) => Ok(next),
+            Move::Goes(stop) => {
+                let next = self.go_on(natives, stop, steps)?;
+                Ok(next)
+            }
+        }
+    }
+
+    /// Goes on behind a script that stopped so, until something goes out.
+    #[tactic(auto, using(crate::proofs::Interpreters::holds_on))]
+    fn go_on<L: Ledger>(
+        &mut self,
+        natives: &Natives,
+        mut stop: Stop,
+        steps: &mut Steps<L>,
+    ) -> Result<Next, NoMemory>
+        requires at { SettlingAt stop self.old.settling }
+        requires script { IsScriptTask self.old.task }
+        ensures gives { let names = names_of natives.now in IfOk result (λ next. (inside : ℕ) (further : List Answer) → gives names next (inside + taken names steps.new steps.old self.new self.old) self.new further ≡ goes_to names stop inside self.old further) }
+        ensures counts { Counts (names_of natives.now) steps.new steps.old self.new self.old }
+        ensures same { IsSameRun self.new self.old }
+        ensures holds { Holds self.new self.old }
+        ensures next { IfOk result (λ next. StandsAt next self.new) }
+        ensures falls { IfOk result (λ next. (before : ℕ) → StopFalls stop self.old.task self.old.settling before → Falls next self.new before) }
+    {
+        'scripts: loop {
+            match self.stopped(natives, stop, steps)? {
+                Move::Stops(next) => return Ok(next),
+                Move::Goes(last) => stop = last,
+            }
+        }
+    }
+
+    /// What comes of a script that stopped so: something goes out, or the next script runs.
+    fn stopped<L: Ledger>(
+        &mut self,
+        natives: &Natives,
+        stop: Stop,
+        steps: &mut Steps<L>,
+    ) -> Result<Move, NoMemory>
+        requires at { SettlingAt stop self.old.settling }
+        requires script { IsScriptTask self.old.task }
+        ensures gives { let names = names_of natives.now in IfOk result (λ step. (inside : ℕ) (further : List Answer) → move_gives names step (inside + taken names steps.new steps.old self.new self.old) self.new further ≡ goes_to names stop inside self.old further) }
+        ensures counts { Counts (names_of natives.now) steps.new steps.old self.new self.old }
+        ensures lowers { IfOk result (λ step. Lowers step self.new (scripts_left self.old.visit self.old.cleanups self.old.task)) }
+        ensures same { IsSameRun self.new self.old }
+        ensures holds { Holds self.new self.old }
+        ensures next { IfOk result (λ step. MoveStandsAt step self.new) }
+        ensures falls { IfOk result (λ step. (before : ℕ) → StopFalls stop self.old.task self.old.settling before → MoveFalls step self.new before) }
+    {
+        match stop {
+            Stop::Asks(question) => Ok(Move::Stops(Next::Asks(question))),
+            Stop::Spent => self.cut(Ending::Spent),
+            Stop::TooDeep => self.cut(Ending::TooDeep),
+            Stop::Ended { code, result } => {
+                let step = self.ended(natives, code, result, steps)?;
+                Ok(step)
+            }
+        }
+    }
+
+    /// The task under way ends with this code and result of its script. This one function says where each
+    /// task ends and what comes next.
+    fn ended<L: Ledger>(
+        &mut self,
+        natives: &Natives,
+        code: u8,
+        value: Text,
+        steps: &mut Steps<L>,
+    ) -> Result<Move, NoMemory>
+        requires { SettlingAt (Stop.Ended code value) self.old.settling }
+        ensures gives { let names = names_of natives.now in IfOk result (λ step. (inside : ℕ) (further : List Answer) → move_gives names step (inside + taken names steps.new steps.old self.new self.old) self.new further ≡ goes_to names (Stop.Ended code value) inside self.old further) }
+        ensures counts { Counts (names_of natives.now) steps.new steps.old self.new self.old }
+        ensures lowers { IfOk result (λ step. Lowers step self.new (scripts_left self.old.visit self.old.cleanups self.old.task)) }
+        ensures same { IsSameRun self.new self.old }
+        ensures holds { Holds self.new self.old }
+        ensures next { IfOk result (λ step. MoveStandsAt step self.new) }
+        ensures falls { IfOk result (λ step. (before : ℕ) → EndFalls self.old.task self.old.settling before → MoveFalls step self.new before) }
+    {
+        match self.task {
+            Task::Preauth { next } => self.end_preauth(natives, next, code, value, steps),
+            Task::Authorise => self.end_authorisation(natives, code, value, steps),
+            Task::Postauth { next } => self.end_postauth(natives, next, code, value, steps),
+            Task::Page => self.end_page(),
+            Task::Trace { next, ending } => {
+                self.end_trace(natives, next, ending, code, value, steps)
+            }
+            Task::Cleanup { next, ending } => {
+                let budget = self.settling.run.engine.left();
+                self.clean_up(natives, next, ending, budget, steps)
+            }
+            Task::Script => Ok(self.end(Outcome::Done {
+                code,
+                result: value,
+            })),
+            _ => self.end_procedure(code),
+        }
+    }
+
+    /// The run ends.
+    pub(crate) fn end(&mut self, outcome: Outcome) -> Move
+        ensures stops { result ≡ Move.Stops (Next.Ended outcome) }
+        ensures task { self.new ≡ record self.old { task = Task.Over } }
+    {
+        self.task = Task::Over;
+        Move::Stops(Next::Ended(outcome))
+    }
+
+    /// A script was cut off behind a part of the run that ended so, and the run ends.
+    fn cut_behind(&mut self, first: Ending, ending: Ending) -> Move
+        ensures stops { result ≡ Move.Stops (Next.Ended (both first (both ending Outcome.Spent))) }
+        ensures task { self.new ≡ record self.old { task = Task.Over } }
+    {
+        self.end(both(first, both(ending, Outcome::Spent)))
+    }
+
+    /// A script was cut off. Up to the response the reply says so, whatever response was given, and behind
+    /// it the rest of the run isn't run.
+    fn cut(&mut self, ending: Ending) -> Result<Move, NoMemory>
+        requires cut { ¬ (ending ≡ Ending.Answered) }
+        requires inner { self.old.settling.inner ≡ None }
+        ensures gives { (names : List (List ℕ)) → IfOk result (λ step. (inside : ℕ) (further : List Answer) → move_gives names step inside self.new further ≡ goes_to names (cut_stop ending) inside self.old further) }
+        ensures stops { IfOk result (λ step. (before : ℕ) → Lowers step self.new before × MoveFalls step self.new before) }
+        ensures next { IfOk result (λ step. MoveStandsAt step self.new) }
+        ensures rest { (task : Tasks) × (self.new ≡ record self.old { task = task }) }
+    {
+        match self.task {
+            Task::Trace { ending: first, .. } => Ok(self.cut_behind(first, ending)),
+            Task::Cleanup { ending: first, .. } => Ok(self.cut_behind(first, ending)),
+            Task::Script => Ok(self.cut_behind(Ending::Answered, ending)),
+            _ => {
+                let response = cut_reply(self.alloc, ending)?;
+                self.task = Task::Writing { ending };
+                Ok(Move::Stops(Next::Write(response)))
+            }
+        }
     }
 }

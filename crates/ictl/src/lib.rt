@@ -1,30 +1,26 @@
-//! The interpreter of a request or of a script that makes definitions. It can stand at a question.
+//! The interpreter: it runs requests through all their stages, scheduled scripts and scripts that make
+//! definitions, one after the other. It can stand at a question, and between two runs it is as newly
+//! made.
 #![tactic(auto)]
 
-mod copy;
+mod building;
 mod defining;
 mod ending;
-mod host;
+mod inner;
 mod interp;
-mod kind;
 mod law;
-mod leaf;
-mod message;
 mod next;
-mod registering;
 mod reply;
-mod responding;
-mod route;
-mod says;
-mod script;
-mod sharing;
-mod verb;
+mod running;
+mod serving;
+mod settling;
+mod task;
+mod tracing;
+mod visit;
 
-pub use copy::{copy_def, copy_defs};
-pub use interp::{Interp, commands};
-pub use law::{interpreters_give_what_they_answered, routes_are_best};
+pub use interp::Interp;
+pub use law::{
+    ends_are_ends, fresh_globals, one_response, questions_are_asked, responses_are_given,
+    runs_follow_the_stages,
+};
 pub use next::Next;
-pub use script::script_of;
-
-#[cfg(test)]
-mod tests;

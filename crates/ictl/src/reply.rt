@@ -1,58 +1,116 @@
-//! Responses: those that scripts give, and those that the server makes itself.
+//! The responses that a request comes to.
 
 ghost use Rattle.std.specs.Prelude.{◌≡◌, IfOk};
-ghost use Rattle.http_resp.specs.Replies.{text_reply};
-ghost use Rattle.ictl.specs.Main.{after_code};
 ghost use Rattle.std.specs.Option.{option_copied};
+ghost use Rattle.ictl.specs.Replies.{failed, budget_reply, nesting_reply, unauthorized, given_or_failed, procedure_reply, page_output, page_reply};
+ghost use Rattle.ictl.specs.Main.{unentered};
 
-use crate::copy::{copy_pairs, copy_text};
-use http_resp::{Response, plain};
+use crate::ending::is_good;
+use http_resp::{Response, plain, text_reply};
+use outside::Answer;
+use server_host::RunHost;
 use std::alloc::Global;
-use txt_core::{NoMemory, Pairs, Text};
+use txt_core::{NoMemory, Text};
+
+const OK: u16 = 200;
+
+const UNAUTHORIZED: u16 = 401;
+
+const NOT_FOUND: u16 = 404;
 
 const INTERNAL_SERVER_ERROR: u16 = 500;
 
-/// The code of a good end.
-const OK: u8 = 0;
-
-/// The code of a return.
-const RETURN: u8 = 2;
-
-/// The reply of plain text with status 500 and this line as its body.
-pub fn text_reply(alloc: Global, line: &[u8]) -> Result<Response, NoMemory>
-    ensures { IfOk result (λ response. response ≡ text_reply 500 line.now) }
+/// The reply of what fails.
+pub fn failed(alloc: Global) -> Result<Response, NoMemory>
+    ensures { IfOk result (λ response. response ≡ failed) }
 {
-    let mut body = Text::new(alloc, line)?;
-    body.append(b"\n")?;
-    Ok(Response {
-        status: INTERNAL_SERVER_ERROR,
-        fields: Pairs::new(alloc),
-        kind: Text::new(alloc, b"text/plain")?,
-        body,
-    })
+    plain(alloc, INTERNAL_SERVER_ERROR)
 }
 
-/// A copy of a response.
-fn copy_response(alloc: Global, response: &Response) -> Result<Response, NoMemory>
-    ensures { IfOk result (λ copy. copy ≡ response.now) }
+/// The reply of a run that was spent.
+pub fn budget_reply(alloc: Global) -> Result<Response, NoMemory>
+    ensures { IfOk result (λ response. response ≡ budget_reply) }
 {
-    Ok(Response {
-        status: response.status,
-        fields: copy_pairs(alloc, &response.fields)?,
-        kind: copy_text(alloc, &response.kind)?,
-        body: copy_text(alloc, &response.body)?,
-    })
+    text_reply(alloc, INTERNAL_SERVER_ERROR, b"budget spent")
 }
 
-/// The response of a run that ended with this code and gave this response, if any.
-pub fn after_code(alloc: Global, code: u8, given: Option<&Response>) -> Result<Response, NoMemory>
-    ensures { IfOk result (λ response. response ≡ after_code code (option_copied given.entry)) }
+/// The reply of a run that was too deep.
+pub fn nesting_reply(alloc: Global) -> Result<Response, NoMemory>
+    ensures { IfOk result (λ response. response ≡ nesting_reply) }
 {
-    if code != OK && code != RETURN {
-        return plain(alloc, INTERNAL_SERVER_ERROR);
-    }
+    text_reply(alloc, INTERNAL_SERVER_ERROR, b"nesting too deep")
+}
+
+/// The reply that asks for credentials (RFC 9110, section 11.6.1).
+pub fn unauthorized(alloc: Global) -> Result<Response, NoMemory>
+    ensures { IfOk result (λ response. response ≡ unauthorized) }
+{
+    let mut response = plain(alloc, UNAUTHORIZED)?;
+    let key = Text::new(alloc, b"WWW-Authenticate")?;
+    let value = Text::new(alloc, b"Basic realm=\"server\"")?;
+    response.fields.add((key, value))?;
+    Ok(response)
+}
+
+/// A copy of the response that was given; without one the request failed.
+pub fn given_or_failed(alloc: Global, given: Option<&Response>) -> Result<Response, NoMemory>
+    ensures { IfOk result (λ response. response ≡ given_or_failed (option_copied given.entry)) }
+{
     match given {
-        None => plain(alloc, INTERNAL_SERVER_ERROR),
-        Some(response) => copy_response(alloc, response),
+        None => failed(alloc),
+        Some(response) => response.copy(alloc),
+    }
+}
+
+/// The response behind the procedure.
+pub fn procedure_reply(
+    alloc: Global,
+    code: u8,
+    given: Option<&Response>,
+) -> Result<Response, NoMemory>
+    ensures { IfOk result (λ response. response ≡ procedure_reply code (option_copied given.entry)) }
+{
+    if is_good(code) {
+        given_or_failed(alloc, given)
+    } else {
+        failed(alloc)
+    }
+}
+
+/// What the pages put out, as a response.
+fn page_output(alloc: Global, host: &RunHost) -> Result<Response, NoMemory>
+    ensures { IfOk result (λ response. response ≡ page_output host.now) }
+{
+    Ok(Response {
+        status: OK,
+        fields: host.output_fields()?,
+        kind: Text::new(alloc, b"text/html")?,
+        body: host.output().copy(alloc)?,
+    })
+}
+
+/// The response behind a first page.
+pub fn page_reply(alloc: Global, host: &RunHost) -> Result<Response, NoMemory>
+    ensures { IfOk result (λ response. response ≡ page_reply host.now) }
+{
+    match host.response() {
+        Some(response) => response.copy(alloc),
+        None => {
+            if host.errors() > 0 {
+                failed(alloc)
+            } else {
+                page_output(alloc, host)
+            }
+        }
+    }
+}
+
+/// The response where the answer for a first page doesn't enter it.
+pub fn unentered(alloc: Global, answer: &Answer) -> Result<Response, NoMemory>
+    ensures { IfOk result (λ response. response ≡ unentered answer.now) }
+{
+    match answer {
+        Answer::NoPage => plain(alloc, NOT_FOUND),
+        Answer::Said(_) | Answer::Failed(_) | Answer::Page(_) | Answer::PageFault => failed(alloc),
     }
 }

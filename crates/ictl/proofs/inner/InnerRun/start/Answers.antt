@@ -1,0 +1,43 @@
+use Rattle.std.proofs.Common.{ℕ, List, ap, ◌∙◌}
+use Rattle.txt_core.specs.Number.{number}
+use Rattle.natives.specs.Names.{names_of}
+use Rattle.server_host.specs.Hosts.{HostState, defining}
+use Rattle.ictl.specs.Defines.{depth_of}
+use Rattle.ictl.proofs.Inners.{sunk_begun, begun}
+use Rattle.ictl.proofs.inner.InnerRun.start.Goals as goal
+
+pub stop-requires-clause-value : goal.stop-requires-clause-value
+stop-requires-clause-value g c = c.requires.value
+
+pub stop-requires-clause-asks : goal.stop-requires-clause-asks
+stop-requires-clause-asks g c = c.in_ok-came.ensures.asks
+
+pub returns-clause-asks : goal.returns-clause-asks
+returns-clause-asks g c = c.in_ok-stop.ensures.asks
+
+pub returns-clause-counts : goal.returns-clause-counts
+returns-clause-counts g c = c.start.ensures.counts
+
+pub returns-clause-fewer : goal.returns-clause-fewer
+returns-clause-fewer g c = c.stop.ensures.fewer
+
+pub stop-requires-clause-suffices : goal.stop-requires-clause-suffices
+stop-requires-clause-suffices g c = c.in_ok-came.ensures.suffices c.args.self.now.defining.questions c.requires.suffices
+
+pub returns-clause-gives : goal.returns-clause-gives
+returns-clause-gives g c = λ bp fresh further.
+    let names = names_of c.args.natives.now in
+    let s = c.args.self.now in
+    begun names bp c.args.moment s.run.engine c.begin_definitions.new.self c.args.words.now c.args.budget s.defining.questions c.in-Some.depth c.in_ok-script.script c.in_ok-came.came c.start.new.self further _
+    fresh (c.in_ok-begin_definitions.ensures.ok ∙ ap (λ (h : HostState). defining c.args.moment h.blueprint) c.host_mut.ensures.value)
+    (c.in-Some.ensures.depth ∙ ap (λ (t : List ℕ). depth_of (number t)) c.word_at-level.ensures)
+    (c.in_ok-script.ensures ∙ c.word_at-body.ensures)
+    c.in_ok-came.ensures.gives
+    (c.in_ok-stop.ensures.gives names bp c.args.moment further)
+
+pub returns-in_default-clause-gives : goal.returns-in_default-clause-gives
+returns-in_default-clause-gives g c = λ bp fresh further.
+    let s = c.args.self.now in
+    sunk_begun (names_of c.args.natives.now) bp c.args.moment s.run.engine c.begin_definitions.new.self c.args.words.now c.args.budget s.defining.questions further
+    fresh (c.in_ok-begin_definitions.ensures.ok ∙ ap (λ (h : HostState). defining c.args.moment h.blueprint) c.host_mut.ensures.value)
+    (c.in_default.ensures.depth ∙ ap (λ (t : List ℕ). depth_of (number t)) c.word_at-level.ensures)

@@ -1,0 +1,47 @@
+use Rattle.std.proofs.Common.{sym, ap, ◌∙◌, arith}
+use Rattle.natives.specs.Names.{names_of}
+use Rattle.server_host.specs.declared.edition.Edition.{Edition}
+use Rattle.server_host.specs.Hosts.{HostState, serving}
+use Rattle.ictl.specs.Falls.{first_number}
+use Rattle.ictl.specs.declared.interp.Interp.{Interp}
+use Rattle.ictl.proofs.Interpreters.{moved_on, from_none}
+use Rattle.ictl.proofs.Beginnings.{begun_state, request_begins}
+use Rattle.ictl.proofs.interp.Interp.begin_request.Goals as goal
+
+pub preauth-requires : goal.preauth-requires
+preauth-requires g c = (omega arith, c.requires.1.inner)
+
+pub moves-requires : goal.moves-requires
+moves-requires g c = c.in_ok-step.ensures.next
+
+pub returns-clause-next : goal.returns-clause-next
+returns-clause-next g c = c.in_ok-next.ensures.next
+
+pub returns-clause-falls : goal.returns-clause-falls
+returns-clause-falls g c = c.in_ok-next.ensures.falls first_number (c.in_ok-step.ensures.falls first_number (omega arith))
+
+pub returns-clause-stands : goal.returns-clause-stands
+returns-clause-stands g c = λ further.
+    let names = names_of c.args.natives.now in
+    let old = c.args.self.now in
+    let bp = old.blueprint.value in
+    let visit = c.replace.ensures.after ∙ c.in-Ok.ensures names c.requires in
+    let state = begun_state names old c.serve.new.self (λ (b : Edition). serving c.args.request c.args.moment b) c.requires.1 (c.in_ok-serve.ensures.ok ∙ ap (λ (h : HostState). serving c.args.request c.args.moment h.blueprint) c.host_mut.ensures.value) in
+    let between : Interp = record old {
+      settling = record old.settling { run = record { engine = record old.settling.run.engine { host = c.serve.new.self } }; questions = 1800000 };
+      moment = c.args.moment;
+      visit = c.replace.new.dest;
+    } in
+    sym (from_none names c.in_ok-next.next c.moves.new.self _ further _
+    (moved_on names c.in_ok-step.step c.in_ok-next.next between c.preauth.new.self c.moves.new.self 0 c.args.steps.now c.preauth.new.steps c.moves.new.steps further _
+    c.preauth.ensures.counts c.moves.ensures.counts (c.in_ok-step.ensures.gives 0 further) (λ n. c.in_ok-next.ensures.gives n further))
+    ∙ request_begins names bp c.args.request c.args.moment c.replace.new.dest _ further visit state)
+
+pub returns-clause-visit : goal.returns-clause-visit
+returns-clause-visit g c =
+    let names = names_of c.args.natives.now in
+    let old = c.args.self.now in (
+      c.moves.ensures.same.visit ∙ c.preauth.ensures.same.visit
+          ∙ c.replace.ensures.after ∙ c.in-Ok.ensures names c.requires,
+      c.moves.ensures.same.moment ∙ c.preauth.ensures.same.moment,
+    )

@@ -1,0 +1,30 @@
+use Rattle.std.proofs.Common.{ℕ, sym, ap, ◌∙◌}
+use Rattle.natives.specs.Names.{names_of}
+use Rattle.ictl.specs.Interps.{gives, move_gives}
+use Rattle.ictl.specs.declared.task.Move.{Move}
+use Rattle.ictl.proofs.Settlings.{none_taken}
+use Rattle.ictl.proofs.interp.Interp.moves.Goals as goal
+
+pub go_on-requires-clause-at : goal.go_on-requires-clause-at
+go_on-requires-clause-at g c = let stands = rw c.in-Goes.is at c.requires in stands.0
+
+pub go_on-requires-clause-script : goal.go_on-requires-clause-script
+go_on-requires-clause-script g c = let stands = rw c.in-Goes.is at c.requires in stands.1
+
+pub returns-in-Stops-clause-next : goal.returns-in-Stops-clause-next
+returns-in-Stops-clause-next g c = rw c.in-Stops.is at c.requires
+
+pub returns-in_ok-next-in-Goes-clause-next : goal.returns-in_ok-next-in-Goes-clause-next
+returns-in_ok-next-in-Goes-clause-next g c = c.in_ok-next-in-Goes.ensures.next
+
+pub returns-in-Stops-clause-gives : goal.returns-in-Stops-clause-gives
+returns-in-Stops-clause-gives g c = λ inside further.
+    let names = names_of c.args.natives.now in
+    ap (λ (n : ℕ). gives names c.in-Stops.next n c.args.self.now further) (none_taken inside _)
+    ∙ ap (λ (m : Move). move_gives names m inside c.args.self.now further) (sym c.in-Stops.is)
+
+pub returns-in_ok-next-in-Goes-clause-gives : goal.returns-in_ok-next-in-Goes-clause-gives
+returns-in_ok-next-in-Goes-clause-gives g c = λ inside further.
+    let names = names_of c.args.natives.now in
+    c.in_ok-next-in-Goes.ensures.gives inside further
+    ∙ ap (λ (m : Move). move_gives names m inside c.args.self.now further) (sym c.in-Goes.is)

@@ -1,0 +1,57 @@
+use Rattle.std.proofs.Common.{◌≡◌, ℕ, ◌+◌, List, Bool, true, false, Result, refl, sym, subst, ap, ◌∙◌}
+use Rattle.natives.specs.Names.{names_of}
+use Rattle.outside.specs.declared.question.Answer.{Answer}
+use Rattle.ictl.specs.Main.{behind}
+use Rattle.ictl.specs.Interps.{UnlessNoMemory, gives, taken, ending_of, interp_state}
+use Rattle.ictl.specs.Falls.{Falls, first_number}
+use Rattle.ictl.specs.declared.next.Next.{Next}
+use Rattle.ictl.proofs.Interpreters.{answered_so, answered_or, ok_same, unwritten_stands, unwritten_over, over_same, over_holds}
+use Rattle.ictl.proofs.Resets.{sound_on, writing_runs}
+use Rattle.ictl.proofs.interp.Interp.written.Goals as goal
+
+pub returns-then-whole-clause-stands : goal.returns-then-whole-clause-stands
+returns-then-whole-clause-stands g c = λ request sound visit inside.
+    let names = names_of c.args.natives.now in
+    let old = c.args.self.now in
+    subst (λ (b : Bool). UnlessNoMemory c.next_of.result ((further : List Answer) → behind names old.blueprint.value old.moment b request (ending_of old.task) (interp_state old) inside further
+    ≡ gives names c.next_of.result (inside + taken names c.go_behind.new.steps c.args.steps.now c.go_behind.new.self old) c.go_behind.new.self further)) (sym c.if-whole.true)
+    (answered_so c.go_behind.result c.next_of.result _ c.next_of.ensures (ok_same c.go_behind.result _ _ (λ next h. h request sound visit inside) c.go_behind.ensures.stands))
+
+pub returns-then-whole-clause-unwritten : goal.returns-then-whole-clause-unwritten
+returns-then-whole-clause-unwritten g c = λ short. absurd (let both : true ≡ false = sym c.if-whole.true ∙ short in cc)
+
+pub returns-then-whole-clause-sound : goal.returns-then-whole-clause-sound
+returns-then-whole-clause-sound g c = λ names sound. sound_on names c.go_behind.new.self c.args.self.now (writing_runs c.args.self.now c.requires) c.go_behind.ensures.same c.go_behind.ensures.holds sound
+
+pub returns-then-whole-clause-next : goal.returns-then-whole-clause-next
+returns-then-whole-clause-next g c = answered_or c.go_behind.result c.next_of.result _ tt c.next_of.ensures c.go_behind.ensures.next
+
+pub returns-then-whole-clause-falls : goal.returns-then-whole-clause-falls
+returns-then-whole-clause-falls g c = answered_or c.go_behind.result c.next_of.result _ tt c.next_of.ensures c.go_behind.ensures.falls
+
+pub returns-else-whole-clause-stands : goal.returns-else-whole-clause-stands
+returns-else-whole-clause-stands g c = λ request sound visit inside.
+    let names = names_of c.args.natives.now in
+    let old = c.args.self.now in
+    subst (λ (b : Bool). UnlessNoMemory c.end_unwritten.result ((further : List Answer) → behind names old.blueprint.value old.moment b request (ending_of old.task) (interp_state old) inside further
+    ≡ gives names c.end_unwritten.result (inside + taken names c.args.steps.now c.args.steps.now c.end_unwritten.new.self old) c.end_unwritten.new.self further)) (sym c.if-whole.false)
+    (unwritten_stands names c.end_unwritten.result old c.end_unwritten.new.self request inside c.args.steps.now c.end_unwritten.ensures.ends c.end_unwritten.ensures.task)
+
+pub returns-else-whole-clause-unwritten : goal.returns-else-whole-clause-unwritten
+returns-else-whole-clause-unwritten g c = λ short. (c.end_unwritten.ensures.ends, refl)
+
+pub returns-else-whole-clause-same : goal.returns-else-whole-clause-same
+returns-else-whole-clause-same g c = over_same c.end_unwritten.new.self c.args.self.now c.end_unwritten.ensures.task
+
+pub returns-else-whole-clause-holds : goal.returns-else-whole-clause-holds
+returns-else-whole-clause-holds g c = over_holds c.end_unwritten.new.self c.args.self.now c.end_unwritten.ensures.task
+
+pub returns-else-whole-clause-sound : goal.returns-else-whole-clause-sound
+returns-else-whole-clause-sound g c = λ names sound.
+    sound_on names c.end_unwritten.new.self c.args.self.now (writing_runs c.args.self.now c.requires) (over_same c.end_unwritten.new.self c.args.self.now c.end_unwritten.ensures.task) (over_holds c.end_unwritten.new.self c.args.self.now c.end_unwritten.ensures.task) sound
+
+pub returns-else-whole-clause-next : goal.returns-else-whole-clause-next
+returns-else-whole-clause-next g c = unwritten_over c.end_unwritten.result c.args.self.now c.end_unwritten.new.self c.end_unwritten.ensures.ends c.end_unwritten.ensures.task
+
+pub returns-else-whole-clause-falls : goal.returns-else-whole-clause-falls
+returns-else-whole-clause-falls g c = subst (λ (n : Next). Falls n c.end_unwritten.new.self first_number) (sym c.end_unwritten.ensures.ends) tt

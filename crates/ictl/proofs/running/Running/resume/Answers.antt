@@ -1,0 +1,16 @@
+use Rattle.natives.specs.Names.{names_of}
+use Rattle.ictl.proofs.Runs.{went_on, uncharged, asks_at, went_on_suffices}
+use Rattle.ictl.proofs.running.Running.resume.Goals as goal
+
+pub returns-clause-gives : goal.returns-clause-gives
+returns-clause-gives g c =
+    went_on (names_of c.args.natives.now) c.resume-outcome.result c.in_ok-stop.stop (record { engine = c.resume-outcome.new.self }) c.args.self.now.engine c.args.self.now c.args.answer 0
+    c.in_ok-stop.ensures (uncharged c.args.self.now.engine) c.resume-outcome.ensures.step
+
+pub returns-clause-asks : goal.returns-clause-asks
+returns-clause-asks g c =
+    asks_at c.resume-outcome.result c.in_ok-stop.stop (record { engine = c.resume-outcome.new.self }) c.in_ok-stop.ensures c.resume-outcome.ensures.leaves
+
+pub returns-clause-suffices : goal.returns-clause-suffices
+returns-clause-suffices g c =
+    went_on_suffices c.resume-outcome.result c.in_ok-stop.stop (record { engine = c.resume-outcome.new.self }) c.args.self.now c.args.answer c.in_ok-stop.ensures c.resume-outcome.ensures.falls

@@ -1,0 +1,480 @@
+//! The run of a request up to its response.
+
+ghost use Rattle.std.specs.Prelude.{◌≡◌, ◌≤◌, ◌<◌, ◌+◌, ◌-◌, ◌*◌, ◌^◌, ◌∷◌, [], ℕ, List, IfOk, OnOk, drop, length, MatchOption};
+ghost use Rattle.natives.specs.Names.{names_of};
+ghost use Rattle.outside.specs.declared.question.Answer.{Answer};
+ghost use Rattle.tcl_eval.specs.Engine.{at_global};
+ghost use Rattle.ictl.specs.Fresh.{outset};
+ghost use Rattle.ictl.specs.Settle.{account_of};
+ghost use Rattle.ictl.specs.Replies.{given_or_failed, failed, procedure_reply, page_reply, verdict, access};
+ghost use Rattle.ictl.specs.Main.{runs, calls, filters_from, filter_end, access_end, authorised, unauthorised, serve, page_question, page_words};
+ghost use Rattle.ictl.specs.Interps.{Holds, IsSameRun, interp_state, taken, Counts, task_end, asking_gives, move_gives};
+ghost use Rattle.ictl.specs.Steps.{Lowers, scripts_left, asked_path, EntersNone, EntersBy};
+ghost use Rattle.ictl.specs.declared.task.Task.{Task as Tasks};
+ghost use Rattle.ictl.specs.Falls.{IsReady, MoveStandsAt, IsScriptTask, MoveFalls, EndFalls, per_question};
+
+use crate::ending::{Access, Ending, Verdict, access_of, verdict_of};
+use crate::interp::Interp;
+use crate::next::Next;
+use crate::reply::{failed, given_or_failed, page_reply, procedure_reply, unauthorized, unentered};
+use crate::task::{Move, Task};
+use crate::visit::Serving;
+use cmd_table::Steps;
+use http_resp::{Response, plain};
+use natives::Natives;
+use outside::{Answer, Question, Service};
+use std::alloc::Global;
+use std::sync::ledger::Ledger;
+use tcl_eval::Work;
+use tcl_host::{Host, HostReply};
+use txt_core::{NoMemory, Text, Words};
+use url_tables::WordsList;
+
+const FORBIDDEN: u16 = 403;
+
+const NOT_FOUND: u16 = 404;
+
+/// The command whose words enter a page.
+const INCLUDE: &[u8] = b"ns_adp_include";
+
+/// A copy of the words at a place, or none past the end.
+pub(crate) fn words_at(
+    alloc: Global,
+    list: &WordsList,
+    at: usize,
+) -> Result<Option<Words>, NoMemory>
+    ensures here { IfOk result (λ found. MatchOption found (drop at list.now ≡ []) (λ words. drop at list.now ≡ words ∷ drop (at + 1) list.now)) }
+    ensures small { IfOk result (λ found. MatchOption found (length list.now ≤ at) (λ _. (at < length list.now) × (at < 2 ^ 63))) }
+{
+    match list.as_slice().get(at) {
+        None => Ok(None),
+        Some(words) => Ok(Some(Words::of_copies(alloc, words.as_slice())?)),
+    }
+}
+
+/// A copy of a call, where there is one.
+fn copy_call(alloc: Global, call: &Option<Words>) -> Result<Option<Words>, NoMemory>
+    ensures { IfOk result (λ copy. copy ≡ call.now) }
+{
+    match call {
+        None => Ok(None),
+        Some(words) => Ok(Some(Words::of_copies(alloc, words.as_slice())?)),
+    }
+}
+
+/// A copy of what serves a request.
+fn copy_serving(alloc: Global, serving: &Serving) -> Result<Serving, NoMemory>
+    ensures { IfOk result (λ copy. copy ≡ serving.now) }
+{
+    Ok(match serving {
+        Serving::Procedure(words) => {
+            Serving::Procedure(Words::of_copies(alloc, words.as_slice())?)
+        }
+        Serving::Page(path) => Serving::Page(path.copy(alloc)?),
+        Serving::Nothing => Serving::Nothing,
+    })
+}
+
+/// Puts the words by which a page is entered into an empty list.
+fn add_page_words(alloc: Global, words: &mut Words, path: &Text) -> Result<(), NoMemory>
+    requires { words.old ≡ [] }
+    ensures { OnOk result (words.new ≡ page_words path.now) }
+{
+    words.add(Text::new(alloc, INCLUDE)?)?;
+    words.add(path.copy(alloc)?)
+}
+
+/// The words by which the first page that is asked for is entered, and the budget that is left for it.
+fn page_words(alloc: Global, task: &Task) -> Result<(Words, u64), NoMemory>
+    requires { (path : List ℕ) × (budget : ℕ) × (task.now ≡ Task.PageAsked path budget) }
+    ensures words { IfOk result (λ x. x.0 ≡ page_words (asked_path task.now)) }
+    ensures budget { IfOk result (λ x. task.now ≡ Task.PageAsked (asked_path task.now) x.1) }
+{
+    match task {
+        Task::PageAsked { path, budget } => {
+            let mut words = Words::new(alloc);
+            add_page_words(alloc, &mut words, path)?;
+            Ok((words, *budget))
+        }
+        _ => unreachable!(),
+    }
+}
+
+/// What runs where a reply enters a page, or none where it doesn't. Its only error is that the reply was
+/// want of memory.
+fn entered(reply: HostReply) -> Result<Option<Work>, NoMemory>
+    ensures { IfOk result (λ found. MatchOption found (EntersNone reply) (λ work. EntersBy work reply)) }
+{
+    match reply {
+        HostReply::Enter(pieces) => Ok(Some(Work::Page(pieces))),
+        HostReply::NoMemory => Err(NoMemory),
+        _ => Ok(None),
+    }
+}
+
+impl Interp {
+    /// Runs a script, a call or a page as this task, from the state as it stands.
+    pub(crate) fn run<L: Ledger>(
+        &mut self,
+        natives: &Natives,
+        task: Task,
+        work: Work,
+        budget: u64,
+        steps: &mut Steps<L>,
+    ) -> Result<Move, NoMemory>
+        requires ready { IsReady budget self.old.settling }
+        requires script { IsScriptTask task }
+        ensures gives { let names = names_of natives.now in IfOk result (λ step. (inside : ℕ) (further : List Answer) → move_gives names step (inside + taken names steps.new steps.old self.new self.old) self.new further ≡ task_end names self.old task (runs names self.old.blueprint.value self.old.moment work (at_global (interp_state self.old)) (account_of budget self.old.settling.questions inside) further)) }
+        ensures counts { Counts (names_of natives.now) steps.new steps.old self.new self.old }
+        ensures lowers { IfOk result (λ step. (before : ℕ) → scripts_left self.old.visit self.old.cleanups task < before → Lowers step self.new before) }
+        ensures same { IsSameRun self.new self.old }
+        ensures holds { Holds self.new self.old }
+        ensures next { IfOk result (λ step. MoveStandsAt step self.new) }
+        ensures falls { IfOk result (λ step. (before : ℕ) → per_question * self.old.settling.questions ≤ before → EndFalls task self.old.settling before → MoveFalls step self.new before) }
+    {
+        let stop = self
+            .settling
+            .start(natives, &self.blueprint, self.moment, work, budget, steps)?;
+        self.task = task;
+        Ok(Move::Goes(stop))
+    }
+
+    /// Makes a call as this task, from the global frame and outside of every page.
+    #[tactic(auto, using(crate::proofs::Interpreters::holds_on))]
+    pub(crate) fn call<L: Ledger>(
+        &mut self,
+        natives: &Natives,
+        task: Task,
+        words: Words,
+        budget: u64,
+        steps: &mut Steps<L>,
+    ) -> Result<Move, NoMemory>
+        requires ready { IsReady budget self.old.settling }
+        requires script { IsScriptTask task }
+        ensures gives { let names = names_of natives.now in IfOk result (λ step. (inside : ℕ) (further : List Answer) → move_gives names step (inside + taken names steps.new steps.old self.new self.old) self.new further ≡ task_end names self.old task (calls names self.old.blueprint.value self.old.moment words (interp_state self.old) (account_of budget self.old.settling.questions inside) further)) }
+        ensures counts { Counts (names_of natives.now) steps.new steps.old self.new self.old }
+        ensures lowers { IfOk result (λ step. (before : ℕ) → scripts_left self.old.visit self.old.cleanups task < before → Lowers step self.new before) }
+        ensures same { IsSameRun self.new self.old }
+        ensures holds { Holds self.new self.old }
+        ensures next { IfOk result (λ step. MoveStandsAt step self.new) }
+        ensures falls { IfOk result (λ step. (before : ℕ) → per_question * self.old.settling.questions + 2 < before → MoveFalls step self.new before) }
+    {
+        self.settling.run.set_out();
+        self.run(natives, task, Work::Call(words), budget, steps)
+    }
+
+    /// Calls the preauth filter at this place, or goes on behind them.
+    pub(crate) fn preauth<L: Ledger>(
+        &mut self,
+        natives: &Natives,
+        next: usize,
+        budget: u64,
+        steps: &mut Steps<L>,
+    ) -> Result<Move, NoMemory>
+        requires { IsReady budget self.old.settling }
+        ensures gives { let names = names_of natives.now in IfOk result (λ step. (inside : ℕ) (further : List Answer) → move_gives names step (inside + taken names steps.new steps.old self.new self.old) self.new further ≡ filters_from names self.old.blueprint.value self.old.moment (drop next self.old.visit.preauth) (unauthorised names self.old.blueprint.value self.old.moment self.old.visit) (interp_state self.old) (account_of budget self.old.settling.questions inside) further) }
+        ensures counts { Counts (names_of natives.now) steps.new steps.old self.new self.old }
+        ensures lowers { IfOk result (λ step. Lowers step self.new ((length self.old.visit.preauth - next) + length self.old.visit.postauth + 3)) }
+        ensures same { IsSameRun self.new self.old }
+        ensures holds { Holds self.new self.old }
+        ensures next { IfOk result (λ step. MoveStandsAt step self.new) }
+        ensures falls { IfOk result (λ step. (before : ℕ) → per_question * self.old.settling.questions + 2 < before → MoveFalls step self.new before) }
+    {
+        let found = words_at(self.alloc, &self.visit.preauth, next)?;
+        match found {
+            None => self.authorise(natives, budget, steps),
+            Some(words) => self.call(
+                natives,
+                Task::Preauth { next: next + 1 },
+                words,
+                budget,
+                steps,
+            ),
+        }
+    }
+
+    /// A preauth filter has ended.
+    pub(crate) fn end_preauth<L: Ledger>(
+        &mut self,
+        natives: &Natives,
+        next: usize,
+        code: u8,
+        value: Text,
+        steps: &mut Steps<L>,
+    ) -> Result<Move, NoMemory>
+        requires { IsReady self.old.settling.run.engine.budget self.old.settling }
+        ensures gives { let names = names_of natives.now in IfOk result (λ step. (inside : ℕ) (further : List Answer) → move_gives names step (inside + taken names steps.new steps.old self.new self.old) self.new further ≡ filter_end (filters_from names self.old.blueprint.value self.old.moment (drop next self.old.visit.preauth) (unauthorised names self.old.blueprint.value self.old.moment self.old.visit)) (unauthorised names self.old.blueprint.value self.old.moment self.old.visit) (verdict code value) (interp_state self.old) (account_of self.old.settling.run.engine.budget self.old.settling.questions inside) further) }
+        ensures counts { Counts (names_of natives.now) steps.new steps.old self.new self.old }
+        ensures lowers { IfOk result (λ step. Lowers step self.new ((length self.old.visit.preauth - next) + length self.old.visit.postauth + 3)) }
+        ensures same { IsSameRun self.new self.old }
+        ensures holds { Holds self.new self.old }
+        ensures next { IfOk result (λ step. MoveStandsAt step self.new) }
+        ensures falls { IfOk result (λ step. (before : ℕ) → per_question * self.old.settling.questions + 2 < before → MoveFalls step self.new before) }
+    {
+        let budget = self.settling.run.engine.left();
+        let said = verdict_of(code, &value);
+        match said {
+            Verdict::Goes => self.preauth(natives, next, budget, steps),
+            Verdict::Breaks => self.authorise(natives, budget, steps),
+            Verdict::Returns => self.respond_given(),
+            Verdict::Fails => self.fail(),
+        }
+    }
+
+    /// Calls the authorisation, where there is one, or goes on behind it.
+    fn authorise<L: Ledger>(
+        &mut self,
+        natives: &Natives,
+        budget: u64,
+        steps: &mut Steps<L>,
+    ) -> Result<Move, NoMemory>
+        requires { IsReady budget self.old.settling }
+        ensures gives { let names = names_of natives.now in IfOk result (λ step. (inside : ℕ) (further : List Answer) → move_gives names step (inside + taken names steps.new steps.old self.new self.old) self.new further ≡ unauthorised names self.old.blueprint.value self.old.moment self.old.visit (interp_state self.old) (account_of budget self.old.settling.questions inside) further) }
+        ensures counts { Counts (names_of natives.now) steps.new steps.old self.new self.old }
+        ensures lowers { IfOk result (λ step. Lowers step self.new (length self.old.visit.postauth + 3)) }
+        ensures same { IsSameRun self.new self.old }
+        ensures holds { Holds self.new self.old }
+        ensures next { IfOk result (λ step. MoveStandsAt step self.new) }
+        ensures falls { IfOk result (λ step. (before : ℕ) → per_question * self.old.settling.questions + 2 < before → MoveFalls step self.new before) }
+    {
+        let call = copy_call(self.alloc, &self.visit.authorisation)?;
+        match call {
+            None => self.postauth(natives, 0, budget, steps),
+            Some(words) => self.call(natives, Task::Authorise, words, budget, steps),
+        }
+    }
+
+    /// The authorisation has ended.
+    pub(crate) fn end_authorisation<L: Ledger>(
+        &mut self,
+        natives: &Natives,
+        code: u8,
+        value: Text,
+        steps: &mut Steps<L>,
+    ) -> Result<Move, NoMemory>
+        requires { IsReady self.old.settling.run.engine.budget self.old.settling }
+        ensures gives { let names = names_of natives.now in IfOk result (λ step. (inside : ℕ) (further : List Answer) → move_gives names step (inside + taken names steps.new steps.old self.new self.old) self.new further ≡ access_end (authorised names self.old.blueprint.value self.old.moment self.old.visit) (access code value) (interp_state self.old) (account_of self.old.settling.run.engine.budget self.old.settling.questions inside) further) }
+        ensures counts { Counts (names_of natives.now) steps.new steps.old self.new self.old }
+        ensures lowers { IfOk result (λ step. Lowers step self.new (length self.old.visit.postauth + 2)) }
+        ensures same { IsSameRun self.new self.old }
+        ensures holds { Holds self.new self.old }
+        ensures next { IfOk result (λ step. MoveStandsAt step self.new) }
+        ensures falls { IfOk result (λ step. (before : ℕ) → per_question * self.old.settling.questions + 2 < before → MoveFalls step self.new before) }
+    {
+        let budget = self.settling.run.engine.left();
+        let said = access_of(code, &value);
+        match said {
+            Access::Allowed => self.postauth(natives, 0, budget, steps),
+            Access::Unauthorized => {
+                let response = unauthorized(self.alloc)?;
+                Ok(self.respond(response))
+            }
+            Access::Forbidden => {
+                let response = plain(self.alloc, FORBIDDEN)?;
+                Ok(self.respond(response))
+            }
+            Access::Failed => self.fail(),
+        }
+    }
+
+    /// Calls the postauth filter at this place, or goes on behind them.
+    fn postauth<L: Ledger>(
+        &mut self,
+        natives: &Natives,
+        next: usize,
+        budget: u64,
+        steps: &mut Steps<L>,
+    ) -> Result<Move, NoMemory>
+        requires { IsReady budget self.old.settling }
+        ensures gives { let names = names_of natives.now in IfOk result (λ step. (inside : ℕ) (further : List Answer) → move_gives names step (inside + taken names steps.new steps.old self.new self.old) self.new further ≡ filters_from names self.old.blueprint.value self.old.moment (drop next self.old.visit.postauth) (serve names self.old.blueprint.value self.old.moment self.old.visit.serving) (interp_state self.old) (account_of budget self.old.settling.questions inside) further) }
+        ensures counts { Counts (names_of natives.now) steps.new steps.old self.new self.old }
+        ensures lowers { IfOk result (λ step. Lowers step self.new ((length self.old.visit.postauth - next) + 1)) }
+        ensures same { IsSameRun self.new self.old }
+        ensures holds { Holds self.new self.old }
+        ensures next { IfOk result (λ step. MoveStandsAt step self.new) }
+        ensures falls { IfOk result (λ step. (before : ℕ) → per_question * self.old.settling.questions + 2 < before → MoveFalls step self.new before) }
+    {
+        let found = words_at(self.alloc, &self.visit.postauth, next)?;
+        match found {
+            None => self.serve(natives, budget, steps),
+            Some(words) => self.call(
+                natives,
+                Task::Postauth { next: next + 1 },
+                words,
+                budget,
+                steps,
+            ),
+        }
+    }
+
+    /// A postauth filter has ended.
+    pub(crate) fn end_postauth<L: Ledger>(
+        &mut self,
+        natives: &Natives,
+        next: usize,
+        code: u8,
+        value: Text,
+        steps: &mut Steps<L>,
+    ) -> Result<Move, NoMemory>
+        requires { IsReady self.old.settling.run.engine.budget self.old.settling }
+        ensures gives { let names = names_of natives.now in IfOk result (λ step. (inside : ℕ) (further : List Answer) → move_gives names step (inside + taken names steps.new steps.old self.new self.old) self.new further ≡ filter_end (filters_from names self.old.blueprint.value self.old.moment (drop next self.old.visit.postauth) (serve names self.old.blueprint.value self.old.moment self.old.visit.serving)) (serve names self.old.blueprint.value self.old.moment self.old.visit.serving) (verdict code value) (interp_state self.old) (account_of self.old.settling.run.engine.budget self.old.settling.questions inside) further) }
+        ensures counts { Counts (names_of natives.now) steps.new steps.old self.new self.old }
+        ensures lowers { IfOk result (λ step. Lowers step self.new ((length self.old.visit.postauth - next) + 1)) }
+        ensures same { IsSameRun self.new self.old }
+        ensures holds { Holds self.new self.old }
+        ensures next { IfOk result (λ step. MoveStandsAt step self.new) }
+        ensures falls { IfOk result (λ step. (before : ℕ) → per_question * self.old.settling.questions + 2 < before → MoveFalls step self.new before) }
+    {
+        let budget = self.settling.run.engine.left();
+        let said = verdict_of(code, &value);
+        match said {
+            Verdict::Goes => self.postauth(natives, next, budget, steps),
+            Verdict::Breaks => self.serve(natives, budget, steps),
+            Verdict::Returns => self.respond_given(),
+            Verdict::Fails => self.fail(),
+        }
+    }
+
+    /// Calls the procedure, or asks for the page; what is neither is not found.
+    fn serve<L: Ledger>(
+        &mut self,
+        natives: &Natives,
+        budget: u64,
+        steps: &mut Steps<L>,
+    ) -> Result<Move, NoMemory>
+        requires { IsReady budget self.old.settling }
+        ensures gives { let names = names_of natives.now in IfOk result (λ step. (inside : ℕ) (further : List Answer) → move_gives names step (inside + taken names steps.new steps.old self.new self.old) self.new further ≡ serve names self.old.blueprint.value self.old.moment self.old.visit.serving (interp_state self.old) (account_of budget self.old.settling.questions inside) further) }
+        ensures counts { Counts (names_of natives.now) steps.new steps.old self.new self.old }
+        ensures lowers { IfOk result (λ step. Lowers step self.new (1)) }
+        ensures same { IsSameRun self.new self.old }
+        ensures holds { Holds self.new self.old }
+        ensures next { IfOk result (λ step. MoveStandsAt step self.new) }
+        ensures falls { IfOk result (λ step. (before : ℕ) → per_question * self.old.settling.questions + 2 < before → MoveFalls step self.new before) }
+    {
+        let serving = copy_serving(self.alloc, &self.visit.serving)?;
+        match serving {
+            Serving::Procedure(words) => {
+                self.call(natives, Task::Procedure, words, budget, steps)
+            }
+            Serving::Page(path) => self.ask_page(path, budget),
+            Serving::Nothing => {
+                let response = plain(self.alloc, NOT_FOUND)?;
+                Ok(self.respond(response))
+            }
+        }
+    }
+
+    /// Enters the first page by the answer to its question, which costs nothing, or responds that it can't.
+    pub(crate) fn enter_page<L: Ledger>(
+        &mut self,
+        natives: &Natives,
+        answer: Answer,
+        steps: &mut Steps<L>,
+    ) -> Result<Move, NoMemory>
+        requires { (path : List ℕ) × (budget : ℕ) × (self.old.task ≡ Task.PageAsked path budget) × IsReady budget self.old.settling }
+        ensures gives { let names = names_of natives.now in IfOk result (λ step. (inside : ℕ) (further : List Answer) → move_gives names step (inside + taken names steps.new steps.old self.new self.old) self.new further ≡ asking_gives names (page_question (asked_path self.old.task)) self.old.task inside self.old (answer ∷ further)) }
+        ensures counts { Counts (names_of natives.now) steps.new steps.old self.new self.old }
+        ensures lowers { IfOk result (λ step. Lowers step self.new (1)) }
+        ensures same { IsSameRun self.new self.old }
+        ensures holds { Holds self.new self.old }
+        ensures next { IfOk result (λ step. MoveStandsAt step self.new) }
+        ensures falls { IfOk result (λ step. (before : ℕ) → per_question * self.old.settling.questions ≤ before → MoveFalls step self.new before) }
+    {
+        let (words, budget) = page_words(self.alloc, &self.task)?;
+        let host = self.settling.run.engine.host_mut();
+        let reply = host.answered(&words, &answer);
+        drop(words);
+        let found = entered(reply)?;
+        match found {
+            Some(work) => {
+                drop(answer);
+                self.run(natives, Task::Page, work, budget, steps)
+            }
+            None => {
+                let response = unentered(self.alloc, &answer)?;
+                drop(answer);
+                Ok(self.respond(response))
+            }
+        }
+    }
+
+    /// Asks for the first page, from the global frame and outside of every page.
+    fn ask_page(&mut self, path: Text, budget: u64) -> Result<Move, NoMemory>
+        ensures asks { IfOk result (λ step. step ≡ Move.Stops (Next.Asks (page_question path))) }
+        ensures state { interp_state self.new ≡ outset (interp_state self.old) }
+        ensures task { IfOk result (λ _. self.new.task ≡ Task.PageAsked path budget) }
+        ensures questions { self.new.settling.questions ≡ self.old.settling.questions }
+        ensures inner { self.new.settling.inner ≡ self.old.settling.inner }
+        ensures same { IsSameRun self.new self.old }
+        ensures holds { Holds self.new self.old }
+    {
+        self.settling.run.set_out();
+        let mut words = Words::new(self.alloc);
+        words.add(path.copy(self.alloc)?)?;
+        self.task = Task::PageAsked { path, budget };
+        Ok(Move::Stops(Next::Asks(Question {
+            service: Service::Page,
+            words,
+        })))
+    }
+
+    /// A response is to be written.
+    pub(crate) fn respond(&mut self, response: Response) -> Move
+        ensures stops { result ≡ Move.Stops (Next.Write response) }
+        ensures task { self.new ≡ record self.old { task = Task.Writing Ending.Answered } }
+    {
+        self.task = Task::Writing {
+            ending: Ending::Answered,
+        };
+        Move::Stops(Next::Write(response))
+    }
+
+    /// The response that was given is to be written; without one the request failed.
+    fn respond_given(&mut self) -> Result<Move, NoMemory>
+        ensures stops { IfOk result (λ step. step ≡ Move.Stops (Next.Write (given_or_failed (interp_state self.old).host.conn.response))) }
+        ensures task { IfOk result (λ _. self.new ≡ record self.old { task = Task.Writing Ending.Answered }) }
+        ensures rest { (task : Tasks) × (self.new ≡ record self.old { task = task }) }
+        ensures same { IsSameRun self.new self.old }
+        ensures holds { Holds self.new self.old }
+    {
+        let response = given_or_failed(self.alloc, self.settling.run.engine.host().response())?;
+        Ok(self.respond(response))
+    }
+
+    /// The request failed, whatever response was given.
+    fn fail(&mut self) -> Result<Move, NoMemory>
+        ensures stops { IfOk result (λ step. step ≡ Move.Stops (Next.Write failed)) }
+        ensures task { IfOk result (λ _. self.new ≡ record self.old { task = Task.Writing Ending.Answered }) }
+        ensures rest { (task : Tasks) × (self.new ≡ record self.old { task = task }) }
+        ensures same { IsSameRun self.new self.old }
+        ensures holds { Holds self.new self.old }
+    {
+        let response = failed(self.alloc)?;
+        Ok(self.respond(response))
+    }
+
+    /// The procedure has ended.
+    pub(crate) fn end_procedure(&mut self, code: u8) -> Result<Move, NoMemory>
+        ensures stops { IfOk result (λ step. step ≡ Move.Stops (Next.Write (procedure_reply code (interp_state self.old).host.conn.response))) }
+        ensures task { IfOk result (λ _. self.new ≡ record self.old { task = Task.Writing Ending.Answered }) }
+        ensures rest { (task : Tasks) × (self.new ≡ record self.old { task = task }) }
+        ensures same { IsSameRun self.new self.old }
+        ensures holds { Holds self.new self.old }
+    {
+        let given = self.settling.run.engine.host().response();
+        let response = procedure_reply(self.alloc, code, given)?;
+        Ok(self.respond(response))
+    }
+
+    /// The first page has ended.
+    pub(crate) fn end_page(&mut self) -> Result<Move, NoMemory>
+        ensures stops { IfOk result (λ step. step ≡ Move.Stops (Next.Write (page_reply (interp_state self.old).host))) }
+        ensures task { IfOk result (λ _. self.new ≡ record self.old { task = Task.Writing Ending.Answered }) }
+        ensures rest { (task : Tasks) × (self.new ≡ record self.old { task = task }) }
+        ensures same { IsSameRun self.new self.old }
+        ensures holds { Holds self.new self.old }
+    {
+        let response = page_reply(self.alloc, self.settling.run.engine.host())?;
+        Ok(self.respond(response))
+    }
+}

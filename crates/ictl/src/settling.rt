@@ -1,0 +1,268 @@
+//! A script with its runs inside. The only error of each call is want of memory.
+
+ghost use Rattle.std.specs.Prelude.{◌≡◌, ◌<◌, ◌≤◌, ◌+◌, ◌-◌, ◌*◌, ◌∷◌, ℕ, List, Some, None, IfOk};
+ghost use Rattle.natives.specs.Names.{names_of};
+ghost use Rattle.outside.specs.declared.question.Answer.{Answer};
+ghost use Rattle.outside.specs.declared.question.Question.{Question};
+ghost use Rattle.outside.specs.declared.question.Service.TheVariants as service;
+ghost use Rattle.server_host.specs.Leaf.{host_table};
+ghost use Rattle.tcl_eval.specs.Eval.{eval};
+ghost use Rattle.tcl_eval.specs.Engine.{at_global, IsOpenTo, Lasts};
+ghost use Rattle.ictl.specs.Fresh.{build_steps};
+ghost use Rattle.ictl.specs.Settle.{account_of, behind_inner, settle};
+ghost use Rattle.ictl.specs.Defines.{inner_runs, inner_run};
+ghost use Rattle.ictl.specs.Main.{first_depth};
+ghost use Rattle.ictl.specs.Standing.{state_of, comes_to, define_gives, onward, settling_at, settling_gives, written, inner_written};
+ghost use Rattle.ictl.specs.Steps.{step_gives, Stays, GoesLower};
+ghost use Rattle.ictl.specs.Falls.{IsReady, Suffices, StopAsks, DefineStopAsks, DefineFalls, askable, SettlingAsks, SettlingAt, StepAt, per_question, settling_number, SettlingFalls, StepFalls};
+
+use crate::defining::DefineStop;
+use crate::inner::InnerRun;
+use crate::running::{Running, Stop};
+use cmd_table::Steps;
+use natives::Natives;
+use outside::{Answer, Question, Service};
+use server_host::Edition;
+use std::alloc::Global;
+use std::mem;
+use std::rc::Rc;
+use std::sync::ledger::Ledger;
+use tcl_eval::Work;
+use txt_core::NoMemory;
+
+/// Where the first script or call of a run stands.
+pub const FIRST_DEPTH: u32 = 1;
+
+/// A script, a call or a page, with the run inside that it asked for. A question for a run inside never
+/// goes out.
+#[derive(Drop)]
+pub struct Settling {
+    pub(crate) alloc: Global,
+    pub run: Running,
+    /// How many questions may still be asked.
+    pub questions: u64,
+    /// The run inside, where one stands at a question.
+    pub inner: Option<InnerRun>,
+}
+
+/// Whether a script goes on.
+#[derive(Drop)]
+pub enum Step {
+    /// It goes on from here.
+    Goes(Stop),
+    /// It stops here.
+    Stops(Stop),
+}
+
+impl Settling {
+    /// Runs a script, a call or a page from the global frame on.
+    pub fn start<L: Ledger>(
+        &mut self,
+        natives: &Natives,
+        blueprint: &Rc<Edition>,
+        moment: u64,
+        work: Work,
+        budget: u64,
+        steps: &mut Steps<L>,
+    ) -> Result<Stop, NoMemory>
+        requires { IsReady budget self.old }
+        ensures gives { let names = names_of natives.now in let published = blueprint.now.value in IfOk result (λ stop. (inside : ℕ) (further : List Answer) → settling_gives names published moment stop self.new (inside + ((steps.new + written names published self.old) - (steps.old + written names published self.new))) further ≡ settle (inner_runs names published moment) self.old.questions inside (eval names host_table first_depth work (at_global (state_of self.old.run)) budget) further) }
+        ensures counts { let names = names_of natives.now in let published = blueprint.now.value in steps.old + written names published self.new ≤ steps.new + written names published self.old }
+        ensures lasts { Lasts self.new.run.engine self.old.run.engine }
+        ensures at { IfOk result (λ stop. SettlingAt stop self.new) }
+        ensures lower { self.new.questions ≤ self.old.questions }
+        ensures falls { IfOk result (λ stop. (before : ℕ) → per_question * self.old.questions ≤ before → SettlingFalls stop self.new before) }
+    {
+        let came = self.run.start(natives, work, budget, FIRST_DEPTH, steps)?;
+        let stop = self.go_on(natives, blueprint, moment, came, steps)?;
+        Ok(stop)
+    }
+
+    /// Goes on with the answer to the question that went out.
+    pub fn answer<L: Ledger>(
+        &mut self,
+        natives: &Natives,
+        blueprint: &Rc<Edition>,
+        moment: u64,
+        answer: Answer,
+        steps: &mut Steps<L>,
+    ) -> Result<Stop, NoMemory>
+        requires { SettlingAsks self.old }
+        ensures gives { let names = names_of natives.now in let published = blueprint.now.value in IfOk result (λ stop. (question : Question) (inside : ℕ) (further : List Answer) → settling_gives names published moment stop self.new (inside + ((steps.new + written names published self.old) - (steps.old + written names published self.new))) further ≡ settling_at names published moment question self.old self.old.inner inside (answer ∷ further)) }
+        ensures counts { let names = names_of natives.now in let published = blueprint.now.value in steps.old + written names published self.new ≤ steps.new + written names published self.old }
+        ensures lasts { Lasts self.new.run.engine self.old.run.engine }
+        ensures at { IfOk result (λ stop. SettlingAt stop self.new) }
+        ensures lower { self.new.questions ≤ self.old.questions }
+        ensures falls { IfOk result (λ stop. SettlingFalls stop self.new (settling_number self.old)) }
+    {
+        match self.inner.take() {
+            None => {
+                let came = self.run.resume(natives, answer, steps)?;
+                let stop = self.go_on(natives, blueprint, moment, came, steps)?;
+                Ok(stop)
+            }
+            Some(inner) => {
+                let mut inner = inner;
+                let Ok(came) = inner.answer(self.alloc, natives, answer, steps) else {
+                    drop(inner);
+                    return Err(NoMemory);
+                };
+                let step = self.behind(natives, blueprint, moment, inner, came, steps)?;
+                match step {
+                    Step::Stops(last) => Ok(last),
+                    Step::Goes(next) => {
+                        let stop = self.go_on(natives, blueprint, moment, next, steps)?;
+                        Ok(stop)
+                    }
+                }
+            }
+        }
+    }
+
+    /// Goes on until a question goes out, or the script has ended.
+    fn go_on<L: Ledger>(
+        &mut self,
+        natives: &Natives,
+        blueprint: &Rc<Edition>,
+        moment: u64,
+        mut stop: Stop,
+        steps: &mut Steps<L>,
+    ) -> Result<Stop, NoMemory>
+        requires inner { self.old.inner ≡ None }
+        requires asks { StopAsks stop self.old.run }
+        requires suffices { Suffices stop self.old.run self.old.questions }
+        ensures gives { let names = names_of natives.now in let published = blueprint.now.value in IfOk result (λ last. (inside : ℕ) (further : List Answer) → settling_gives names published moment last self.new (inside + ((steps.new + written names published self.old) - (steps.old + written names published self.new))) further ≡ settle (inner_runs names published moment) self.old.questions inside (comes_to names stop self.old.run) further) }
+        ensures counts { let names = names_of natives.now in let published = blueprint.now.value in steps.old + written names published self.new ≤ steps.new + written names published self.old }
+        ensures lasts { Lasts self.new.run.engine self.old.run.engine }
+        ensures at { IfOk result (λ last. SettlingAt last self.new) }
+        ensures lower { self.new.questions ≤ self.old.questions }
+        ensures falls { IfOk result (λ last. (before : ℕ) → per_question * self.old.questions ≤ before → SettlingFalls last self.new before) }
+    {
+        'runs: loop {
+            let step = self.step(natives, blueprint, moment, stop, steps)?;
+            match step {
+                Step::Stops(last) => return Ok(last),
+                Step::Goes(next) => stop = next,
+            }
+        }
+    }
+
+    /// Goes on to the end of a run inside, where one is asked for.
+    fn step<L: Ledger>(
+        &mut self,
+        natives: &Natives,
+        blueprint: &Rc<Edition>,
+        moment: u64,
+        stop: Stop,
+        steps: &mut Steps<L>,
+    ) -> Result<Step, NoMemory>
+        requires inner { self.old.inner ≡ None }
+        requires asks { StopAsks stop self.old.run }
+        requires suffices { Suffices stop self.old.run self.old.questions }
+        ensures gives { let names = names_of natives.now in let published = blueprint.now.value in IfOk result (λ step. (inside : ℕ) (further : List Answer) → step_gives names published moment step self.new (inside + ((steps.new + written names published self.old) - (steps.old + written names published self.new))) further ≡ settle (inner_runs names published moment) self.old.questions inside (comes_to names stop self.old.run) further) }
+        ensures counts { let names = names_of natives.now in let published = blueprint.now.value in steps.old + written names published self.new ≤ steps.new + written names published self.old }
+        ensures goes { IfOk result (λ step. GoesLower step self.new self.old) }
+        ensures lower { self.new.questions ≤ self.old.questions }
+        ensures lasts { Lasts self.new.run.engine self.old.run.engine }
+        ensures at { IfOk result (λ step. StepAt step self.new) }
+        ensures falls { IfOk result (λ step. (before : ℕ) → per_question * self.old.questions ≤ before → StepFalls step self.new before) }
+    {
+        match stop {
+            Stop::Asks(question) => {
+                self.questions -= 1;
+                match question.service {
+                    Service::Inner => {
+                        let step = self.enter(natives, blueprint, moment, question, steps)?;
+                        Ok(step)
+                    }
+                    _ => Ok(Step::Stops(Stop::Asks(question))),
+                }
+            }
+            Stop::Ended { code, result } => Ok(Step::Stops(Stop::Ended { code, result })),
+            Stop::Spent => Ok(Step::Stops(Stop::Spent)),
+            Stop::TooDeep => Ok(Step::Stops(Stop::TooDeep)),
+        }
+    }
+
+    /// Begins the run inside that is asked for, in an interpreter of its own on the same blueprint.
+    fn enter<L: Ledger>(
+        &mut self,
+        natives: &Natives,
+        blueprint: &Rc<Edition>,
+        moment: u64,
+        question: Question,
+        steps: &mut Steps<L>,
+    ) -> Result<Step, NoMemory>
+        requires inner { self.old.inner ≡ None }
+        requires open { IsOpenTo service.Inner self.old.run.engine.question }
+        requires suffices { askable self.old.run ≤ self.old.questions }
+        ensures gives { let names = names_of natives.now in let published = blueprint.now.value in IfOk result (λ step. (asked : Question) (inside : ℕ) (further : List Answer) → step_gives names published moment step self.new (inside + ((steps.new + written names published self.old) - (steps.old + written names published self.new))) further ≡ behind_inner (build_steps names published.defs) (inner_run names published moment question.words self.old.run.engine.budget self.old.questions further) (state_of self.old.run) (account_of self.old.run.engine.budget self.old.questions inside) (onward names published moment asked self.old)) }
+        ensures counts { let names = names_of natives.now in let published = blueprint.now.value in steps.old + written names published self.new ≤ steps.new + written names published self.old }
+        ensures stays { IfOk result (λ step. Stays step self.new self.old) }
+        ensures same { self.new.questions ≡ self.old.questions }
+        ensures lasts { Lasts self.new.run.engine self.old.run.engine }
+        ensures at { IfOk result (λ step. StepAt step self.new) }
+        ensures falls { IfOk result (λ step. (before : ℕ) → per_question * (self.old.questions + 1) ≤ before → StepFalls step self.new before) }
+    {
+        let (inner, stop) = InnerRun::begin(
+            self.alloc,
+            natives,
+            blueprint,
+            moment,
+            &question.words,
+            self.run.engine.left(),
+            self.questions,
+            steps,
+        )?;
+        let step = self.behind(natives, blueprint, moment, inner, stop, steps)?;
+        Ok(step)
+    }
+
+    /// Goes on behind a run inside that came to this. What it used of the budget is charged.
+    fn behind<L: Ledger>(
+        &mut self,
+        natives: &Natives,
+        blueprint: &Rc<Edition>,
+        moment: u64,
+        inner: InnerRun,
+        stop: DefineStop,
+        steps: &mut Steps<L>,
+    ) -> Result<Step, NoMemory>
+        requires inner { self.old.inner ≡ None }
+        requires open { IsOpenTo service.Inner self.old.run.engine.question }
+        requires suffices { askable self.old.run ≤ self.old.questions }
+        requires asks { DefineStopAsks stop inner.run inner.defining }
+        ensures gives { let names = names_of natives.now in let published = blueprint.now.value in IfOk result (λ step. (question : Question) (inside : ℕ) (further : List Answer) → step_gives names published moment step self.new (inside + ((steps.new + (written names published self.old + inner_written names published (Some inner))) - (steps.old + written names published self.new))) further ≡ behind_inner (build_steps names published.defs) (define_gives names published moment stop inner.run inner.defining further) (state_of self.old.run) (account_of self.old.run.engine.budget self.old.questions inside) (onward names published moment question self.old)) }
+        ensures counts { let names = names_of natives.now in let published = blueprint.now.value in steps.old + written names published self.new ≤ steps.new + (written names published self.old + inner_written names published (Some inner)) }
+        ensures stays { IfOk result (λ step. Stays step self.new self.old) }
+        ensures same { self.new.questions ≡ self.old.questions }
+        ensures lasts { Lasts self.new.run.engine self.old.run.engine }
+        ensures at { IfOk result (λ step. StepAt step self.new) }
+        ensures falls { IfOk result (λ step. (before : ℕ) → per_question * self.old.questions ≤ before → DefineFalls stop inner.defining (before - (per_question * self.old.questions + 4)) → StepFalls step self.new before) }
+    {
+        match stop {
+            DefineStop::Stands(question) => {
+                drop(mem::replace(&mut self.inner, Some(inner)));
+                Ok(Step::Stops(Stop::Asks(question)))
+            }
+            DefineStop::Said(answer) => {
+                let used = self
+                    .run
+                    .engine
+                    .left()
+                    .saturating_sub(inner.run.engine.left());
+                drop(inner);
+                let came = self.run.resume_charged(natives, answer, used, steps)?;
+                Ok(Step::Goes(came))
+            }
+            DefineStop::Gone => {
+                drop(inner);
+                Ok(Step::Stops(Stop::Spent))
+            }
+            DefineStop::Sunk => {
+                drop(inner);
+                Ok(Step::Stops(Stop::TooDeep))
+            }
+        }
+    }
+}

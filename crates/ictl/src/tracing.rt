@@ -1,0 +1,397 @@
+//! The run of a request behind its response, and the runs without a connection.
+
+ghost use Rattle.std.specs.Prelude.{◌≡◌, ◌≤◌, ◌<◌, ◌+◌, ◌-◌, ◌*◌, ◌^◌, ◌++◌, ◌∷◌, [], ℕ, List, None, true, IfOk, drop, length, MatchOption};
+ghost use Rattle.natives.specs.Names.{names_of};
+ghost use Rattle.outside.specs.declared.question.Answer.{Answer};
+ghost use Rattle.outside.specs.declared.question.Question.{Question};
+ghost use Rattle.http_req.specs.declared.request.Request.{Request};
+ghost use Rattle.cmd_table.specs.Commands.{Writes};
+ghost use Rattle.ictl.specs.Fresh.{script_state};
+ghost use Rattle.ictl.specs.Settle.{account_of};
+ghost use Rattle.ictl.specs.Replies.{verdict};
+ghost use Rattle.ictl.specs.Visits.{visit_of};
+ghost use Rattle.ictl.specs.Main.{run_questions, Main, Script, Define, behind, both, answered, outcome_of, traces_from, cleanups_from, trace_end};
+ghost use Rattle.ictl.specs.Interps.{IsSound, IsNew, Holds, IsSameRun, ending_of, interp_state, spare_of, taken, Counts, move_gives, gives};
+ghost use Rattle.ictl.specs.Steps.{Lowers, defined_gives};
+ghost use Rattle.ictl.specs.declared.defining.DefineRun.{DefineRun as Defining};
+ghost use Rattle.ictl.specs.declared.task.Task.{Task as Tasks};
+ghost use Rattle.ictl.specs.Falls.{IsReady, DefineStopAsks, DefineFalls, IsAsking, IsWriting, StandsAt, MoveStandsAt, Falls, MoveFalls, number_of, first_number, per_question};
+
+use crate::defining::{DefineRun, DefineStop};
+use crate::ending::{Ending, Verdict, answered, both, verdict_of};
+use crate::interp::{Interp, RUN_BUDGET, RUN_QUESTIONS};
+use crate::next::Next;
+use crate::serving::words_at;
+use crate::settling::FIRST_DEPTH;
+use crate::task::{Move, Task};
+use crate::visit::{AUTHORISER, Visit};
+use cmd_table::Steps;
+use http_req::Request;
+use natives::Natives;
+use outside::Answer;
+use std::alloc::Global;
+use std::mem;
+use std::sync::ledger::Ledger;
+use tcl_eval::{Outcome, Work};
+use tcl_host::{ERROR, OK};
+use txt_core::{NoMemory, Text, Words};
+
+/// A copy of the text at a place, or none past the end.
+fn text_at(alloc: Global, list: &Words, at: usize) -> Result<Option<Text>, NoMemory>
+    ensures here { IfOk result (λ found. MatchOption found (drop at list.now ≡ []) (λ text. drop at list.now ≡ text ∷ drop (at + 1) list.now)) }
+    ensures small { IfOk result (λ found. MatchOption found (length list.now ≤ at) (λ _. (at < length list.now) × (at < 2 ^ 63))) }
+{
+    match list.as_slice().get(at) {
+        None => Ok(None),
+        Some(text) => Ok(Some(text.copy(alloc)?)),
+    }
+}
+
+/// How a run ended up to its response.
+fn ending_now(task: &Task) -> Ending
+    ensures { result ≡ ending_of task.now }
+{
+    match task {
+        Task::Writing { ending } => *ending,
+        Task::Trace { ending, .. } | Task::Cleanup { ending, .. } => *ending,
+        _ => Ending::Answered,
+    }
+}
+
+/// What a definition run said, as the outcome of a run.
+fn outcome_of(alloc: Global, answer: Answer) -> Outcome
+    ensures { result ≡ outcome_of answer }
+{
+    match answer {
+        Answer::Said(text) => Outcome::Done {
+            code: OK,
+            result: text,
+        },
+        Answer::Failed(why) => Outcome::Done {
+            code: ERROR,
+            result: why,
+        },
+        Answer::Page(_) | Answer::NoPage | Answer::PageFault => Outcome::Done {
+            code: ERROR,
+            result: Text::empty(alloc),
+        },
+    }
+}
+
+impl Interp {
+    /// Begins the run of a request.
+    #[tactic(auto, using(crate::proofs::Interpreters::holds_on))]
+    pub(crate) fn begin_request<L: Ledger>(
+        &mut self,
+        natives: &Natives,
+        request: Request,
+        moment: u64,
+        steps: &mut Steps<L>,
+    ) -> Result<Next, NoMemory>
+        requires { IsNew (names_of natives.now) self.old }
+        ensures stands { let names = names_of natives.now in IfOk result (λ next. (further : List Answer) → Main names self.old.blueprint.value request moment further ≡ gives names next (taken names steps.new steps.old self.new self.old) self.new further) }
+        ensures counts { Counts (names_of natives.now) steps.new steps.old self.new self.old }
+        ensures visit { IfOk result (λ _. (self.new.visit ≡ visit_of (names_of natives.now) self.old.blueprint.value request) × (self.new.moment ≡ moment)) }
+        ensures spare { spare_of self.new ≡ spare_of self.old }
+        ensures holds { Holds self.new self.old }
+        ensures next { IfOk result (λ next. StandsAt next self.new) }
+        ensures falls { IfOk result (λ next. Falls next self.new first_number) }
+    {
+        let Ok(visit) = self.visit_of(&request) else {
+            drop(request);
+            return Err(NoMemory);
+        };
+        drop(mem::replace(&mut self.visit, visit));
+        self.settling.run.engine.host_mut().serve(request, moment)?;
+        self.moment = moment;
+        self.settling.questions = RUN_QUESTIONS;
+        let step = self.preauth(natives, 0, RUN_BUDGET, steps)?;
+        let next = self.moves(natives, step, steps)?;
+        Ok(next)
+    }
+
+    /// What a request goes through. The interpreter is as newly made.
+    fn visit_of(&self, request: &Request) -> Result<Visit, NoMemory>
+        ensures { (names : List (List ℕ)) → IsNew names self.now → IfOk result (λ visit. visit ≡ visit_of names self.now.blueprint.value request.now) }
+    {
+        let name = Text::new(self.alloc, AUTHORISER)?;
+        let authoriser = self.settling.run.engine.command(&name);
+        let visit = Visit::new(self.alloc, &self.routes, authoriser, request)?;
+        Ok(visit)
+    }
+
+    /// Begins the run of a scheduled script.
+    #[tactic(auto, using(crate::proofs::Interpreters::holds_on))]
+    pub(crate) fn begin_script<L: Ledger>(
+        &mut self,
+        natives: &Natives,
+        script: &Text,
+        moment: u64,
+        steps: &mut Steps<L>,
+    ) -> Result<Next, NoMemory>
+        requires { IsNew (names_of natives.now) self.old }
+        ensures stands { let names = names_of natives.now in IfOk result (λ next. (further : List Answer) → Script names self.old.blueprint.value script.now moment further ≡ gives names next (taken names steps.new steps.old self.new self.old) self.new further) }
+        ensures counts { Counts (names_of natives.now) steps.new steps.old self.new self.old }
+        ensures spare { spare_of self.new ≡ spare_of self.old }
+        ensures holds { Holds self.new self.old }
+        ensures next { IfOk result (λ next. StandsAt next self.new) }
+        ensures falls { IfOk result (λ next. Falls next self.new first_number) }
+    {
+        let script = script.copy(self.alloc)?;
+        self.settling.run.engine.host_mut().begin_script(moment)?;
+        self.moment = moment;
+        self.settling.questions = RUN_QUESTIONS;
+        let next = self.run_script(natives, script, steps)?;
+        Ok(next)
+    }
+
+    /// Runs a scheduled script from the state in which its run begins.
+    #[tactic(auto, using(crate::proofs::Interpreters::holds_on))]
+    fn run_script<L: Ledger>(
+        &mut self,
+        natives: &Natives,
+        script: Text,
+        steps: &mut Steps<L>,
+    ) -> Result<Next, NoMemory>
+        requires state { interp_state self.old ≡ script_state (names_of natives.now) self.old.blueprint.value self.old.moment }
+        requires questions { self.old.settling.questions ≡ run_questions }
+        requires inner { self.old.settling.inner ≡ None }
+        ensures stands { let names = names_of natives.now in IfOk result (λ next. (further : List Answer) → Script names self.old.blueprint.value script self.old.moment further ≡ gives names next (taken names steps.new steps.old self.new self.old) self.new further) }
+        ensures counts { Counts (names_of natives.now) steps.new steps.old self.new self.old }
+        ensures same { IsSameRun self.new self.old }
+        ensures holds { Holds self.new self.old }
+        ensures next { IfOk result (λ next. StandsAt next self.new) }
+        ensures falls { IfOk result (λ next. Falls next self.new first_number) }
+    {
+        self.settling.run.set_out();
+        let step = self.run(
+            natives,
+            Task::Script,
+            Work::Script(script),
+            RUN_BUDGET,
+            steps,
+        )?;
+        let next = self.moves(natives, step, steps)?;
+        Ok(next)
+    }
+
+    /// Begins the definition run of a script.
+    #[tactic(auto, using(crate::proofs::Interpreters::holds_on))]
+    pub(crate) fn begin_define<L: Ledger>(
+        &mut self,
+        natives: &Natives,
+        script: &Text,
+        moment: u64,
+        steps: &mut Steps<L>,
+    ) -> Result<Next, NoMemory>
+        requires { IsNew (names_of natives.now) self.old }
+        ensures stands { let names = names_of natives.now in IfOk result (λ next. (further : List Answer) → Define names self.old.blueprint.value script.now moment further ≡ gives names next 0 self.new further) }
+        ensures steps { steps.new + Writes self.old.settling.run.engine.made ≡ steps.old + Writes self.new.settling.run.engine.made }
+        ensures spare { spare_of self.new ≡ spare_of self.old }
+        ensures holds { Holds self.new self.old }
+        ensures next { IfOk result (λ next. StandsAt next self.new) }
+        ensures falls { IfOk result (λ next. Falls next self.new first_number) }
+    {
+        let script = script.copy(self.alloc)?;
+        self.settling
+            .run
+            .engine
+            .host_mut()
+            .begin_definitions(moment)?;
+        self.moment = moment;
+        let run = &mut self.settling.run;
+        let came = run.start(
+            natives,
+            Work::Script(script),
+            RUN_BUDGET,
+            FIRST_DEPTH,
+            steps,
+        )?;
+        let mut defining = DefineRun::new(RUN_QUESTIONS);
+        let last = defining.stop(self.alloc, run, came)?;
+        Ok(self.defined(defining, last))
+    }
+
+    /// Goes on with an answer in a definition run.
+    #[tactic(auto, using(crate::proofs::Interpreters::holds_on))]
+    pub(crate) fn answer_define<L: Ledger>(
+        &mut self,
+        natives: &Natives,
+        answer: Answer,
+        steps: &mut Steps<L>,
+    ) -> Result<Next, NoMemory>
+        requires asking { IsAsking self.old }
+        requires define { (defining : Defining) × (self.old.task ≡ Task.Define defining) }
+        ensures gives { let names = names_of natives.now in IfOk result (λ next. (question : Question) (inside : ℕ) (further : List Answer) → gives names next inside self.new further ≡ gives names (Next.Asks question) inside self.old (answer ∷ further)) }
+        ensures steps { steps.new + Writes self.old.settling.run.engine.made ≡ steps.old + Writes self.new.settling.run.engine.made }
+        ensures inner { self.new.settling.inner ≡ self.old.settling.inner }
+        ensures same { IsSameRun self.new self.old }
+        ensures holds { Holds self.new self.old }
+        ensures next { IfOk result (λ next. StandsAt next self.new) }
+        ensures falls { IfOk result (λ next. Falls next self.new (number_of self.old)) }
+    {
+        let task = mem::replace(&mut self.task, Task::Over);
+        let Task::Define(mut defining) = task else {
+            unreachable!()
+        };
+        let run = &mut self.settling.run;
+        let stop = defining.answer(self.alloc, natives, run, answer, steps)?;
+        Ok(self.defined(defining, stop))
+    }
+
+    /// What comes of a definition run that came to this.
+    fn defined(&mut self, defining: DefineRun, stop: DefineStop) -> Next
+        requires { DefineStopAsks stop self.old.settling.run defining }
+        ensures gives { (names : List (List ℕ)) (inside : ℕ) (further : List Answer) → gives names result inside self.new further ≡ defined_gives names stop defining inside self.old further }
+        ensures next { StandsAt result self.new }
+        ensures task { (task : Tasks) × (self.new ≡ record self.old { task = task }) }
+        ensures falls { (before : ℕ) → DefineFalls stop defining before → Falls result self.new before }
+    {
+        match stop {
+            DefineStop::Stands(question) => {
+                self.task = Task::Define(defining);
+                Next::Asks(question)
+            }
+            DefineStop::Said(answer) => {
+                let outcome = outcome_of(self.alloc, answer);
+                self.over(outcome)
+            }
+            DefineStop::Gone => self.over(Outcome::Spent),
+            DefineStop::Sunk => self.over(Outcome::TooDeep),
+        }
+    }
+
+    /// The run has ended so.
+    fn over(&mut self, outcome: Outcome) -> Next
+        ensures ends { result ≡ Next.Ended outcome }
+        ensures task { self.new ≡ record self.old { task = Task.Over } }
+    {
+        self.task = Task::Over;
+        Next::Ended(outcome)
+    }
+
+    /// The run ends, since its response wasn't written whole.
+    pub(crate) fn end_unwritten(&mut self) -> Next
+        ensures ends { result ≡ Next.Ended (both (ending_of self.old.task) answered) }
+        ensures task { self.new ≡ record self.old { task = Task.Over } }
+    {
+        let ending = ending_now(&self.task);
+        self.task = Task::Over;
+        Next::Ended(both(ending, answered(self.alloc)))
+    }
+
+    /// Goes on behind the response, which was written whole.
+    #[tactic(auto, using(crate::proofs::Interpreters::holds_on))]
+    pub(crate) fn go_behind<L: Ledger>(
+        &mut self,
+        natives: &Natives,
+        steps: &mut Steps<L>,
+    ) -> Result<Next, NoMemory>
+        requires { IsWriting self.old }
+        ensures stands { let names = names_of natives.now in IfOk result (λ next. (request : Request) → IsSound names self.old → self.old.visit ≡ visit_of names self.old.blueprint.value request → (inside : ℕ) (further : List Answer) → behind names self.old.blueprint.value self.old.moment true request (ending_of self.old.task) (interp_state self.old) inside further ≡ gives names next (inside + taken names steps.new steps.old self.new self.old) self.new further) }
+        ensures counts { Counts (names_of natives.now) steps.new steps.old self.new self.old }
+        ensures same { IsSameRun self.new self.old }
+        ensures holds { Holds self.new self.old }
+        ensures next { IfOk result (λ next. StandsAt next self.new) }
+        ensures falls { IfOk result (λ next. Falls next self.new first_number) }
+    {
+        let ending = ending_now(&self.task);
+        self.settling.questions = RUN_QUESTIONS;
+        let step = self.trace(natives, 0, ending, RUN_BUDGET, steps)?;
+        let next = self.moves(natives, step, steps)?;
+        Ok(next)
+    }
+
+    /// Calls the trace filter at this place, or goes on behind them.
+    fn trace<L: Ledger>(
+        &mut self,
+        natives: &Natives,
+        next: usize,
+        ending: Ending,
+        budget: u64,
+        steps: &mut Steps<L>,
+    ) -> Result<Move, NoMemory>
+        requires { IsReady budget self.old.settling }
+        ensures gives { let names = names_of natives.now in IfOk result (λ step. (inside : ℕ) (further : List Answer) → move_gives names step (inside + taken names steps.new steps.old self.new self.old) self.new further ≡ traces_from names self.old.blueprint.value self.old.moment (drop next self.old.visit.trace) self.old.cleanups ending (interp_state self.old) (account_of budget self.old.settling.questions inside) further) }
+        ensures counts { Counts (names_of natives.now) steps.new steps.old self.new self.old }
+        ensures lowers { IfOk result (λ step. Lowers step self.new ((length self.old.visit.trace - next) + length self.old.cleanups + 1)) }
+        ensures same { IsSameRun self.new self.old }
+        ensures holds { Holds self.new self.old }
+        ensures next { IfOk result (λ step. MoveStandsAt step self.new) }
+        ensures falls { IfOk result (λ step. (before : ℕ) → per_question * self.old.settling.questions + 2 < before → MoveFalls step self.new before) }
+    {
+        let found = words_at(self.alloc, &self.visit.trace, next)?;
+        match found {
+            None => self.clean_up(natives, 0, ending, budget, steps),
+            Some(words) => {
+                let task = Task::Trace {
+                    next: next + 1,
+                    ending,
+                };
+                self.call(natives, task, words, budget, steps)
+            }
+        }
+    }
+
+    /// A trace filter has ended: only a break counts.
+    pub(crate) fn end_trace<L: Ledger>(
+        &mut self,
+        natives: &Natives,
+        next: usize,
+        ending: Ending,
+        code: u8,
+        value: Text,
+        steps: &mut Steps<L>,
+    ) -> Result<Move, NoMemory>
+        requires { IsReady self.old.settling.run.engine.budget self.old.settling }
+        ensures gives { let names = names_of natives.now in IfOk result (λ step. (inside : ℕ) (further : List Answer) → move_gives names step (inside + taken names steps.new steps.old self.new self.old) self.new further ≡ trace_end (traces_from names self.old.blueprint.value self.old.moment (drop next self.old.visit.trace) self.old.cleanups ending) (cleanups_from names self.old.blueprint.value self.old.moment self.old.cleanups ending) (verdict code value) (interp_state self.old) (account_of self.old.settling.run.engine.budget self.old.settling.questions inside) further) }
+        ensures counts { Counts (names_of natives.now) steps.new steps.old self.new self.old }
+        ensures lowers { IfOk result (λ step. Lowers step self.new ((length self.old.visit.trace - next) + length self.old.cleanups + 1)) }
+        ensures same { IsSameRun self.new self.old }
+        ensures holds { Holds self.new self.old }
+        ensures next { IfOk result (λ step. MoveStandsAt step self.new) }
+        ensures falls { IfOk result (λ step. (before : ℕ) → per_question * self.old.settling.questions + 2 < before → MoveFalls step self.new before) }
+    {
+        let budget = self.settling.run.engine.left();
+        let said = verdict_of(code, &value);
+        match said {
+            Verdict::Breaks => self.clean_up(natives, 0, ending, budget, steps),
+            Verdict::Goes | Verdict::Returns | Verdict::Fails => {
+                self.trace(natives, next, ending, budget, steps)
+            }
+        }
+    }
+
+    /// Runs the cleanup script at this place, or ends the run.
+    #[tactic(auto, using(crate::proofs::Interpreters::holds_on))]
+    pub(crate) fn clean_up<L: Ledger>(
+        &mut self,
+        natives: &Natives,
+        next: usize,
+        ending: Ending,
+        budget: u64,
+        steps: &mut Steps<L>,
+    ) -> Result<Move, NoMemory>
+        requires { IsReady budget self.old.settling }
+        ensures gives { let names = names_of natives.now in IfOk result (λ step. (inside : ℕ) (further : List Answer) → move_gives names step (inside + taken names steps.new steps.old self.new self.old) self.new further ≡ cleanups_from names self.old.blueprint.value self.old.moment (drop next self.old.cleanups) ending (interp_state self.old) (account_of budget self.old.settling.questions inside) further) }
+        ensures counts { Counts (names_of natives.now) steps.new steps.old self.new self.old }
+        ensures lowers { IfOk result (λ step. Lowers step self.new (length self.old.cleanups - next)) }
+        ensures same { IsSameRun self.new self.old }
+        ensures holds { Holds self.new self.old }
+        ensures next { IfOk result (λ step. MoveStandsAt step self.new) }
+        ensures falls { IfOk result (λ step. (before : ℕ) → per_question * self.old.settling.questions + 2 < before → MoveFalls step self.new before) }
+    {
+        let found = text_at(self.alloc, &self.cleanups, next)?;
+        match found {
+            None => Ok(self.end(both(ending, answered(self.alloc)))),
+            Some(script) => {
+                let task = Task::Cleanup {
+                    next: next + 1,
+                    ending,
+                };
+                self.settling.run.set_out();
+                self.run(natives, task, Work::Script(script), budget, steps)
+            }
+        }
+    }
+}

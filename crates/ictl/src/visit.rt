@@ -1,0 +1,210 @@
+//! What a request goes through.
+
+ghost use Rattle.std.specs.Prelude.{◌≡◌, ◌++◌, ◌∷◌, [], List, IfOk, OnOk};
+ghost use Rattle.std.specs.Option.{option_copied, option_map};
+ghost use Rattle.cmd_table.specs.declared.definition.Def.{Def};
+ghost use Rattle.cmd_table.specs.declared.definition.When.TheVariants as when;
+ghost use Rattle.blueprint.specs.Scripts.{when_name};
+ghost use Rattle.url_tables.specs.Serving.{route};
+ghost use Rattle.conn_host.specs.RequestCommands.{path_of};
+ghost use Rattle.url_tables.specs.Tables.{IsBuiltOf};
+ghost use Rattle.ictl.specs.Visits.{calls_of, filter_calls, authorise_call, authorisation, is_page, serving_by, no_visit};
+
+use cmd_table::{Cmd, When};
+use conn_host::{credentials_of, path};
+use http_req::Request;
+use std::alloc::Global;
+use txt_core::{NoMemory, Text, Words};
+use url_tables::{Route, Routes, WordsList};
+
+/// The procedure that says whether a request is allowed.
+pub const AUTHORISER: &[u8] = b"ns_authorize";
+
+/// What serves a request.
+#[derive(Debug, Drop)]
+pub enum Serving {
+    /// The call of a procedure.
+    Procedure(Words),
+    /// The page of this path.
+    Page(Text),
+    /// Nothing: it isn't found.
+    Nothing,
+}
+
+/// What a request goes through: the calls of its filters at each stage, of its authorisation, and what
+/// serves it.
+#[derive(Debug, Drop)]
+pub struct Visit {
+    pub preauth: WordsList,
+    pub authorisation: Option<Words>,
+    pub postauth: WordsList,
+    pub serving: Serving,
+    pub trace: WordsList,
+}
+
+/// The name of a stage, with which its filters are called.
+fn when_name(when: When) -> &'static [u8]
+    ensures { result.now ≡ when_name when }
+{
+    match when {
+        When::Preauth => b"preauth",
+        When::Postauth => b"postauth",
+        When::Trace => b"trace",
+    }
+}
+
+/// The calls of the filters of a stage.
+fn calls_of(alloc: Global, when: When, filters: &[Words]) -> Result<WordsList, NoMemory>
+    ensures { IfOk result (λ calls. calls ≡ calls_of when filters.now) }
+{
+    let mut calls = WordsList::new(alloc);
+    'filters: for words in filters {
+        let mut call = Words::of_copies(alloc, words.as_slice())?;
+        call.add(Text::new(alloc, when_name(when))?)?;
+        calls.add(call)?;
+    }
+    Ok(calls)
+}
+
+/// The calls of the filters that a request with this path passes at a stage.
+fn filter_calls(
+    alloc: Global,
+    routes: &Routes,
+    when: When,
+    request: &Request,
+    path: &Text,
+) -> Result<WordsList, NoMemory>
+    requires { path.now ≡ path_of request.now }
+    ensures { (defs : List Def) → IsBuiltOf routes.now defs → IfOk result (λ calls. calls ≡ filter_calls when request.now defs) }
+{
+    let filters = routes.filters(when, &request.method, path)?;
+    calls_of(alloc, when, filters.as_slice())
+}
+
+/// Puts the words of the authorisation's call into an empty list.
+fn add_authorise_call(
+    alloc: Global,
+    call: &mut Words,
+    request: &Request,
+    path: &Text,
+) -> Result<(), NoMemory>
+    requires empty { call.old ≡ [] }
+    requires path { path.now ≡ path_of request.now }
+    ensures { OnOk result (call.new ≡ authorise_call request.now) }
+{
+    call.add(Text::new(alloc, AUTHORISER)?)?;
+    call.add(request.method.copy(alloc)?)?;
+    call.add(path.copy(alloc)?)?;
+    let shown = credentials_of(alloc, &request.fields)?;
+    call.add(shown.user)?;
+    call.add(shown.password)
+}
+
+/// The call of the authorisation.
+fn authorise_call(alloc: Global, request: &Request, path: &Text) -> Result<Words, NoMemory>
+    requires { path.now ≡ path_of request.now }
+    ensures { IfOk result (λ call. call ≡ authorise_call request.now) }
+{
+    let mut call = Words::new(alloc);
+    add_authorise_call(alloc, &mut call, request, path)?;
+    Ok(call)
+}
+
+/// The call of the authorisation, where its name stands for a procedure.
+fn authorisation(
+    alloc: Global,
+    found: Option<&Cmd>,
+    request: &Request,
+    path: &Text,
+) -> Result<Option<Words>, NoMemory>
+    requires { path.now ≡ path_of request.now }
+    ensures { IfOk result (λ call. call ≡ authorisation (option_copied found.entry) request.now) }
+{
+    match found {
+        Some(Cmd::Proc { .. }) => Ok(Some(authorise_call(alloc, request, path)?)),
+        Some(Cmd::Built(_)) | None => Ok(None),
+    }
+}
+
+/// Whether a request is for a page.
+fn is_page(request: &Request) -> bool
+    ensures { result ≡ is_page request.now }
+{
+    let method = request.method.bytes();
+    let served = method == b"GET".as_slice()
+        || method == b"HEAD".as_slice()
+        || method == b"POST".as_slice();
+    match request.segments.as_slice().last() {
+        Some(last) => served && last.bytes().ends_with(b".adp"),
+        None => false,
+    }
+}
+
+/// What serves a request, by what is registered for it.
+fn serving_by(
+    alloc: Global,
+    found: Option<&Route>,
+    request: &Request,
+    path: Text,
+) -> Result<Serving, NoMemory>
+    requires { path ≡ path_of request.now }
+    ensures { IfOk result (λ serving. serving ≡ serving_by (option_map (λ route. route.words) (option_copied found.entry)) request.now) }
+{
+    match found {
+        Some(route) => Ok(Serving::Procedure(Words::of_copies(alloc, route.words.as_slice())?)),
+        None => {
+            if is_page(request) {
+                Ok(Serving::Page(path))
+            } else {
+                Ok(Serving::Nothing)
+            }
+        }
+    }
+}
+
+impl Visit {
+    /// No request. It takes no memory.
+    pub fn none(alloc: Global) -> Visit
+        ensures { result ≡ no_visit }
+    {
+        Visit {
+            preauth: WordsList::new(alloc),
+            authorisation: None,
+            postauth: WordsList::new(alloc),
+            serving: Serving::Nothing,
+            trace: WordsList::new(alloc),
+        }
+    }
+
+    /// What a request goes through, by the tables of a blueprint and what the name of the authorisation
+    /// stands for. Its only error is want of memory.
+    pub fn new(
+        alloc: Global,
+        routes: &Routes,
+        authoriser: Option<&Cmd>,
+        request: &Request,
+    ) -> Result<Visit, NoMemory>
+        ensures { (defs : List Def) → IsBuiltOf routes.now defs → IfOk result (λ visit. visit ≡ record {
+          preauth = filter_calls when.Preauth request.now defs;
+          authorisation = authorisation (option_copied authoriser.entry) request.now;
+          postauth = filter_calls when.Postauth request.now defs;
+          serving = serving_by (route defs request.now.method request.now.segments) request.now;
+          trace = filter_calls when.Trace request.now defs;
+        }) }
+    {
+        let path = path(alloc, request)?;
+        let preauth = filter_calls(alloc, routes, When::Preauth, request, &path)?;
+        let postauth = filter_calls(alloc, routes, When::Postauth, request, &path)?;
+        let trace = filter_calls(alloc, routes, When::Trace, request, &path)?;
+        let authorisation = authorisation(alloc, authoriser, request, &path)?;
+        let found = routes.serve(&request.method, &request.segments);
+        let serving = serving_by(alloc, found, request, path)?;
+        Ok(Visit {
+            preauth,
+            authorisation,
+            postauth,
+            serving,
+            trace,
+        })
+    }
+}
