@@ -1,19 +1,19 @@
 -- Where a text is cut.
-use Rattle.std.proofs.Common.{◌≡◌, ℕ, suc, ◌+◌, ◌<◌, List, [], ◌∷◌, ◌++◌, length, get_or, take, drop, Bool, true, false, ◌&&◌, refl, sym, ap, ◌∙◌, arith}
+use Rattle.std.proofs.Common.{◌≡◌, ℕ, suc, ◌+◌, ◌-◌, ◌<◌, List, [], ◌∷◌, ◌++◌, length, get_or, take, drop, Bool, true, false, ◌&&◌, refl, sym, ap, ◌∙◌, arith, length-drop, add-one, eq-eqb}
 use Rattle.std.specs.Prelude.{◌==◌, not}
 use Rattle.std.specs.List.{list_all}
 use Rattle.std.proofs.lemmas.List.{take-append-drop, take_all}
 use Rattle.std.proofs.lemmas.List.Folds.{list_all-append}
 use Rattle.std.proofs.lemmas.Bool.Decides.{nat_tests}
 use Rattle.std.proofs.Math.Seq.{drop-cons}
-use Rattle.std.proofs.Common.{◌-◌, length-drop, add-one, eq-eqb, Bor, Option, None, Some}
-use Rattle.std.specs.Option.{option_copied, MatchOption}
-use Rattle.rehearse.specs.Letters.{is_other}
-use Rattle.rehearse.specs.Reading.{CutAt}
+use Rattle.rehearse.specs.Reading.{is_other, CutAt}
 
 pub both : (a b : Bool) → (a && b) ≡ true → (a ≡ true) × (b ≡ true)
 both true b h = (refl, h)
 both false b h = absurd (cc)
+
+pub and_both : (a b : Bool) → a ≡ true → b ≡ true → (a && b) ≡ true
+and_both a b p q = ap (λ (x : Bool). x && b) p ∙ q
 
 -- a byte isn't another one than itself
 pub other_self : (c : ℕ) → is_other c c ≡ false
@@ -43,13 +43,19 @@ parts_at xs i c h e =
 pub to_end : (xs : List ℕ) (k : ℕ) → take (length xs - k) (drop k xs) ≡ drop k xs
 to_end xs k = take_all (length xs - k) (drop k xs) (omega (arith, length-drop k xs))
 
+-- the parts of a text are without a byte where the whole is
+pub parts_other : (c : ℕ) (xs ys : List ℕ) → list_all (is_other c) (xs ++ ys) ≡ true → (list_all (is_other c) xs ≡ true) × (list_all (is_other c) ys ≡ true)
+parts_other c xs ys h = both (list_all (is_other c) xs) (list_all (is_other c) ys) (sym (list_all-append (is_other c) xs ys) ∙ h)
+
+pub joined_other : (c : ℕ) (xs ys : List ℕ) → list_all (is_other c) xs ≡ true → list_all (is_other c) ys ≡ true → list_all (is_other c) (xs ++ ys) ≡ true
+joined_other c xs ys h k = list_all-append (is_other c) xs ys ∙ and_both (list_all (is_other c) xs) (list_all (is_other c) ys) h k
+
 -- where all are others, there is no place to cut
 pub no_cut : (c : ℕ) (xs : List ℕ) (x : List ℕ × List ℕ) → list_all (is_other c) xs ≡ true → CutAt c xs x → ⊥
 no_cut c xs x h cut =
-    let e : list_all (is_other c) (x.0 ++ c ∷ x.1) ≡ (list_all (is_other c) x.0 && (is_other c c && list_all (is_other c) x.1)) = list_all-append (is_other c) x.0 (c ∷ x.1) in
     let t : list_all (is_other c) (x.0 ++ c ∷ x.1) ≡ true = sym (ap (list_all (is_other c)) cut.1) ∙ h in
-    let p : (list_all (is_other c) x.0 ≡ true) × ((is_other c c && list_all (is_other c) x.1) ≡ true) = both _ _ (sym e ∙ t) in
-    let q : (is_other c c ≡ true) × (list_all (is_other c) x.1 ≡ true) = both _ _ p.1 in
+    let p : (list_all (is_other c) x.0 ≡ true) × (list_all (is_other c) (c ∷ x.1) ≡ true) = parts_other c x.0 (c ∷ x.1) t in
+    let q : (is_other c c ≡ true) × (list_all (is_other c) x.1 ≡ true) = both (is_other c c) (list_all (is_other c) x.1) p.1 in
     let s : is_other c c ≡ false = other_self c in
     absurd (cc (q.0, s))
 
@@ -78,8 +84,3 @@ cut_unique c (x ∷ p) (y ∷ q) r s hp hq e =
 
 pub cuts_same : (c : ℕ) (xs : List ℕ) (x y : List ℕ × List ℕ) → CutAt c xs x → CutAt c xs y → (x.0 ≡ y.0) × (x.1 ≡ y.1)
 cuts_same c xs x y h k = cut_unique c x.0 y.0 x.1 y.1 h.0 k.0 (sym h.1 ∙ k.1)
-
--- what was found behind a reference
-pub found_copied : (P : Type 0) (Q : List ℕ → Type 0) (r : Option (Bor (List ℕ))) → MatchOption r P (λ x. Q x.now) → MatchOption (option_copied r) P Q
-found_copied P Q None h = h
-found_copied P Q (Some x) h = h

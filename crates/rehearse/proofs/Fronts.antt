@@ -1,134 +1,77 @@
--- The event at the front of a file, by its first word.
-use Rattle.std.proofs.Common.{◌≡◌, ℕ, List, ◌∷◌, ◌++◌, slice_index_or, true, Option, None, Some, refl, sym, subst, ap, ◌∙◌}
-use Rattle.std.specs.Prelude.{◌==◌, if◌then◌else◌}
-use Rattle.std.specs.List.{list_all}
-use Rattle.rehearse.specs.declared.keyword.Keyword.{Keyword}
-use Rattle.rehearse.specs.declared.keyword.Keyword.TheVariants.{Workers, Clock, Define, Connect, Step, Run}
-use Rattle.rehearse.specs.Letters.{is_other}
-use Rattle.rehearse.specs.Events.{Event, workers, clock, define, connect, step, run, spelled}
-use Rattle.rehearse.specs.Reading.{Finds, CutAt, name_of, IsShort, EventAt, tail_of, keyword_of, NumberEventAt, TailAt}
+-- At most one event stands at the front of what is left.
+use Rattle.std.proofs.Common.{◌≡◌, ℕ, ◌+◌, ◌≤◌, List, [], ◌++◌, length, length-append, take, drop, refl, sym, ap, ◌∙◌}
+use Rattle.std.proofs.lemmas.List.{append_cancel_right, take-append-le}
+use Rattle.std.proofs.Math.Seq.{take-append_seam, drop-append_seam}
+use Rattle.rehearse.specs.declared.head.Head.{Head}
+use Rattle.rehearse.specs.declared.head.Head.TheVariants as heads
+use Rattle.rehearse.specs.Events.{Event, page, define, connect, newline, block_of, block_end, spelled}
+use Rattle.rehearse.specs.Files.{ComesNext}
+use Rattle.rehearse.specs.Playing.{HasFew}
+use Rattle.rehearse.specs.Reading.{IsShort, HasHead}
+use Rattle.rehearse.specs.World.{World}
 use Rattle.rehearse.proofs.Cutting.{cuts_same}
-use Rattle.rehearse.proofs.Spelling.{number_unique, block_unique, input_unique}
+use Rattle.rehearse.proofs.Spelling.{line_words, head_for, head_for_has, head_for_is, event_has}
+use Rattle.rehearse.proofs.EventReading.{whole_cut}
+use Rattle.rehearse.proofs.Finding.{may_be_short, comes_cut}
 
--- ---- first words
+same_parts : (a b s t : List ℕ) → length a ≡ length b → a ++ s ≡ b ++ t → (a ≡ b) × (s ≡ t)
+same_parts a b s t n e =
+    let f : take (length a) (a ++ s) ≡ take (length b) (b ++ t) = cc in
+    let g : drop (length a) (a ++ s) ≡ drop (length b) (b ++ t) = cc in
+    (sym (take-append_seam a s) ∙ f ∙ take-append_seam b t, sym (drop-append_seam a s) ∙ g ∙ drop-append_seam b t)
 
--- a keyword by two bytes of its word
-decode : List ℕ → Keyword
-decode word =
-    if slice_index_or word 0 0 == 119 then Workers else
-    (if slice_index_or word 0 0 == 100 then Define else
-    (if slice_index_or word 0 0 == 115 then Step else
-    (if slice_index_or word 0 0 == 114 then Run else
-    (if slice_index_or word 1 0 == 108 then Clock else Connect))))
-
-decoded : (k : Keyword) → decode (name_of k) ≡ k
-unfolding decode
-decoded Workers = refl
-decoded Clock = refl
-decoded Define = refl
-decoded Connect = refl
-decoded Step = refl
-decoded Run = refl
-
-same_keyword : (k l : Keyword) → name_of k ≡ name_of l → k ≡ l
-same_keyword k l e = sym (decoded k) ∙ ap decode e ∙ decoded l
-
-no_space : (k : Keyword) → list_all (is_other 32) (name_of k) ≡ true
-no_space Workers = refl
-no_space Clock = refl
-no_space Define = refl
-no_space Connect = refl
-no_space Step = refl
-no_space Run = refl
-
--- ---- an event is its first word, a space and what is behind
-
-parts_of : (e : Event) (rest : List ℕ) → spelled e ++ rest ≡ name_of (keyword_of e) ++ 32 ∷ (tail_of e ++ rest)
-parts_of (workers count) rest = refl
-parts_of (clock moment) rest = refl
-parts_of (define block) rest = refl
-parts_of (connect worker input) rest = refl
-parts_of (step worker) rest = refl
-parts_of (run worker) rest = refl
-
-event_cut : (bytes : List ℕ) (x : Event × List ℕ) → EventAt bytes x → CutAt 32 bytes (name_of (keyword_of x.0), tail_of x.0 ++ x.1)
-event_cut bytes x h = (no_space (keyword_of x.0), h.1 ∙ parts_of x.0 x.1)
-
-pub no_word : (bytes : List ℕ) → ((y : List ℕ × List ℕ) → ¬ (CutAt 32 bytes y)) → (x : Event × List ℕ) → ¬ (EventAt bytes x)
-no_word bytes never x h = never (name_of (keyword_of x.0), tail_of x.0 ++ x.1) (event_cut bytes x h)
-
-pub no_keyword : (bytes : List ℕ) (y : List ℕ × List ℕ) → CutAt 32 bytes y → ((k : Keyword) → ¬ (y.0 ≡ name_of k)) → (x : Event × List ℕ) → ¬ (EventAt bytes x)
-no_keyword bytes y cut never x h =
-    never (keyword_of x.0) (cuts_same 32 bytes y (name_of (keyword_of x.0), tail_of x.0 ++ x.1) cut (event_cut bytes x h)).0
-
--- what stands behind the first word of a short event
-tail_at : (e : Event) (rest more : List ℕ) → IsShort e → rest ≡ tail_of e ++ more → TailAt (keyword_of e) rest (e, more)
-tail_at (workers count) rest more short e = (count, (short, e), refl)
-tail_at (clock moment) rest more short e = (moment, (short, e), refl)
-tail_at (define block) rest more short e = (block, (short, e), refl)
-tail_at (connect worker input) rest more short e = (worker, input, (short.0, short.1, e), refl)
-tail_at (step worker) rest more short e = (worker, (short, e), refl)
-tail_at (run worker) rest more short e = (worker, (short, e), refl)
-
-abbrev Is : Keyword → List ℕ → Event → List ℕ → Type 0
-Is k rest e more = IsShort e × (keyword_of e ≡ k) × (rest ≡ tail_of e ++ more)
-
-event_at : (k : Keyword) (rest : List ℕ) (e : Event) (more : List ℕ) → TailAt k rest (e, more) → Is k rest e more
-event_at Workers rest e more h = subst (λ (d : Event). Is Workers rest d more) (sym h.2) (h.1.0, refl, h.1.1)
-event_at Clock rest e more h = subst (λ (d : Event). Is Clock rest d more) (sym h.2) (h.1.0, refl, h.1.1)
-event_at Define rest e more h = subst (λ (d : Event). Is Define rest d more) (sym h.2) (h.1.0, refl, h.1.1)
-event_at Connect rest e more h = subst (λ (d : Event). Is Connect rest d more) (sym h.3) ((h.2.0, h.2.1), refl, h.2.2)
-event_at Step rest e more h = subst (λ (d : Event). Is Step rest d more) (sym h.2) (h.1.0, refl, h.1.1)
-event_at Run rest e more h = subst (λ (d : Event). Is Run rest d more) (sym h.2) (h.1.0, refl, h.1.1)
-
-found_here : (bytes : List ℕ) (y : List ℕ × List ℕ) (k : Keyword) (x : Event × List ℕ) → CutAt 32 bytes y → y.0 ≡ name_of k → TailAt k y.1 x → EventAt bytes x
-found_here bytes y k x cut word h =
-    let i : Is k y.1 x.0 x.1 = event_at k y.1 x.0 x.1 h in
-    let name : y.0 ≡ name_of (keyword_of x.0) = word ∙ ap name_of (sym i.1) in
-    (i.0, cut.1 ∙ ap (λ (t : List ℕ). t ++ 32 ∷ y.1) name ∙ ap (λ (t : List ℕ). name_of (keyword_of x.0) ++ 32 ∷ t) i.2 ∙ sym (parts_of x.0 x.1))
-
-none_here : (bytes : List ℕ) (y : List ℕ × List ℕ) (k : Keyword) → CutAt 32 bytes y → y.0 ≡ name_of k → ((x : Event × List ℕ) → ¬ (TailAt k y.1 x))
-    → (x : Event × List ℕ) → ¬ (EventAt bytes x)
-none_here bytes y k cut word never x h =
-    let s : (y.0 ≡ name_of (keyword_of x.0)) × (y.1 ≡ tail_of x.0 ++ x.1) =
-    cuts_same 32 bytes y (name_of (keyword_of x.0), tail_of x.0 ++ x.1) cut (event_cut bytes x h) in
-    let key : keyword_of x.0 ≡ k = same_keyword (keyword_of x.0) k (sym s.0 ∙ word) in
-    never x (subst (λ (l : Keyword). TailAt l y.1 x) key (tail_at x.0 y.1 x.1 h.0 s.1))
-
--- the event behind its first word is the event
-pub event_finds : (bytes : List ℕ) (y : List ℕ × List ℕ) (k : Keyword) → CutAt 32 bytes y → y.0 ≡ name_of k → (found : Option (Event × List ℕ))
-    → Finds (TailAt k y.1) found → Finds (EventAt bytes) found
-event_finds bytes y k cut word None never = none_here bytes y k cut word never
-event_finds bytes y k cut word (Some x) h = found_here bytes y k x cut word h
-
--- ---- at most one event stands at the front
+-- a block is read in one way
+same_block : (a b s t : List ℕ) → length a ≡ length b → (a ++ newline) ++ s ≡ (b ++ newline) ++ t → (a ≡ b) × (s ≡ t)
+same_block a b s t n e =
+    let len : length (a ++ newline) ≡ length (b ++ newline) =
+    length-append a newline ∙ ap (λ (m : ℕ). m + 1) n ∙ sym (length-append b newline) in
+    let p : (a ++ newline ≡ b ++ newline) × (s ≡ t) = same_parts (a ++ newline) (b ++ newline) s t len e in
+    (append_cancel_right a b newline p.0, p.1)
 
 abbrev Same : Event → List ℕ → Event → List ℕ → Type 0
-Same e r f s = (e ≡ f) × (r ≡ s)
+Same d r e s = (d ≡ e) × (r ≡ s)
 
-number_same : (make : ℕ → Event) (rest : List ℕ) (e f : Event) (r s : List ℕ) → NumberEventAt make rest (e, r) → NumberEventAt make rest (f, s) → Same e r f s
-number_same make rest e f r s h k =
-    let u : (h.0 ≡ k.0) × (r ≡ s) = number_unique rest (h.0, r) (k.0, s) h.1 k.1 in
-    (h.2 ∙ ap make u.0 ∙ sym k.2, u.1)
+-- what is behind both lines, by the blocks of other events that are the same
+moved : (d e f g : Event) (r s : List ℕ) → d ≡ f → e ≡ g → block_end (block_of d) ++ r ≡ block_end (block_of e) ++ s → block_end (block_of f) ++ r ≡ block_end (block_of g) ++ s
+moved d e f g r s p q is = sym (ap (λ (x : Event). block_end (block_of x) ++ r) p) ∙ is ∙ ap (λ (x : Event). block_end (block_of x) ++ s) q
 
-tail_same : (k : Keyword) (rest : List ℕ) (e f : Event) (r s : List ℕ) → TailAt k rest (e, r) → TailAt k rest (f, s) → Same e r f s
-tail_same Workers rest e f r s h k = number_same workers rest e f r s h k
-tail_same Clock rest e f r s h k = number_same clock rest e f r s h k
-tail_same Define rest e f r s h k =
-    let u : (h.0 ≡ k.0) × (r ≡ s) = block_unique rest (h.0, r) (k.0, s) h.1 k.1 in
-    (h.2 ∙ ap (λ (b : List ℕ). define b) u.0 ∙ sym k.2, u.1)
-tail_same Connect rest e f r s h k =
-    let u : (h.0 ≡ k.0) × (h.1 ≡ k.1) × (r ≡ s) = input_unique rest (h.0, h.1, r) (k.0, k.1, s) h.2 k.2 in
-    (h.3 ∙ ap (λ (n : ℕ). connect n h.1) u.0 ∙ ap (λ (b : List ℕ). connect k.0 b) u.1 ∙ sym k.3, u.2)
-tail_same Step rest e f r s h k = number_same step rest e f r s h k
-tail_same Run rest e f r s h k = number_same run rest e f r s h k
+-- two events of one line
+same_event : (h : Head) (d e : Event) (r s : List ℕ) → HasHead h d → HasHead h e → block_end (block_of d) ++ r ≡ block_end (block_of e) ++ s → Same d r e s
+same_event (heads.Workers count) d e r s p q is = (p ∙ sym q, moved d e _ _ r s p q is)
+same_event (heads.Clock moment) d e r s p q is = (p ∙ sym q, moved d e _ _ r s p q is)
+same_event (heads.Page path size) d e r s p q is =
+    let one : (p.0 ≡ q.0) × (r ≡ s) = same_block p.0 q.0 r s (p.1 ∙ sym q.1) (moved d e (page path.now p.0) (page path.now q.0) r s p.2 q.2 is) in
+    (p.2 ∙ ap (λ (t : List ℕ). page path.now t) one.0 ∙ sym q.2, one.1)
+same_event (heads.Define size) d e r s p q is =
+    let one : (p.0 ≡ q.0) × (r ≡ s) = same_block p.0 q.0 r s (p.1 ∙ sym q.1) (moved d e (define p.0) (define q.0) r s p.2 q.2 is) in
+    (p.2 ∙ ap define one.0 ∙ sym q.2, one.1)
+same_event (heads.Connect number size) d e r s p q is =
+    let one : (p.0 ≡ q.0) × (r ≡ s) = same_block p.0 q.0 r s (p.1 ∙ sym q.1) (moved d e (connect number p.0) (connect number q.0) r s p.2 q.2 is) in
+    (p.2 ∙ ap (λ (t : List ℕ). connect number t) one.0 ∙ sym q.2, one.1)
+same_event (heads.Step actor) d e r s p q is = (p ∙ sym q, moved d e _ _ r s p q is)
+same_event (heads.Run actor) d e r s p q is = (p ∙ sym q, moved d e _ _ r s p q is)
 
-pub event_unique : (bytes : List ℕ) (x y : Event × List ℕ) → EventAt bytes x → EventAt bytes y → (x.0 ≡ y.0) × (x.1 ≡ y.1)
-event_unique bytes x y h k =
-    let s : (name_of (keyword_of x.0) ≡ name_of (keyword_of y.0)) × (tail_of x.0 ++ x.1 ≡ tail_of y.0 ++ y.1) =
-    cuts_same 32 bytes (name_of (keyword_of x.0), tail_of x.0 ++ x.1) (name_of (keyword_of y.0), tail_of y.0 ++ y.1) (event_cut bytes x h) (event_cut bytes y k) in
-    let key : keyword_of x.0 ≡ keyword_of y.0 = same_keyword (keyword_of x.0) (keyword_of y.0) s.0 in
-    let there : TailAt (keyword_of y.0) (tail_of x.0 ++ x.1) (y.0, y.1) = tail_at y.0 (tail_of x.0 ++ x.1) y.1 k.0 s.1 in
-    let here : TailAt (keyword_of y.0) (tail_of x.0 ++ x.1) (x.0, x.1) =
-    subst (λ (l : Keyword). TailAt l (tail_of x.0 ++ x.1) (x.0, x.1)) key (tail_at x.0 (tail_of x.0 ++ x.1) x.1 h.0 refl) in
-    tail_same (keyword_of y.0) (tail_of x.0 ++ x.1) x.0 y.0 x.1 y.1 here there
+pub event_unique : (world : World) (place : ℕ) (left : List ℕ) (d e : Event) → HasFew world → (c : ComesNext world place left d) → (k : ComesNext world place left e)
+    → (d ≡ e) × (c.rest ≡ k.rest)
+event_unique world place left d e few c k =
+    let s : (line_words d ≡ line_words e) × (block_end (block_of d) ++ c.rest ≡ block_end (block_of e) ++ k.rest) =
+    cuts_same 10 left (line_words d, block_end (block_of d) ++ c.rest) (line_words e, block_end (block_of e) ++ k.rest)
+    (comes_cut world place left d few c) (comes_cut world place left e few k) in
+    let other : HasHead (head_for d) e =
+    event_has e (head_for d) (line_words d) (may_be_short world e few k.may_come) (head_for_is d (may_be_short world d few c.may_come)) (sym s.0) in
+    same_event (head_for d) d e c.rest k.rest (head_for_has d) other s.1
+
+-- short events that are spelled so are the same
+pub spelled_once : (d e : Event) → IsShort d → IsShort e → spelled d ≡ spelled e → d ≡ e
+spelled_once d e short other is =
+    let s : (line_words d ≡ line_words e) × (block_end (block_of d) ≡ block_end (block_of e)) =
+    cuts_same 10 (spelled d) (line_words d, block_end (block_of d)) (line_words e, block_end (block_of e)) (whole_cut d (spelled d) short refl) (whole_cut e (spelled d) other is) in
+    let has : HasHead (head_for d) e = event_has e (head_for d) (line_words d) other (head_for_is d short) (sym s.0) in
+    (same_event (head_for d) d e [] [] (head_for_has d) has (ap (λ (t : List ℕ). t ++ []) s.1)).0
+
+-- the front of what is left, which is as long as an event that comes next, is that event
+pub front_spelled : (world : World) (place : ℕ) (left more : List ℕ) (e : Event) (size : ℕ) → size ≤ length left → length (spelled e) ≡ size
+    → ComesNext world place (left ++ more) e → take size left ≡ spelled e
+front_spelled world place left more e size fits len c =
+    sym (take-append-le size left more fits) ∙ ap (take size) c.spelled_here ∙ ap (λ (n : ℕ). take n (spelled e ++ c.rest)) (sym len)
+    ∙ take-append_seam (spelled e) c.rest

@@ -1,18 +1,22 @@
--- Numbers in decimal, and what stands behind them.
-use Rattle.std.proofs.Common.{◌≡◌, ℕ, zero, suc, ◌+◌, ◌-◌, ◌*◌, ◌^◌, ◌<◌, ◌≤◌, ◌⊎◌, lit<, subst, List, length, get_or, take, true, refl, sym, ap, ◌∙◌, arith}
-use Rattle.std.specs.Prelude.{decimal}
+-- Numbers in decimal.
+use Rattle.std.proofs.Common.{◌≡◌, ℕ, zero, suc, ◌+◌, ◌-◌, ◌*◌, ◌^◌, ◌<◌, ◌≤◌, ◌⊎◌, lit<, subst, List, length, get_or, take, Bool, true, false, refl, sym, ap, ◌∙◌, arith}
+use Rattle.std.specs.Prelude.{decimal, nat_le, ◌&&◌}
 use Rattle.std.specs.Int.{IsInRange}
 use Rattle.std.specs.List.{list_all}
 use Rattle.std.specs.Str.Parse.{digits_value, AllDigits}
 use Rattle.std.specs.Char.{digit_value}
 use Rattle.std.proofs.lemmas.Bool.Decides.{nat_tests}
-use Rattle.std.proofs.lemmas.Fmt.{digits_decimal, decimal-digits_value, decimal_nonempty, decimal_digit, first_decimal, length-decimal-le}
+use Rattle.std.proofs.lemmas.Fmt.{digits_decimal, decimal-digits_value, decimal_nonempty, decimal_digit, first_decimal, length-decimal-le, decimal_injective}
 use Rattle.std.proofs.lemmas.Int.Digits.{digits_value_more}
 use Rattle.std.proofs.lemmas.Str.{digit_value_digit}
 use Rattle.std.proofs.lemmas.Str.Parse.{IsNumeralModel, IsDigitsTest, numerals_by_value, digits_value_short, digit_at}
-use Rattle.rehearse.specs.Letters.{is_digit}
-use Rattle.rehearse.specs.Letters.{is_other}
+use Rattle.rehearse.specs.Numbers.{IsSmall}
+use Rattle.rehearse.specs.Reading.{is_other}
 use Rattle.rehearse.proofs.Cutting.{both, all_other}
+
+-- a decimal digit
+abbrev pub is_digit : ℕ → Bool
+is_digit b = nat_le 48 b && nat_le b 57
 
 pub digit_in_range : (c : ℕ) → is_digit c ≡ true → IsInRange 48 57 c
 digit_in_range c h = (grind (arith, nat_tests), grind (arith, nat_tests))
@@ -30,9 +34,12 @@ tells = record {
 pub own : IsNumeralModel (λ t. list_all is_digit t ≡ true) (digits_value 10)
 own = numerals_by_value (λ t. list_all is_digit t ≡ true) tells
 
--- no digit is a newline
-pub decimal_other : (n : ℕ) → n < 2 ^ 64 → list_all (is_other 10) (decimal n) ≡ true
-decimal_other n h = all_other is_digit 10 (decimal n) refl (digits_decimal own n h)
+pub small_fits : (n : ℕ) → IsSmall n → n < 2 ^ 64
+small_fits n h = omega arith
+
+-- a byte that is no digit stands in no number
+pub decimal_other : (c n : ℕ) → is_digit c ≡ false → n < 2 ^ 64 → list_all (is_other c) (decimal n) ≡ true
+decimal_other c n away h = all_other is_digit c (decimal n) away (digits_decimal own n h)
 
 -- one digit more
 pub value_more : (ds : List ℕ) (i : ℕ) → i < length ds → IsInRange 48 57 (get_or ds i 0)
@@ -51,45 +58,52 @@ value_small ds h short = digits_value_short own ds 12 h short
 
 -- digits without an extra zero are the number's
 pub canonical : (ds : List ℕ) → list_all is_digit ds ≡ true → 0 < length ds → (get_or ds 0 0 ≡ 48 → length ds ≡ 1) → length ds ≤ 12
-    → (digits_value 10 ds < 1000000000000) × (ds ≡ decimal (digits_value 10 ds))
+    → IsSmall (digits_value 10 ds) × (ds ≡ decimal (digits_value 10 ds))
 canonical ds h some alone short =
     let small : digits_value 10 ds < 1000000000000 = value_small ds h short in
     let fits_here : digits_value 10 ds < 2 ^ 64 = omega arith in
     (small, sym (decimal-digits_value own ds h some alone fits_here))
 
--- ---- what no number below 1,000,000,000,000 is written as
+-- numbers that are written so are the same
+pub decimal_same : (m n : ℕ) → m < 2 ^ 64 → n < 2 ^ 64 → decimal m ≡ decimal n → m ≡ n
+decimal_same m n h k e = decimal_injective m n h k e
 
-fits : (n : ℕ) → n < 1000000000000 → n < 2 ^ 64
-fits n h = omega arith
+-- ---- what no small number is written as
 
-pub no_digits : (ds : List ℕ) (n : ℕ) → length ds ≡ 0 → (n < 1000000000000) × (ds ≡ decimal n) → ⊥
+pub no_digits : (ds : List ℕ) (n : ℕ) → length ds ≡ 0 → IsSmall n × (ds ≡ decimal n) → ⊥
 no_digits ds n e h =
-    let some : 0 < length (decimal n) = decimal_nonempty n (fits n h.0) in
+    let some : 0 < length (decimal n) = decimal_nonempty n (small_fits n h.0) in
     let same : length ds ≡ length (decimal n) = ap length h.1 in
     omega (arith, some, same, e)
 
-pub too_many : (ds : List ℕ) (n : ℕ) → 12 < length ds → (n < 1000000000000) × (ds ≡ decimal n) → ⊥
+pub too_many : (ds : List ℕ) (n : ℕ) → 12 < length ds → IsSmall n × (ds ≡ decimal n) → ⊥
 too_many ds n many h =
-    let short : length (decimal n) ≤ 12 = length-decimal-le 12 n (lit< tt) h.0 (fits n h.0) in
+    let short : length (decimal n) ≤ 12 = length-decimal-le 12 n (lit< tt) h.0 (small_fits n h.0) in
     let same : length ds ≡ length (decimal n) = ap length h.1 in
     omega (arith, short, same, many)
 
-zero_alone : (n : ℕ) → n < 1000000000000 → get_or (decimal n) 0 0 ≡ 48 → length (decimal n) ≡ 1
+zero_alone : (n : ℕ) → IsSmall n → get_or (decimal n) 0 0 ≡ 48 → length (decimal n) ≡ 1
 zero_alone zero h e = ap length (decimal_digit 0 (lit< tt))
 zero_alone (suc n) h e =
-    let first : 48 < get_or (decimal (suc n)) 0 0 = first_decimal (suc n) (omega arith) (fits (suc n) h) in
+    let first : 48 < get_or (decimal (suc n)) 0 0 = first_decimal (suc n) (omega arith) (small_fits (suc n) h) in
     absurd (omega (arith, first, e))
 
-pub extra_zero : (ds : List ℕ) (n : ℕ) → get_or ds 0 0 ≡ 48 → 1 < length ds → (n < 1000000000000) × (ds ≡ decimal n) → ⊥
+pub extra_zero : (ds : List ℕ) (n : ℕ) → get_or ds 0 0 ≡ 48 → 1 < length ds → IsSmall n × (ds ≡ decimal n) → ⊥
 extra_zero ds n e more h =
     let one : length (decimal n) ≡ 1 = zero_alone n h.0 (ap (λ (t : List ℕ). get_or t 0 0) (sym h.1) ∙ e) in
     let same : length ds ≡ length (decimal n) = ap length h.1 in
     omega (arith, one, same, more)
 
-pub other_byte : (ds : List ℕ) (i n : ℕ) → i < length ds → (get_or ds i 0 < 48) ⊎ (57 < get_or ds i 0) → (n < 1000000000000) × (ds ≡ decimal n) → ⊥
+pub other_byte : (ds : List ℕ) (i n : ℕ) → i < length ds → (get_or ds i 0 < 48) ⊎ (57 < get_or ds i 0) → IsSmall n × (ds ≡ decimal n) → ⊥
 other_byte ds i n within out h =
-    let all : AllDigits 10 (decimal n) = own.to (decimal n) (digits_decimal own n (fits n h.0)) in
+    let all : AllDigits 10 (decimal n) = own.to (decimal n) (digits_decimal own n (small_fits n h.0)) in
     let there : i < length (decimal n) = subst (λ (t : List ℕ). i < length t) h.1 within in
     let range : IsInRange 48 57 (get_or (decimal n) i 0) = digit_at (decimal n) i all there in
     let same : get_or ds i 0 ≡ get_or (decimal n) i 0 = ap (λ (t : List ℕ). get_or t i 0) h.1 in
     omega (arith, range, same, out)
+
+-- a length that is written so is the one that was read, which may be too large
+pub too_large : (ds : List ℕ) (m n most : ℕ) → IsSmall most → IsSmall m × (ds ≡ decimal m) → most < m → (n ≤ most) × (ds ≡ decimal n) → ⊥
+too_large ds m n most low here large h =
+    let same : m ≡ n = decimal_same m n (small_fits m here.0) (omega (arith, low, h.0)) (sym here.1 ∙ h.1) in
+    omega (arith, same, h.0, large)

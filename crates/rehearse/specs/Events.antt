@@ -1,49 +1,89 @@
 -- The events of a rehearsal, and how a file spells them.
-use Rattle.std.specs.Prelude.{ℕ, List, [], ◌∷◌, ◌++◌, length, decimal, codes}
+use Rattle.std.specs.Prelude.{ℕ, List, [], ◌∷◌, ◌++◌, length, decimal, codes, Option, Some, None}
+use Rattle.std.specs.List.{join_with_byte}
+
+-- who takes steps: a worker by its number, from 0, or the scheduler
+pub data Actor : Type 0 where
+  worker : (number : ℕ) → Actor
+  scheduler : Actor
 
 pub data Event : Type 0 where
   -- says how many workers there are
   workers : (count : ℕ) → Event
   -- sets the moment that the clock shows, in seconds since 1970
   clock : (moment : ℕ) → Event
-  -- runs a block as a script that may define
+  -- sets the page of a path
+  page : (path text : List ℕ) → Event
+  -- runs a block as a start script
   define : (block : List ℕ) → Event
   -- gives a worker a connection with this input
-  connect : (worker : ℕ) (input : List ℕ) → Event
-  -- lets a worker take one step
-  step : (worker : ℕ) → Event
-  -- lets a worker take steps until it is idle
-  run : (worker : ℕ) → Event
+  connect : (number : ℕ) (input : List ℕ) → Event
+  -- lets an actor take one step
+  step : (actor : Actor) → Event
+  -- lets an actor take steps until it is idle
+  run : (actor : Actor) → Event
+
+-- ---- spelling
 
 abbrev pub newline : List ℕ
 newline = 10 ∷ []
 
--- a number as the last word of a line
-abbrev pub with_number : ℕ → List ℕ
-with_number number = decimal number ++ newline
+-- A line is words with one space between, and a newline.
+abbrev pub line_of : List (List ℕ) → List ℕ
+line_of words = join_with_byte 32 words ++ newline
 
--- the length of a block as the last word of a line, and behind the line the block and a newline
-abbrev pub with_block : List ℕ → List ℕ
-with_block block = decimal (length block) ++ newline ++ block ++ newline
+-- behind a line there may be a block, which is followed by a newline
+abbrev pub block_end : Option (List ℕ) → List ℕ
+block_end (Some block) = block ++ newline
+block_end None = []
 
--- An event is a line of words with one space between; numbers are decimal without extra zeros.
+abbrev pub actor_word : Actor → List ℕ
+actor_word (worker number) = decimal number
+actor_word scheduler = codes "s"
+
+-- The words of an event's line. Numbers are decimal without extra zeros; where there is a block, the last word is its length.
+abbrev pub words_of : Event → List (List ℕ)
+words_of (workers count) = codes "workers" ∷ decimal count ∷ []
+words_of (clock moment) = codes "clock" ∷ decimal moment ∷ []
+words_of (page path text) = codes "page" ∷ path ∷ decimal (length text) ∷ []
+words_of (define block) = codes "define" ∷ decimal (length block) ∷ []
+words_of (connect number input) = codes "connect" ∷ decimal number ∷ decimal (length input) ∷ []
+words_of (step actor) = codes "step" ∷ actor_word actor ∷ []
+words_of (run actor) = codes "run" ∷ actor_word actor ∷ []
+
+abbrev pub block_of : Event → Option (List ℕ)
+block_of (workers count) = None
+block_of (clock moment) = None
+block_of (page path text) = Some text
+block_of (define block) = Some block
+block_of (connect number input) = Some input
+block_of (step actor) = None
+block_of (run actor) = None
+
 abbrev pub spelled : Event → List ℕ
-spelled (workers count) = codes "workers " ++ with_number count
-spelled (clock moment) = codes "clock " ++ with_number moment
-spelled (define block) = codes "define " ++ with_block block
-spelled (connect worker input) = codes "connect " ++ decimal worker ++ codes " " ++ with_block input
-spelled (step worker) = codes "step " ++ with_number worker
-spelled (run worker) = codes "run " ++ with_number worker
-
--- the byte of a file past which no event may go
-abbrev pub most_bytes : ℕ
-most_bytes = 67108864
-
--- the most bytes that a block has
-abbrev pub most_block : ℕ
-most_block = 8388608
+spelled e = line_of (words_of e) ++ block_end (block_of e)
 
 -- the file of these events
 abbrev pub file_of : List Event → List ℕ
 file_of [] = []
 file_of (e ∷ events) = spelled e ++ file_of events
+
+-- ---- limits
+
+-- the byte of a file past which no event may go
+abbrev pub most_bytes : ℕ
+most_bytes = 67108864
+
+-- the most bytes of a page, of a block that is run, and of a connection's input
+abbrev pub most_page : ℕ
+most_page = 1048576
+
+abbrev pub most_block : ℕ
+most_block = 8388608
+
+abbrev pub most_input : ℕ
+most_input = 16777216
+
+-- the greatest number of workers
+abbrev pub most_workers : ℕ
+most_workers = 16

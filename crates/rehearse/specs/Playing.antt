@@ -1,204 +1,575 @@
--- What the program's machine does with an event, and with a file.
-use Rattle.std.specs.Prelude.{◌≡◌, ℕ, ◌+◌, ◌<◌, ◌≤◌, ◌⊎◌, List, [], ◌∷◌, ◌++◌, length, Bool, true, false, Option, Some, None}
-use Rattle.std.specs.List.{sum_by}
-use Rattle.outside.specs.Faults.{Rose}
-use Rattle.nsv_bucket.specs.Buckets.{AllArrays}
-use Rattle.ictl.specs.Interps.{blueprint_of, questions_left, Stands, StandsAt}
-use Rattle.ictl.specs.Main.{Blueprint}
+-- What the program's machine does with an event, and with a file: how its values stand for those of the other modules. Nothing here has
+-- to be believed: no public contract cites it.
+use Rattle.std.specs.Prelude.{◌≡◌, ◌≢◌, ℕ, zero, suc, ◌+◌, ◌-◌, ◌<◌, ◌≤◌, ◌⊎◌, List, [], ◌∷◌, ◌++◌, length, drop, min, Bool, true, false, IsTrue, Option, Some, None, MatchOption}
+use Rattle.std.specs.List.{list_all}
+use Rattle.outside.specs.Faults.{Rose, last_count}
+use Rattle.outside.specs.Reading.{Gives}
+use Rattle.outside.specs.declared.source.ReadAnswer.{ReadAnswer}
+use Rattle.outside.specs.declared.source.ReadAnswer.TheVariants.{Bytes, Failed}
+use Rattle.blueprint.specs.Objects.{Reaches}
+use Rattle.blueprint.specs.States.{State, Allowed}
+use Rattle.blueprint.specs.declared.reply.BlueCall.{BlueCall}
+use Rattle.blueprint.specs.declared.reply.BlueCall.TheVariants as calls
+use Rattle.outside.specs.Writing.{Gains}
+use Rattle.outside.specs.declared.question.Answer.{Answer}
+use Rattle.outside.specs.declared.question.Question.{Question}
+use Rattle.http_req.specs.declared.request.Request.{Request}
+use Rattle.tcl_eval.specs.declared.outcome.Outcome.{Outcome}
+use Rattle.ictl.specs.Falls.{StandsAt, IsEnd, Falls, number_of, first_number}
+use Rattle.ictl.specs.Interps.{IsNew, IsSound, IsSameRun, UnlessNoMemory, Stands, StandsOn, interp_state}
+use Rattle.ictl.specs.Interps as interps
+use Rattle.ictl.specs.Visits.{visit_of}
+use Rattle.ictl.specs.declared.interp.Interp.{Interp}
 use Rattle.ictl.specs.declared.next.Next.{Next}
 use Rattle.ictl.specs.declared.next.Next.TheVariants as nexts
+use Rattle.ictl.specs.Main.{Progress, Main, Define, behind}
+use Rattle.ictl.specs.Main as runs_of
+use Rattle.serving.specs.Connections.{asks_close, is_head_only, most_requests}
 use Rattle.rehearse.specs.declared.answer.Rehearsal.{Rehearsal}
 use Rattle.rehearse.specs.declared.answer.Rehearsal.TheVariants as answers
-use Rattle.rehearse.specs.declared.input.Stopped as code_stopped
-use Rattle.rehearse.specs.declared.input.Stopped.TheVariants as code_stops
+use Rattle.rehearse.specs.declared.intake.Stopped.{Stopped}
+use Rattle.rehearse.specs.declared.intake.Stopped.TheVariants as stops
+use Rattle.rehearse.specs.declared.keeper.Keeper.{Keeper}
+use Rattle.rehearse.specs.declared.listing.Closing as code_closing
+use Rattle.rehearse.specs.declared.listing.Closing.TheVariants as code_closings
+use Rattle.rehearse.specs.declared.listing.Listing.{Listing}
 use Rattle.rehearse.specs.declared.machine.Machine.{Machine}
-use Rattle.rehearse.specs.declared.now.Now as code_now
-use Rattle.rehearse.specs.declared.playback.Ending as code_ending
-use Rattle.rehearse.specs.declared.playback.Ending.TheVariants as code_endings
+use Rattle.rehearse.specs.declared.objects.Objects.{Objects}
 use Rattle.rehearse.specs.declared.defining.Run.{Run}
+use Rattle.rehearse.specs.declared.playback.Play.{Play}
+use Rattle.rehearse.specs.declared.scheduler.Running.{Running}
+use Rattle.rehearse.specs.declared.scheduler.Scheduler as code_scheduler
+use Rattle.rehearse.specs.declared.setting.Setting as code_setting
+use Rattle.rehearse.specs.declared.tally.Tally.{Tally}
+use Rattle.rehearse.specs.declared.worker.Connection as code_connection
 use Rattle.rehearse.specs.declared.worker.Serving.{Serving}
+use Rattle.rehearse.specs.declared.worker.Task.{Task}
+use Rattle.rehearse.specs.declared.worker.Task.TheVariants as tasks
 use Rattle.rehearse.specs.declared.worker.Worker as code_worker
-use Rattle.rehearse.specs.declared.worker.Worker.TheVariants as code_workers
-use Rattle.rehearse.specs.Defining.{Defining, Objects, define_progress, Settles}
-use Rattle.rehearse.specs.Events.{Event, most_bytes, spelled}
-use Rattle.rehearse.specs.Files.{End, whole, bad, ComesNext}
-use Rattle.rehearse.specs.Plays.{Does, Plays}
-use Rattle.rehearse.specs.Serving.{progress, answer_bytes, most_answered}
-use Rattle.rehearse.specs.Steps.{Place}
-use Rattle.rehearse.specs.World.{no_pages, Open, Worker, idle, connected, Now, World}
+use Rattle.rehearse.specs.Defining.{Defining, Settles, define_progress, define_line}
+use Rattle.rehearse.specs.Events.{Event, most_bytes, most_workers, spelled, file_of}
+use Rattle.rehearse.specs.Files.{whole, ComesNext, Opens, Holds}
+use Rattle.rehearse.specs.Lines.{Line, Closing, ended, closing, truncated, refused, spent, listing_of}
+use Rattle.rehearse.specs.Objects.{Setting, edition_of}
+use Rattle.rehearse.specs.Plays.{MayCome, Does, Plays}
+use Rattle.rehearse.specs.Runs.{request_progress, script_progress}
+use Rattle.rehearse.specs.Rehearsing.{Outside, KeepsCounts, Ends}
+use Rattle.rehearse.specs.Schedules.{Agenda, ScheduleStep}
+use Rattle.rehearse.specs.Steps.{Place, Step, IsBetween, IsServing}
+use Rattle.rehearse.specs.Intakes.{IntakeState}
+use Rattle.rehearse.specs.Reading.{is_other}
+use Rattle.rehearse.specs.Summary.{tally_of, with_lines}
+use Rattle.rehearse.specs.World.{Open, Connection, Worker, idle, new_connection, begun_request, Script, Scheduler, World}
 
--- ---- the program's machine, and the world that it shows
+-- ---- what the program shows
 
--- What the program's workers see, with natives of these names. No page is there, since no event changes one yet.
-abbrev pub now_of : List (List ℕ) → code_now.Now → Now
-now_of natives now = record { natives = natives; moment = now.moment; pages = no_pages; blueprint = now.blueprint }
+-- what is around, with natives of these names
+abbrev pub setting_of : List (List ℕ) → code_setting.Setting → Setting
+setting_of natives setting = record { natives = natives; moment = setting.moment; pages = setting.pages }
 
--- The bytes were counted; past the bound, it is known of the count alone that it passed the bound too.
-abbrev pub Counts : ℕ → ℕ → Type 0
-Counts counted bytes = (counted ≡ bytes) ⊎ ((most_answered < counted) × (most_answered < bytes))
+abbrev pub closing_of : code_closing.Closing → Closing
+closing_of code_closings.Ended = ended
+closing_of code_closings.Closing = closing
+closing_of (code_closings.Truncated have) = truncated have
+closing_of (code_closings.Refused status) = refused status
+closing_of code_closings.Spent = spent
 
--- The interpreter that serves a request stands for its run and the answers that it has had.
-pub record Serves (natives : List (List ℕ)) (serving : Serving) (request : Open) : Type 0 where
-  pub blueprint : request.blueprint ≡ blueprint_of serving.interp
+-- These entries were told: they stand behind what was told before, and were counted.
+abbrev pub Tells : Listing → List Line → Listing → Type 0
+Tells before lines after =
+    (after.text ≡ before.text ++ listing_of lines) × (after.tally ≡ with_lines before.tally lines)
+
+-- a publication or a save, and no look
+abbrev pub IsPut : BlueCall → Type 0
+IsPut (calls.Look epoch) = ⊥
+IsPut (calls.Publish defs) = Unit {0}
+IsPut (calls.Save script) = Unit {0}
+
+-- ---- interpreters
+
+-- An interpreter was made from the blueprint as it stood once, of which the one now has come.
+pub record IsOn (natives : List (List ℕ)) (now : State) (interp : Interp) : Type 0 where
+  pub earlier : State
+  pub allowed : Allowed earlier
+  pub names : earlier.natives ≡ natives
+  pub reaches : Reaches earlier now
+  pub blueprint : interp.blueprint.value ≡ edition_of earlier
+
+-- One that is kept is as newly made. The blueprint has built-in names beside the natives of these names.
+abbrev pub KeepsOn : List (List ℕ) → State → Keeper → Type 0
+KeepsOn natives now keeper =
+    (now.natives ≡ natives) × MatchOption keeper.interp (Unit {0}) (λ interp. IsNew natives interp × IsOn natives now interp)
+
+-- One that is under way can be made as newly made, and stands at what it answered.
+pub record IsUnderWay (natives : List (List ℕ)) (now : State) (next : Next) (interp : Interp) : Type 0 where
+  pub sound : IsSound natives interp
+  pub on : IsOn natives now interp
+  pub «at» : StandsAt next interp
+
+-- An interpreter that answered this, and was given these answers, stands for a run, where the runs inside wrote something.
+abbrev pub RunsFor : List (List ℕ) → (List Answer → Progress) → Next → Interp → List Answer → Type 0
+RunsFor natives run next interp given = (inside : ℕ) × Stands natives run next inside interp given
+
+-- The run of a request began in an interpreter, which came to this.
+pub record BeginsRequest (natives : List (List ℕ)) (request : Request) (moment : ℕ) (next : Next) (made old : Interp) : Type 0 where
+  pub runs : (took : ℕ) × Stands natives (Main natives old.blueprint.value request moment) next took made []
+  pub visit : UnlessNoMemory next ((made.visit ≡ visit_of natives old.blueprint.value request) × (made.moment ≡ moment))
+  pub blueprint : made.blueprint.value ≡ old.blueprint.value
+  pub sound : IsSound natives made
+  pub stands : StandsAt next made
+  pub falls : Falls next made first_number
+
+-- The same of a scheduled script.
+pub record BeginsScript (natives : List (List ℕ)) (script : List ℕ) (moment : ℕ) (next : Next) (made old : Interp) : Type 0 where
+  pub runs : (took : ℕ) × Stands natives (runs_of.Script natives old.blueprint.value script moment) next took made []
+  pub blueprint : made.blueprint.value ≡ old.blueprint.value
+  pub sound : IsSound natives made
+  pub stands : StandsAt next made
+  pub falls : Falls next made first_number
+
+-- The same of a definition run.
+pub record BeginsDefine (natives : List (List ℕ)) (block : List ℕ) (moment : ℕ) (next : Next) (made old : Interp) : Type 0 where
+  pub runs : (took : ℕ) × Stands natives (Define natives old.blueprint.value block moment) next took made []
+  pub blueprint : made.blueprint.value ≡ old.blueprint.value
+  pub sound : IsSound natives made
+  pub stands : StandsAt next made
+  pub falls : Falls next made first_number
+
+-- An interpreter went on from its question with this answer, and came to this.
+pub record Resumes (natives : List (List ℕ)) (answer : Answer) (next : Next) (made old : Interp) : Type 0 where
+  pub runs : (took : ℕ) × StandsOn natives next took made old answer
+  pub same : IsSameRun made old
+  pub blueprint : made.blueprint.value ≡ old.blueprint.value
+  pub sound : IsSound natives old → IsSound natives made
+  pub stands : StandsAt next made
+  pub falls : Falls next made (number_of old)
+
+-- An interpreter went on behind its response, which was written whole, and came to this.
+pub record GoesBehind (natives : List (List ℕ)) (next : Next) (made old : Interp) : Type 0 where
+  pub runs : (request : Request) → IsSound natives old → old.visit ≡ visit_of natives old.blueprint.value request
+      → (took : ℕ) × ((inside : ℕ) → Stands natives (behind natives old.blueprint.value old.moment true request (interps.ending_of old.task) (interp_state old) inside) next (inside + took) made [])
+  pub blueprint : made.blueprint.value ≡ old.blueprint.value
+  pub sound : IsSound natives old → IsSound natives made
+  pub stands : StandsAt next made
+  pub falls : Falls next made first_number
+
+-- ---- workers
+
+-- the input that no request took
+abbrev pub input_of : code_connection.Connection → List ℕ
+input_of connection = connection.carry ++ connection.source
+
+-- The program's connection shows this one. Its count of the bytes of answers stands still where counters stop.
+pub record ShowsConnection (code : code_connection.Connection) (connection : Connection) : Type 0 where
+  pub input : connection.input ≡ input_of code
+  pub requests : connection.requests ≡ code.requests
+  pub answer_bytes : code.answer_bytes ≡ min connection.answer_bytes last_count
+
+-- Until the response of the request is written, what the interpreter goes through is what the request does. Where memory wants, nothing
+-- is said.
+abbrev pub Visits : List (List ℕ) → Open → Interp → Bool → Next → Type 0
+Visits natives request interp true next = Unit {0}
+Visits natives request interp false next =
+    UnlessNoMemory next ((interp.visit ≡ visit_of natives request.blueprint request.request) × (interp.moment ≡ request.moment))
+
+-- The program serves this request.
+pub record Serves (natives : List (List ℕ)) (serving : Serving) (next : Next) (request : Open) : Type 0 where
+  pub blueprint : request.blueprint ≡ serving.interp.blueprint.value
   pub moment : request.moment ≡ serving.moment
-  pub answered : Counts serving.answered (sum_by answer_bytes request.answers)
-  pub stands : Stands natives (progress natives request) serving.next serving.interp request.answers
-  pub «at» : StandsAt serving.next serving.interp
+  pub asks_close : asks_close request.request ≡ serving.asks_close
+  pub head_only : is_head_only request.request ≡ serving.head_only
+  pub written : request.written ≡ serving.written
+  pub visits : Visits natives request serving.interp serving.written next
+  pub runs : RunsFor natives (request_progress natives request) next serving.interp request.answers
+
+abbrev pub ShowsTask : List (List ℕ) → Task → Worker → Type 0
+ShowsTask natives tasks.Idle worker = worker ≡ idle
+ShowsTask natives (tasks.Between code) worker =
+    (connection : Connection) × IsBetween worker connection × ShowsConnection code connection
+ShowsTask natives (tasks.Serving code serving next) worker =
+    (connection : Connection) × (request : Open) × IsServing worker connection request × ShowsConnection code connection
+    × Serves natives serving next request
 
 -- A worker of the program shows this one.
 abbrev pub ShowsWorker : List (List ℕ) → code_worker.Worker → Worker → Type 0
-ShowsWorker natives code_workers.Idle worker = worker ≡ idle
-ShowsWorker natives (code_workers.Waiting waiting) worker = worker ≡ connected waiting None
-ShowsWorker natives (code_workers.Serving serving) worker =
-    (request : Open) × (worker ≡ connected [] (Some request)) × Serves natives serving request
-ShowsWorker natives code_workers.AtEnd worker = worker ≡ connected [] None
+ShowsWorker natives code worker = ShowsTask natives code.task worker
 
--- Workers show these, one by one.
-abbrev pub ShowsWorkers : List (List ℕ) → List code_worker.Worker → List Worker → Type 0
-ShowsWorkers natives [] [] = Unit {0}
-ShowsWorkers natives [] (y ∷ ys) = ⊥
-ShowsWorkers natives (x ∷ xs) [] = ⊥
-ShowsWorkers natives (x ∷ xs) (y ∷ ys) = ShowsWorker natives x y × ShowsWorkers natives xs ys
+-- the same of all workers, whose numbers rise by one from this one on
+abbrev pub ShowsWorkers : List (List ℕ) → ℕ → List code_worker.Worker → List Worker → Type 0
+ShowsWorkers natives number [] [] = Unit {0}
+ShowsWorkers natives number [] (y ∷ ys) = ⊥
+ShowsWorkers natives number (x ∷ xs) [] = ⊥
+ShowsWorkers natives number (x ∷ xs) (y ∷ ys) = (x.number ≡ number) × ShowsWorker natives x y × ShowsWorkers natives (number + 1) xs ys
+
+-- The worker has a connection with this input, of which nothing was used.
+abbrev pub HasNew : code_worker.Worker → List ℕ → Type 0
+HasNew worker input =
+    (connection : code_connection.Connection) × (worker.task ≡ tasks.Between connection)
+    × ShowsConnection connection (new_connection input)
+
+-- the worker, as it is at this
+abbrev pub with_task : code_worker.Worker → Task → code_worker.Worker
+with_task worker task = record worker { task = task }
+
+-- one more request of the connection began
+abbrev pub one_more : code_connection.Connection → code_connection.Connection
+one_more connection = record connection { requests = connection.requests + 1 }
+
+-- The worker serves this request of the connection, which began now.
+abbrev pub HasBegun : List (List ℕ) → Setting → Objects → code_connection.Connection → Request → code_worker.Worker → Type 0
+HasBegun natives setting objects connection request worker =
+    (serving : Serving) × (next : Next) × (worker.task ≡ tasks.Serving (one_more connection) serving next)
+    × Serves natives serving next (begun_request setting objects request)
+
+-- ---- a worker's steps
+
+-- How many steps a run may take still that has no response before it: one for each question that may go out, and its end.
+abbrev pub last_steps : Next → Interp → ℕ
+last_steps (nexts.Asks question) interp = number_of interp + 2
+last_steps (nexts.Write response) interp = 1
+last_steps (nexts.Ended outcome) interp = 1
+last_steps nexts.NoMemory interp = 1
+
+-- The same up to the response: the response is a step too, and behind it more questions may go out.
+abbrev pub first_steps : Next → Interp → ℕ
+first_steps (nexts.Asks question) interp = number_of interp + first_number + 4
+first_steps (nexts.Write response) interp = first_number + 3
+first_steps (nexts.Ended outcome) interp = 1
+first_steps nexts.NoMemory interp = 1
+
+abbrev pub serving_steps : Bool → Next → Interp → ℕ
+serving_steps true next interp = last_steps next interp
+serving_steps false next interp = first_steps next interp
+
+-- A request takes fewer steps than this: its part before the response, and that behind it, each have less than the first number left.
+abbrev pub most_steps : ℕ
+most_steps = first_number + first_number + 4
+
+-- Where a request is under way its interpreter can go on and stands for some request, and few steps are left to it; and one more may
+-- begin only where the connection may have one.
+abbrev pub IsTaskReady : List (List ℕ) → State → Task → Type 0
+IsTaskReady natives now tasks.Idle = Unit {0}
+IsTaskReady natives now (tasks.Between connection) = connection.requests < most_requests
+IsTaskReady natives now (tasks.Serving connection serving next) =
+    (connection.requests ≤ most_requests) × IsUnderWay natives now next serving.interp
+    × ((request : Open) × Serves natives serving next request)
+    × (serving_steps serving.written next serving.interp ≤ most_steps)
+
+-- A worker is ready, where the blueprint is this now.
+abbrev pub IsReady : List (List ℕ) → State → code_worker.Worker → Type 0
+IsReady natives now worker = KeepsOn natives now worker.keeper × IsTaskReady natives now worker.task
+
+-- One goes with each step of a worker that isn't idle: how many requests its connection may have still, and then how many steps the
+-- one under way may take.
+abbrev pub requests_left : Task → ℕ
+requests_left tasks.Idle = 0
+requests_left (tasks.Between connection) = (most_requests - connection.requests) + 1
+requests_left (tasks.Serving connection serving next) = (most_requests - connection.requests) + 1
+
+-- The number that falls is that of the requests first, and then that of the steps.
+abbrev pub task_steps : Task → ℕ
+task_steps tasks.Idle = 0
+task_steps (tasks.Between connection) = 0
+task_steps (tasks.Serving connection serving next) = serving_steps serving.written next serving.interp
+
+abbrev pub StepsDown : code_worker.Worker → code_worker.Worker → Type 0
+StepsDown before after =
+    (before.task ≢ tasks.Idle)
+    → (requests_left after.task < requests_left before.task)
+    ⊎ ((requests_left after.task ≡ requests_left before.task) × (task_steps after.task < task_steps before.task))
+
+-- A worker went from its place to another by Goes, whatever worker it shows, and this was told.
+abbrev pub Went : (ℕ → Setting → Place → List Line → Place → Type 0) → Setting
+    → code_worker.Worker → Objects → Listing → code_worker.Worker → Objects → Listing → Type 0
+Went Goes setting worker objects listing worker_after objects_after listed =
+    (before : Worker) → ShowsWorker setting.natives worker before
+    → (lines : List Line) × (after : Worker)
+    × Goes worker.number setting (record { worker = before; objects = objects }) lines (record { worker = after; objects = objects_after })
+    × ShowsWorker setting.natives worker_after after
+    × Tells listing lines listed
+
+-- The same, and the worker is ready again; the blueprint now is one of which that before could come to be this.
+pub record Moved (Goes : ℕ → Setting → Place → List Line → Place → Type 0) (setting : Setting)
+    (worker : code_worker.Worker) (objects : Objects) (listing : Listing)
+    (worker_after : code_worker.Worker) (objects_after : Objects) (listed : Listing) : Type 0 where
+  pub went : Went Goes setting worker objects listing worker_after objects_after listed
+  pub ready : IsReady setting.natives objects_after.blueprint worker_after
+  pub number : worker_after.number ≡ worker.number
+  pub reaches : Reaches objects.blueprint objects_after.blueprint
+
+-- one step
+abbrev pub Stepped : Setting → code_worker.Worker → Objects → Listing → code_worker.Worker → Objects → Listing → Type 0
+Stepped setting worker objects listing worker_after objects_after listed =
+    Moved Step setting worker objects listing worker_after objects_after listed × StepsDown worker worker_after
+
+-- ---- the scheduler
+
+abbrev pub IsResting : code_scheduler.Scheduler → Type 0
+IsResting scheduler = (scheduler.running ≡ None) × (length scheduler.due ≤ scheduler.begun)
+
+pub record ShowsScript (natives : List (List ℕ)) (running : Running) (next : Next) (script : Script) : Type 0 where
+  pub id : script.id ≡ running.id
+  pub blueprint : script.blueprint ≡ running.interp.blueprint.value
+  pub moment : script.moment ≡ running.moment
+  pub runs : RunsFor natives (script_progress natives script) next running.interp script.answers
+
+abbrev pub ShowsRunning : List (List ℕ) → Option (Running × Next) → Option Script → Type 0
+ShowsRunning natives None None = Unit {0}
+ShowsRunning natives None (Some script) = ⊥
+ShowsRunning natives (Some running) None = ⊥
+ShowsRunning natives (Some running) (Some script) = ShowsScript natives running.0 running.1 script
+
+pub record ShowsScheduler (natives : List (List ℕ)) (code : code_scheduler.Scheduler) (scheduler : Scheduler) : Type 0 where
+  pub waiting : scheduler.waiting ≡ drop code.begun code.due
+  pub running : ShowsRunning natives code.running scheduler.running
+
+-- The interpreter of a script can go on and stands for some scheduled script, and few steps are left to it.
+abbrev pub IsScriptReady : List (List ℕ) → State → Running × Next → Type 0
+IsScriptReady natives now running =
+    IsUnderWay natives now running.1 running.0.interp
+    × ((script : Script) × ShowsScript natives running.0 running.1 script)
+    × (last_steps running.1 running.0.interp ≤ most_steps)
+
+abbrev pub IsSchedulerReady : List (List ℕ) → State → code_scheduler.Scheduler → Type 0
+IsSchedulerReady natives now scheduler =
+    KeepsOn natives now scheduler.keeper × MatchOption scheduler.running (Unit {0}) (IsScriptReady natives now)
+
+-- the scheduler, as this is under way
+abbrev pub with_running : code_scheduler.Scheduler → Option (Running × Next) → code_scheduler.Scheduler
+with_running scheduler running = record scheduler { running = running }
+
+abbrev pub running_steps : Option (Running × Next) → ℕ
+running_steps None = 0
+running_steps (Some running) = last_steps running.1 running.0.interp
+
+abbrev pub SchedulerDown : code_scheduler.Scheduler → code_scheduler.Scheduler → Type 0
+SchedulerDown before after =
+    ¬ (IsResting before)
+    → ((length after.due - after.begun) < (length before.due - before.begun))
+    ⊎ (((length after.due - after.begun) ≡ (length before.due - before.begun)) × (running_steps after.running < running_steps before.running))
+
+-- The scheduler went from its place to another by Goes, whatever scheduler it shows, and this was told; and it is ready again.
+pub record Turned (Goes : Setting → Agenda → List Line → Agenda → Type 0) (setting : Setting)
+    (code : code_scheduler.Scheduler) (objects : Objects) (listing : Listing)
+    (code_after : code_scheduler.Scheduler) (objects_after : Objects) (listed : Listing) : Type 0 where
+  pub went : (before : Scheduler) → ShowsScheduler setting.natives code before
+      → (lines : List Line) × (after : Scheduler)
+      × Goes setting (record { scheduler = before; objects = objects }) lines (record { scheduler = after; objects = objects_after })
+      × ShowsScheduler setting.natives code_after after
+      × Tells listing lines listed
+  pub ready : IsSchedulerReady setting.natives objects_after.blueprint code_after
+  pub reaches : Reaches objects.blueprint objects_after.blueprint
+
+-- one step
+abbrev pub ScheduleStepped : Setting → code_scheduler.Scheduler → Objects → Listing → code_scheduler.Scheduler → Objects → Listing → Type 0
+ScheduleStepped setting code objects listing code_after objects_after listed =
+    Turned ScheduleStep setting code objects listing code_after objects_after listed × SchedulerDown code code_after
+
+-- ---- definition runs
+
+-- A run of the program stands for this one and the answers that it has had.
+pub record DefinesAs (natives : List (List ℕ)) (next : Next) (run : Run) (seen : Defining) : Type 0 where
+  pub blueprint : seen.blueprint ≡ run.interp.blueprint.value
+  pub moment : seen.moment ≡ run.moment
+  pub epoch : seen.epoch ≡ run.epoch
+  pub runs : RunsFor natives (define_progress natives seen) next run.interp seen.answers
+
+-- Whatever is told of the later run, from these objects on, is what is told of the earlier one.
+abbrev pub Continues : Setting → Defining → Objects → Defining → Objects → Type 0
+Continues setting earlier before later between =
+    (line : Line) (after : Objects) → Settles setting later between line after → Settles setting earlier before line after
+
+-- A question of a run was answered: whatever run it stood for, it stands now for one that goes on from there.
+pub record WentOn (setting : Setting) (question : Question) (run : Run) (objects : Objects) (next : Next) (run_after : Run) (objects_after : Objects) : Type 0 where
+  pub goes : (seen : Defining) → DefinesAs setting.natives (nexts.Asks question) run seen
+      → (later : Defining) × DefinesAs setting.natives next run_after later × Continues setting seen objects later objects_after
+  pub ready : IsUnderWay setting.natives objects_after.blueprint next run_after.interp
+  pub reaches : Reaches objects.blueprint objects_after.blueprint
+  pub falls : Falls next run_after.interp (number_of run.interp)
+
+-- A run went on to its end: whatever run it stood for, this is told of it.
+pub record Finished (setting : Setting) (first : Next) (run : Run) (objects : Objects) (outcome : Outcome) (run_after : Run) (objects_after : Objects) : Type 0 where
+  pub settles : (seen : Defining) → DefinesAs setting.natives first run seen
+      → Settles setting seen objects (define_line run_after.epoch outcome) objects_after
+  pub is_end : IsEnd outcome
+  pub ready : IsUnderWay setting.natives objects_after.blueprint (nexts.Ended outcome) run_after.interp
+  pub reaches : Reaches objects.blueprint objects_after.blueprint
+
+-- A run was played to its end, which was told.
+abbrev pub Settled : Setting → Defining → Objects → Listing → Objects → Listing → Type 0
+Settled setting run before listing after listed =
+    (line : Line) × Settles setting run before line after × Reaches before.blueprint after.blueprint × Tells listing (line ∷ []) listed
+
+-- ---- events
 
 -- The machine shows this world, with natives of these names.
 pub record Shows (natives : List (List ℕ)) (machine : Machine) (world : World) : Type 0 where
   pub started : world.started ≡ machine.started
-  pub now : world.now ≡ now_of natives machine.now
-  pub arrays : world.arrays ≡ machine.arrays
-  pub workers : ShowsWorkers natives machine.workers.items world.workers
+  pub setting : world.setting ≡ setting_of natives machine.setting
+  pub objects : world.objects ≡ machine.objects
+  pub scheduler : ShowsScheduler natives machine.scheduler world.scheduler
+  pub workers : ShowsWorkers natives 0 machine.workers.items world.workers
 
--- ---- what it does
+abbrev pub AreReady : List (List ℕ) → State → List code_worker.Worker → Type 0
+AreReady natives now [] = Unit {0}
+AreReady natives now (x ∷ xs) = IsReady natives now x × AreReady natives now xs
 
--- A worker went from its place to another by Goes, with some output behind the listing.
-abbrev pub Went : (ℕ → Now → Place → List ℕ → Place → Type 0) → ℕ → Now
-    → code_worker.Worker → AllArrays → List ℕ → code_worker.Worker → AllArrays → List ℕ → Type 0
-Went Goes number now worker arrays listing worker_after arrays_after listed =
-    (before : Worker) → ShowsWorker now.natives worker before
-    → (output : List ℕ) × (after : Worker)
-    × Goes number now (record { worker = before; arrays = arrays }) output (record { worker = after; arrays = arrays_after })
-    × ShowsWorker now.natives worker_after after
-    × (listed ≡ listing ++ output)
+-- All that takes steps is ready, with natives of these names.
+pub record IsMachineReady (natives : List (List ℕ)) (machine : Machine) : Type 0 where
+  pub definer : KeepsOn natives machine.objects.blueprint machine.definer.keeper
+  pub scheduler : IsSchedulerReady natives machine.objects.blueprint machine.scheduler
+  pub workers : AreReady natives machine.objects.blueprint machine.workers.items
+  pub few : length machine.workers.items ≤ most_workers
 
--- Its interpreter, if it has one, stands at what it answered.
-abbrev pub IsReady : code_worker.Worker → Type 0
-IsReady code_workers.Idle = Unit {0}
-IsReady (code_workers.Waiting waiting) = Unit {0}
-IsReady (code_workers.Serving serving) = StandsAt serving.next serving.interp
-IsReady code_workers.AtEnd = Unit {0}
-
-abbrev pub AreReady : List code_worker.Worker → Type 0
-AreReady [] = Unit {0}
-AreReady (x ∷ xs) = IsReady x × AreReady xs
-
--- how many steps a worker may take still, once its request began
-abbrev pub next_steps : Next → ℕ → ℕ
-next_steps (nexts.Asks question) questions = questions + 4
-next_steps (nexts.Write response) questions = 3
-next_steps (nexts.Ended outcome) questions = 2
-next_steps nexts.NoMemory questions = 2
-
-abbrev pub steps_left : code_worker.Worker → ℕ
-steps_left code_workers.Idle = 0
-steps_left (code_workers.Waiting waiting) = 0
-steps_left (code_workers.Serving serving) = next_steps serving.next (questions_left serving.interp)
-steps_left code_workers.AtEnd = 1
-
--- Its input was begun, if it has one, and the worker isn't idle.
-abbrev pub IsBusy : code_worker.Worker → Type 0
-IsBusy code_workers.Idle = ⊥
-IsBusy (code_workers.Waiting waiting) = ⊥
-IsBusy (code_workers.Serving serving) = Unit {0}
-IsBusy code_workers.AtEnd = Unit {0}
-
--- It serves no request, and has none to begin.
-abbrev pub HasNone : code_worker.Worker → Type 0
-HasNone code_workers.Idle = Unit {0}
-HasNone (code_workers.Waiting waiting) = ⊥
-HasNone (code_workers.Serving serving) = ⊥
-HasNone code_workers.AtEnd = Unit {0}
-
--- It has no input that was not begun.
-abbrev pub HasBegun : code_worker.Worker → Type 0
-HasBegun code_workers.Idle = Unit {0}
-HasBegun (code_workers.Waiting waiting) = ⊥
-HasBegun (code_workers.Serving serving) = Unit {0}
-HasBegun code_workers.AtEnd = Unit {0}
-
--- ---- definition runs
-
--- what was published and the shared arrays, and no page
-abbrev pub objects_at : Blueprint → AllArrays → Objects
-objects_at blueprint arrays = record { blueprint = blueprint; pages = no_pages; arrays = arrays }
-
--- A run of the program stands for this one and the answers that it has had, with natives of these names.
-pub record RunsAs (natives : List (List ℕ)) (next : Next) (run : Run) (seen : Defining) : Type 0 where
-  pub stands : Stands natives (define_progress natives seen) next run.interp seen.answers
-  pub epoch : seen.epoch ≡ run.epoch
-
--- Whatever is told of the later run, from these objects on, is what is told of the earlier one.
-abbrev pub Continues : List (List ℕ) → Defining → Objects → Defining → Objects → Type 0
-Continues natives earlier before later between =
-    (output : List ℕ) (after : Objects) → Settles natives later between output after → Settles natives earlier before output after
-
--- A run went on to its end, which was told behind the listing.
-abbrev pub Settled : List (List ℕ) → Defining → Objects → List ℕ → Objects → List ℕ → Type 0
-Settled natives run before listing after listed = (output : List ℕ) × Settles natives run before output after × (listed ≡ listing ++ output)
-
--- how many questions a run may ask still, and the one at which it stands
-abbrev pub questions_of : Next → ℕ → ℕ
-questions_of (nexts.Asks question) questions = questions + 1
-questions_of (nexts.Write response) questions = 0
-questions_of (nexts.Ended outcome) questions = 0
-questions_of nexts.NoMemory questions = 0
-
--- ---- events
-
--- The machine did what an event says and put the output behind the listing, whatever world it shows; or the event may
--- not come, and nothing changed.
-abbrev pub Did : List (List ℕ) → Bool → Event → Machine → List ℕ → Machine → List ℕ → Type 0
+-- The machine did what an event says and told it, whatever world it shows; or the event may not come, and nothing changed.
+abbrev pub Did : List (List ℕ) → Bool → Event → Machine → Listing → Machine → Listing → Type 0
 Did natives true e before listing after listed =
     (world : World) → Shows natives before world
-    → (output : List ℕ) × (next : World) × Does world e output next × Shows natives after next × (listed ≡ listing ++ output)
+    → MayCome world e
+    × ((lines : List Line) × (next : World) × Does world e lines next × Shows natives after next × Tells listing lines listed)
 Did natives false e before listing after listed =
-    ((world : World) → Shows natives before world → (output : List ℕ) (next : World) → ¬ (Does world e output next)) × (after ≡ before) × (listed ≡ listing)
+    ((world : World) → Shows natives before world → ¬ (MayCome world e)) × (after ≡ before) × (listed ≡ listing)
 
--- The event came, and its output was put behind the listing; or it may not come, and nothing changed.
-abbrev pub Came : Bool → Event → World → List ℕ → World → List ℕ → Type 0
-Came true e before listing after listed = (output : List ℕ) × Plays before e output after × (listed ≡ listing ++ output)
-Came false e before listing after listed =
-    ((output : List ℕ) (world : World) → ¬ (Plays before e output world)) × (after ≡ before) × (listed ≡ listing)
+-- An event was played so, whatever world the machine shows; or it may not come, and nothing changed.
+abbrev pub Played : List (List ℕ) → Bool → Event → Machine → Listing → Machine → Listing → Type 0
+Played natives true e before listing after listed =
+    (world : World) → Shows natives before world
+    → (lines : List Line) × (next : World) × Plays world e lines next × Shows natives after next × Tells listing lines listed
+Played natives false e before listing after listed = Did natives false e before listing after listed
 
--- An event was played so, whatever world the machine shows.
-abbrev pub Played : List (List ℕ) → Bool → Event → Machine → List ℕ → Machine → List ℕ → Type 0
-Played natives came e before listing after listed =
-    (world : World) → Shows natives before world → (next : World) × Shows natives after next × Came came e world listing next listed
+-- ---- reading in pieces
 
--- The event that comes next was played, and this is left; or none comes next.
-abbrev pub PlaysNext : Option (List ℕ) → World → ℕ → List ℕ → List ℕ → World → List ℕ → Type 0
-PlaysNext (Some rest) before place left listing after listed =
-    (e : Event) × (left ≡ spelled e ++ rest) × (place + length (spelled e) ≤ most_bytes) × Came true e before listing after listed
-PlaysNext None before place left listing after listed =
-    ((e : Event) → ¬ (ComesNext before place left e)) × (listed ≡ listing)
+-- how a rehearsal ends of which the event of this number didn't come
+abbrev pub by_left : List ℕ → ℕ → Rehearsal
+by_left [] event = answers.Done
+by_left (byte ∷ left) event = answers.BadEvent event
 
--- The machine did so with what is left, whatever world it shows.
-abbrev pub PlayedNext : List (List ℕ) → Option (List ℕ) → Machine → ℕ → List ℕ → List ℕ → Machine → List ℕ → Type 0
-PlayedNext natives found before place left listing after listed =
-    (world : World) → Shows natives before world → (next : World) × Shows natives after next × PlaysNext found world place left listing next listed
+abbrev pub ending_of : Option Stopped → List ℕ → ℕ → Rehearsal
+ending_of None left event = answers.BadEvent event
+ending_of (Some stops.AtEnd) left event = by_left left event
+ending_of (Some stops.AtFault) left event = answers.ReadFault
+
+-- how many bytes a read gave, and why it is the last one
+abbrev pub count_of : ReadAnswer → ℕ
+count_of (Bytes count) = count
+count_of Failed = 0
+
+abbrev pub stop_of : ReadAnswer → Option Stopped
+stop_of (Bytes zero) = Some stops.AtEnd
+stop_of (Bytes (suc count)) = None
+stop_of Failed = Some stops.AtFault
+
+-- Why reading stopped: nothing is left to give, where the source told at first what it had; or its count rose since it was this.
+abbrev pub StopsAt : Option Stopped → Option (List ℕ) → Option (List ℕ) → ℕ → ℕ → Type 0
+StopsAt None told rest first faults = Unit {0}
+StopsAt (Some stops.AtEnd) told rest first faults = (input : List ℕ) → told ≡ Some input → rest ≡ Some []
+StopsAt (Some stops.AtFault) told rest first faults = Rose first faults
+
+-- Nothing of what was read and not played is lost, and more may have come. Where reading has stopped, the cause is one since any
+-- earlier moment from which on the source gave what it gave.
+pub record Fetches (before : IntakeState) (rest : Option (List ℕ)) (faults : ℕ) (after : IntakeState) (rest_after : Option (List ℕ)) (faults_after : ℕ) : Type 0 where
+  pub given : List ℕ
+  pub gives : Gives rest given rest_after
+  pub left : after.left ≡ before.left ++ given
+  pub place : after.place ≡ before.place
+  pub counts : faults ≤ faults_after
+  pub stops : (told : Option (List ℕ)) (all : List ℕ) (first : ℕ) → Gives told all rest → first ≤ faults
+      → StopsAt before.stopped told rest first faults → StopsAt after.stopped told rest_after first faults_after
+
+-- a piece came, or reading has stopped
+abbrev pub Took : Bool → IntakeState → IntakeState → Type 0
+Took true before after = (length (before.left) < length (after.left)) × (after.stopped ≡ None)
+Took false before after = (after.left ≡ before.left) × (after.stopped ≢ None)
+
+-- none of these bytes is a newline
+abbrev pub HasNoNewline : List ℕ → Type 0
+HasNoNewline bytes = IsTrue (list_all (is_other 10) bytes)
+
+-- A line of so many bytes stands in front, with its newline; or no newline is there, and reading has stopped, or a line that ends
+-- behind what is there goes past the last byte.
+abbrev pub FindsLine : Option ℕ → IntakeState → Type 0
+FindsLine (Some size) after =
+    (line : List ℕ) × (rest : List ℕ) × (after.left ≡ line ++ 10 ∷ rest) × HasNoNewline line × (length line ≡ size)
+FindsLine None after = HasNoNewline (after.left) × ((after.stopped ≢ None) ⊎ ((most_bytes - after.place) < length (after.left)))
+
+-- so many bytes are there, or fewer, and reading has stopped
+abbrev pub HasBytes : Bool → ℕ → IntakeState → Type 0
+HasBytes true size after = size ≤ length (after.left)
+HasBytes false size after = (length (after.left) < size) × (after.stopped ≢ None)
+
+-- there are no more workers than there may be
+abbrev pub HasFew : World → Type 0
+HasFew world = length world.workers ≤ most_workers
+
+-- no event comes next in what is left and these further bytes, in any world of few workers
+abbrev pub IsNoEvent : IntakeState → List ℕ → Type 0
+IsNoEvent after more = (world : World) (e : Event) → HasFew world → ¬ (ComesNext world after.place (after.left ++ more) e)
+
+-- The front of what is left may be an event of so many bytes, at least one, and is none of another length, whatever follows. Or no event
+-- comes next in what is left; and reading has stopped, or something is left and none comes next whatever follows.
+abbrev pub FindsEvent : Option ℕ → IntakeState → Type 0
+FindsEvent (Some size) after =
+    (0 < size) × (size ≤ length (after.left)) × (after.place + size ≤ most_bytes)
+    × ((more : List ℕ) (world : World) (e : Event) → HasFew world → ComesNext world after.place (after.left ++ more) e → length (spelled e) ≡ size)
+FindsEvent None after =
+    IsNoEvent after []
+    × ((after.stopped ≢ None) ⊎ ((¬ (after.left ≡ [])) × ((more : List ℕ) → IsNoEvent after more)))
 
 -- ---- files
 
-abbrev pub end_of : code_ending.Ending → End
-end_of code_endings.Whole = whole
-end_of (code_endings.Bad event) = bad event
+-- A rehearsal under way: the bytes that were given begin with the events that were played, which lead to a world that the machine
+-- shows; of their listing this was passed on, and the rest stands ready.
+pub record SoFar (natives : List (List ℕ)) (before now : Outside) (play : Play) : Type 0 where
+  pub given : List ℕ
+  pub events : List Event
+  pub lines : List Line
+  pub world : World
+  pub passed : List ℕ
+  pub read : Gives before.input given now.input
+  pub counts : KeepsCounts before now
+  pub stops : StopsAt play.intake.stopped before.input now.input before.read_faults now.read_faults
+  pub opens : Opens natives given events lines world play.intake.left
+  pub place : play.intake.place ≡ length (file_of events)
+  pub counted : play.events ≡ length events
+  pub shows : Shows natives play.machine world
+  pub ready : IsMachineReady natives play.machine
+  pub listed : listing_of lines ≡ passed ++ play.listing.text
+  pub tally : play.listing.tally ≡ tally_of lines
+  pub written : play.written ≡ length passed
+  pub gained : Gains before.output passed now.output
 
--- Why reading the input stopped: at its end; with more bytes than events may have; or at a fault.
-abbrev pub StopsAt : code_stopped.Stopped → Option (List ℕ) → ℕ → List ℕ → ℕ → Type 0
-StopsAt code_stops.AtEnd rest faults given faults_after = (input : List ℕ) → rest ≡ Some input → input ≡ given
-StopsAt code_stops.AtLimit rest faults given faults_after = most_bytes < length given
-StopsAt code_stops.AtFault rest faults given faults_after = Rose faults faults_after
+-- The event of so many bytes in front came and stands told; or it may not come, and all is as it was.
+abbrev pub PlaysOne : List (List ℕ) → Bool → ℕ → Play → Play → Type 0
+PlaysOne natives true size before after = (outside now : Outside) → SoFar natives outside now before → SoFar natives outside now after
+PlaysOne natives false size before after =
+    (after ≡ before)
+    × ((more : List ℕ) (world : World) → Shows natives before.machine world
+    → (e : Event) → length (spelled e) ≡ size → ¬ (ComesNext world before.intake.place (before.intake.left ++ more) e))
 
--- the answer where the whole listing was written: a fault of the source goes before a bad event
-abbrev pub answer_of : code_stopped.Stopped → code_ending.Ending → Rehearsal
-answer_of code_stops.AtFault ending = answers.ReadFault
-answer_of stopped code_endings.Whole = answers.Done
-answer_of stopped (code_endings.Bad event) = answers.BadEvent event
+-- What stood ready was passed on; or the sink failed, when it had taken so many bytes of the whole listing.
+abbrev pub PassesOn : List (List ℕ) → Option Rehearsal → Outside → Outside → Play → Play → Outside → Type 0
+PassesOn natives None outside now before after then = SoFar natives outside now before → SoFar natives outside then after × (after.listing.text ≡ [])
+PassesOn natives (Some answer) outside now before after then = SoFar natives outside now before → Ends natives outside answer then
+
+-- a fault that was met is one of the sink
+abbrev pub IsOfSink : Option Rehearsal → Type 0
+IsOfSink None = Unit {0}
+IsOfSink (Some answers.Done) = ⊥
+IsOfSink (Some (answers.BadEvent event)) = ⊥
+IsOfSink (Some answers.ReadFault) = ⊥
+IsOfSink (Some (answers.WriteFault sent)) = Unit {0}
+IsOfSink (Some answers.NoMemory) = ⊥
+
+-- what a source and a sink tell of themselves
+abbrev pub outside_of : Option (List ℕ) → ℕ → Option (List ℕ) → ℕ → Outside
+outside_of input read_faults output write_faults =
+    record { input = input; read_faults = read_faults; output = output; write_faults = write_faults }
+
+-- what was counted of the whole input, where that is told
+abbrev pub IsCounted : List (List ℕ) → Option (List ℕ) → Rehearsal → Tally → Type 0
+IsCounted natives told answers.Done tally =
+    (input : List ℕ) → told ≡ Some input → (events : List Event) × (lines : List Line) × Holds natives input events lines whole × (tally ≡ tally_of lines)
+IsCounted natives told (answers.BadEvent event) tally = Unit {0}
+IsCounted natives told answers.ReadFault tally = Unit {0}
+IsCounted natives told (answers.WriteFault sent) tally = Unit {0}
+IsCounted natives told answers.NoMemory tally = Unit {0}

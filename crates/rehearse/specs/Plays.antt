@@ -1,86 +1,133 @@
 -- What the events of a rehearsal do.
-use Rattle.std.specs.Prelude.{◌≡◌, ℕ, ◌≤◌, List, [], ◌∷◌, ◌++◌, length, false, slice_get, slice_set, Some, None}
-use Rattle.http_req.specs.declared.request.Request.{Request}
-use Rattle.rehearse.specs.Events.{Event, workers, clock, define, connect, step, run, most_block}
-use Rattle.rehearse.specs.Requests.{IsEarlyRequest}
-use Rattle.rehearse.specs.Defining.{Objects, begun_block, Settles}
-use Rattle.rehearse.specs.Steps.{Place, Step, Runs}
-use Rattle.rehearse.specs.World.{World, Worker, Now, idle, connected, all_idle, with_moment, with_workers, as_started}
+use Rattle.std.specs.Prelude.{◌≡◌, ℕ, ◌<◌, ◌≤◌, List, [], ◌∷◌, ◌++◌, length, false, slice_get, slice_set, ◌||◌, ◌==◌, Bool, Some}
+use Rattle.std.specs.FinMap as map
+use Rattle.std.specs.List.{list_any}
+use Rattle.txt_core.specs.Limits.{last_moment}
+use Rattle.rehearse.specs.Events.{Actor, worker, scheduler, Event, workers, clock, page, define, connect, step, run, most_page, most_block, most_input, most_workers}
+use Rattle.rehearse.specs.Lines.{Line}
+use Rattle.rehearse.specs.Objects.{Setting}
+use Rattle.rehearse.specs.declared.objects.Objects.{Objects}
+use Rattle.rehearse.specs.Defining.{begun_block, Settles}
+use Rattle.rehearse.specs.Schedules.{Agenda, ScheduleStep, ScheduleRuns}
+use Rattle.rehearse.specs.Steps.{Place, Step, RunsUntilIdle}
+use Rattle.rehearse.specs.World.{World, Worker, idle, connected, new_connection, all_idle, opening, with_setting, with_objects, with_workers, as_started}
 
--- the greatest number of workers
-abbrev pub most_workers : ℕ
-most_workers = 16
+-- ---- which events may come
 
--- the last moment that the clock can show: the last second of the year 9999
-abbrev pub last_moment : ℕ
-last_moment = 253402300799
+-- a word of a line has neither a space nor a newline
+abbrev pub is_break : ℕ → Bool
+is_break byte = byte == 32 || byte == 10
 
--- The first event alone may say how many workers there are: from 1 to 16.
-pub record SetsWorkers (before : World) (count : ℕ) (output : List ℕ) (after : World) : Type 0 where
-  pub first : before.started ≡ false
-  pub some : 1 ≤ count
-  pub few : count ≤ most_workers
-  pub output_is : output ≡ []
-  pub after_is : after ≡ with_workers before (all_idle count)
+-- a path is a word that begins with a slash
+abbrev pub IsPath : List ℕ → Type 0
+IsPath path = (rest : List ℕ) × (path ≡ 47 ∷ rest) × (list_any is_break rest ≡ false)
 
--- The clock shows this moment.
-pub record Sets (before : World) (moment : ℕ) (output : List ℕ) (after : World) : Type 0 where
-  pub in_time : moment ≤ last_moment
-  pub output_is : output ≡ []
-  pub after_is : after ≡ with_moment before moment
+-- the scheduler is always there, and a worker where its number is below that of the workers
+abbrev pub IsThere : World → Actor → Type 0
+IsThere world (worker number) = number < length world.workers
+IsThere world scheduler = Unit {0}
 
--- what was published, the pages and the shared arrays
-abbrev pub objects_of : World → Objects
-objects_of world = record { blueprint = world.now.blueprint; pages = world.now.pages; arrays = world.arrays }
+-- An event may come in a world by what it says and by which workers there are and are idle, whatever would come of it.
+abbrev pub MayCome : World → Event → Type 0
+-- the first event alone says how many workers there are: from 1 to 16
+MayCome world (workers count) = (world.started ≡ false) × (1 ≤ count) × (count ≤ most_workers)
+-- the moment is one that the clock can show
+MayCome world (clock moment) = moment ≤ last_moment
+-- the path is one, and the page isn't too long
+MayCome world (page path text) = IsPath path × (length text ≤ most_page)
+-- the block isn't too long
+MayCome world (define block) = length block ≤ most_block
+-- there is a worker of this number, it is idle, and the input isn't too long
+MayCome world (connect number input) = (slice_get world.workers number ≡ Some idle) × (length input ≤ most_input)
+-- the actor is there
+MayCome world (step actor) = IsThere world actor
+MayCome world (run actor) = IsThere world actor
 
-abbrev pub with_objects : World → Objects → World
-with_objects world objects = record world {
-  now = record { natives = world.now.natives; moment = world.now.moment; pages = objects.pages; blueprint = objects.blueprint };
-  arrays = objects.arrays;
-}
+-- ---- what is around
+
+-- Nothing is told, and this is the world after it.
+abbrev pub Quietly : World → List Line → World → Type 0
+Quietly next lines after = (lines ≡ []) × (after ≡ next)
+
+-- so many workers, all idle
+abbrev pub SetsWorkers : World → ℕ → List Line → World → Type 0
+SetsWorkers before count lines after = Quietly (with_workers before (all_idle count)) lines after
+
+-- the clock shows this moment
+abbrev pub SetsClock : World → ℕ → List Line → World → Type 0
+SetsClock before moment lines after = Quietly (with_setting before (record before.setting { moment = moment })) lines after
+
+-- the page of a path is this text, whatever it was
+abbrev pub SetsPage : World → List ℕ → List ℕ → List Line → World → Type 0
+SetsPage before path text lines after =
+    Quietly (with_setting before (record before.setting { pages = map.insert before.setting.pages path text })) lines after
+
+-- the worker of this number has a connection with this input
+abbrev pub Connects : World → ℕ → List ℕ → List Line → World → Type 0
+Connects before number input lines after =
+    Quietly (with_workers before (slice_set before.workers number (connected (new_connection input)))) lines after
+
+-- ---- what runs
 
 -- A block is run on the blueprint and at the moment as they are, to its end, which is told.
-pub record Defines (before : World) (block : List ℕ) (output : List ℕ) (after : World) : Type 0 where
+pub record Defines (before : World) (block : List ℕ) (lines : List Line) (after : World) : Type 0 where
   pub objects : Objects
-  pub fits : length block ≤ most_block
-  pub settles : Settles before.now.natives (begun_block before.now.moment before.now.blueprint block) (objects_of before) output objects
+  pub line : Line
+  pub settles : Settles before.setting (begun_block before.setting before.objects block) before.objects line objects
+  pub lines_are : lines ≡ line ∷ []
   pub after_is : after ≡ with_objects before objects
 
--- The worker of this number, which is idle, gets a connection whose input is a request.
-pub record Connects (before : World) (number : ℕ) (input : List ℕ) (output : List ℕ) (after : World) : Type 0 where
-  pub request : Request
-  pub fits : length input ≤ most_block
-  pub free : slice_get before.workers number ≡ Some idle
-  pub input_is : IsEarlyRequest input request
-  pub output_is : output ≡ []
-  pub after_is : after ≡ with_workers before (slice_set before.workers number (connected input None))
-
--- The worker of this number goes from its place to another, and so do the arrays; the others stay.
-pub record Moves (Goes : ℕ → Now → Place → List ℕ → Place → Type 0) (before : World) (number : ℕ) (output : List ℕ) (after : World) : Type 0 where
-  pub worker : Worker
+-- The worker of this number goes from its place to another, and so do the objects; the others stay.
+pub record Moves (Goes : ℕ → Setting → Place → List Line → Place → Type 0) (before : World) (number : ℕ) (lines : List Line) (after : World) : Type 0 where
+  pub mover : Worker
   pub place : Place
-  pub there : slice_get before.workers number ≡ Some worker
-  pub goes : Goes number before.now (record { worker = worker; arrays = before.arrays }) output place
-  pub after_is : after ≡ record before { arrays = place.arrays; workers = slice_set before.workers number place.worker }
+  pub there : slice_get before.workers number ≡ Some mover
+  pub goes : Goes number before.setting (record { worker = mover; objects = before.objects }) lines place
+  pub after_is : after ≡ record before { objects = place.objects; workers = slice_set before.workers number place.worker }
 
--- What an event does.
-abbrev pub Does : World → Event → List ℕ → World → Type 0
-Does before (workers count) output after = SetsWorkers before count output after
-Does before (clock moment) output after = Sets before moment output after
-Does before (define block) output after = Defines before block output after
-Does before (connect number input) output after = Connects before number input output after
-Does before (step number) output after = Moves Step before number output after
-Does before (run number) output after = Moves Runs before number output after
+-- The scheduler does, and so do the objects.
+pub record Turns (Goes : Setting → Agenda → List Line → Agenda → Type 0) (before : World) (lines : List Line) (after : World) : Type 0 where
+  pub agenda : Agenda
+  pub goes : Goes before.setting (record { scheduler = before.scheduler; objects = before.objects }) lines agenda
+  pub after_is : after ≡ record before { scheduler = agenda.scheduler; objects = agenda.objects }
 
--- An event may come in a world, and this is its output and the world after it. An event that may not
--- come has none.
-abbrev pub Plays : World → Event → List ℕ → World → Type 0
-Plays before e output after = (done : World) × Does before e output done × (after ≡ as_started done)
+abbrev pub StepsActor : World → Actor → List Line → World → Type 0
+StepsActor before (worker number) lines after = Moves Step before number lines after
+StepsActor before scheduler lines after = Turns ScheduleStep before lines after
 
--- The listing of events that come one after another: their outputs, joined.
-pub data Listing : World → List Event → List ℕ → World → Type 0 where
-  no_event : {world : World} → Listing world [] [] world
-  one_event : {before between after : World} {e : Event} {events : List Event} (output outputs : List ℕ)
-      → Plays before e output between
-      → Listing between events outputs after
-      → Listing before (e ∷ events) (output ++ outputs) after
+abbrev pub RunsActor : World → Actor → List Line → World → Type 0
+RunsActor before (worker number) lines after = Moves RunsUntilIdle before number lines after
+RunsActor before scheduler lines after = Turns ScheduleRuns before lines after
+
+-- ---- events
+
+-- What an event does, and what is told of it.
+abbrev pub Does : World → Event → List Line → World → Type 0
+Does before (workers count) lines after = SetsWorkers before count lines after
+Does before (clock moment) lines after = SetsClock before moment lines after
+Does before (page path text) lines after = SetsPage before path text lines after
+Does before (define block) lines after = Defines before block lines after
+Does before (connect number input) lines after = Connects before number input lines after
+Does before (step actor) lines after = StepsActor before actor lines after
+Does before (run actor) lines after = RunsActor before actor lines after
+
+-- An event may come in a world, this is told of it, and that is the world after it.
+pub record Plays (before : World) (e : Event) (lines : List Line) (after : World) : Type 0 where
+  pub done : World
+  pub may_come : MayCome before e
+  pub does : Does before e lines done
+  pub after_is : after ≡ as_started done
+
+-- The listing of events that come one after another: what is told of each, one behind the other.
+pub data Lists : World → List Event → List Line → World → Type 0 where
+  no_event : {world : World} → Lists world [] [] world
+  one_event : {before between after : World} {e : Event} {events : List Event} (lines others : List Line)
+      → Plays before e lines between
+      → Lists between events others after
+      → Lists before (e ∷ events) (lines ++ others) after
+
+-- A world that some events lead to, from the one before the first event on.
+pub record Reached (natives : List (List ℕ)) (world : World) : Type 0 where
+  pub events : List Event
+  pub lines : List Line
+  pub lists : Lists (opening natives) events lines world

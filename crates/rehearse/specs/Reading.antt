@@ -1,102 +1,131 @@
--- What the readers of the program find: a value that is as a rule says, or none exactly where no value is.
-use Rattle.std.specs.Prelude.{◌≡◌, ℕ, ◌<◌, ◌≤◌, List, ◌∷◌, ◌++◌, length, IsTrue, Option, MatchOption, decimal, codes}
-use Rattle.std.specs.List.{list_all}
+-- What the readers of the program find.
+use Rattle.std.specs.Prelude.{◌≡◌, ℕ, ◌+◌, ◌≤◌, List, [], ◌∷◌, ◌++◌, length, Bool, not, ◌==◌, IsTrue, Option, Some, None, decimal, codes}
+use Rattle.std.specs.List.{list_all, join_with_byte}
 use Rattle.rehearse.specs.declared.event.Event as code_event
 use Rattle.rehearse.specs.declared.event.Event.TheVariants as code_events
+use Rattle.rehearse.specs.declared.head.Actor as code_actor
+use Rattle.rehearse.specs.declared.head.Actor.TheVariants as code_actors
+use Rattle.rehearse.specs.declared.head.Head.{Head}
+use Rattle.rehearse.specs.declared.head.Head.TheVariants as heads
 use Rattle.rehearse.specs.declared.keyword.Keyword.{Keyword}
 use Rattle.rehearse.specs.declared.keyword.Keyword.TheVariants as keywords
-use Rattle.rehearse.specs.Letters.{is_other}
-use Rattle.rehearse.specs.Events.{Event, workers, clock, define, connect, step, run, most_block, spelled, with_number, with_block}
-use Rattle.rehearse.specs.Requests.{get_of}
+use Rattle.rehearse.specs.Events.{Actor, worker, scheduler, actor_word, Event, workers, clock, page, define, connect, step, run, most_page, most_block, most_input}
+use Rattle.rehearse.specs.Numbers.{IsSmall}
+use Rattle.rehearse.specs.Plays.{IsPath}
 
--- What was found is right, and nothing was found exactly where nothing is right.
-abbrev pub Finds : {A : Type 0} → (A → Type 0) → Option A → Type 0
-Finds {A = A} IsRight found = MatchOption found ((x : A) → ¬ (IsRight x)) IsRight
+-- another byte than this one
+abbrev pub is_other : ℕ → ℕ → Bool
+is_other byte b = not (b == byte)
 
 -- A text is cut at the first of these bytes: the first part has none, and the second is behind it.
 abbrev pub CutAt : ℕ → List ℕ → List ℕ × List ℕ → Type 0
 CutAt byte text x = IsTrue (list_all (is_other byte) x.0) × (text ≡ x.0 ++ byte ∷ x.1)
 
--- A GET of a URL, which has no space, with the one field Host.
-abbrev pub GetAt : List ℕ → List ℕ × List ℕ → Type 0
-GetAt bytes x = IsTrue (list_all (is_other 32) x.0) × (bytes ≡ get_of x.0 x.1)
-
--- ---- events
+-- ---- lines
 
 -- the first word of each event
 abbrev pub name_of : Keyword → List ℕ
 name_of keywords.Workers = codes "workers"
 name_of keywords.Clock = codes "clock"
+name_of keywords.Page = codes "page"
 name_of keywords.Define = codes "define"
 name_of keywords.Connect = codes "connect"
 name_of keywords.Step = codes "step"
 name_of keywords.Run = codes "run"
 
--- A number of at most 12 digits, at the end of a line, and what is left behind the line.
-abbrev pub NumberAt : List ℕ → ℕ × List ℕ → Type 0
-NumberAt bytes x = (x.0 < 1000000000000) × (bytes ≡ with_number x.0 ++ x.1)
+abbrev pub actor_of : code_actor.Actor → Actor
+actor_of (code_actors.Worker number) = worker number
+actor_of code_actors.Scheduler = scheduler
 
--- A number of at most 8,388,608, at the end of a line, and what is left behind the line.
-abbrev pub LengthAt : List ℕ → ℕ × List ℕ → Type 0
-LengthAt bytes x = (x.0 ≤ most_block) × (bytes ≡ with_number x.0 ++ x.1)
+abbrev pub IsShortActor : Actor → Type 0
+IsShortActor (worker number) = IsSmall number
+IsShortActor scheduler = Unit {0}
 
--- A block of at most 8,388,608 bytes behind its length, and what is left.
-abbrev pub BlockAt : List ℕ → List ℕ × List ℕ → Type 0
-BlockAt bytes x = (length x.0 ≤ most_block) × (bytes ≡ with_block x.0 ++ x.1)
+-- the word of an actor, whose number is small
+abbrev pub IsActor : code_actor.Actor → List ℕ → Type 0
+IsActor actor word = IsShortActor (actor_of actor) × (word ≡ actor_word (actor_of actor))
 
--- A number of at most 12 digits, and behind a space a block.
-abbrev pub InputAt : List ℕ → ℕ × List ℕ × List ℕ → Type 0
-InputAt bytes x = (x.0 < 1000000000000) × (length x.1 ≤ most_block) × (bytes ≡ (decimal x.0 ++ codes " ") ++ with_block x.1 ++ x.2)
+-- a slash stands in front, and no space behind it
+abbrev pub IsPathWord : List ℕ → Type 0
+IsPathWord path = (rest : List ℕ) × (path ≡ 47 ∷ rest) × IsTrue (list_all (is_other 32) rest)
+
+-- the words of the line
+abbrev pub head_words : Head → List (List ℕ)
+head_words (heads.Workers count) = codes "workers" ∷ decimal count ∷ []
+head_words (heads.Clock moment) = codes "clock" ∷ decimal moment ∷ []
+head_words (heads.Page path size) = codes "page" ∷ path.now ∷ decimal size ∷ []
+head_words (heads.Define size) = codes "define" ∷ decimal size ∷ []
+head_words (heads.Connect number size) = codes "connect" ∷ decimal number ∷ decimal size ∷ []
+head_words (heads.Step actor) = codes "step" ∷ actor_word (actor_of actor) ∷ []
+head_words (heads.Run actor) = codes "run" ∷ actor_word (actor_of actor) ∷ []
+
+-- the length of the block
+abbrev pub head_block : Head → Option ℕ
+head_block (heads.Workers count) = None
+head_block (heads.Clock moment) = None
+head_block (heads.Page path size) = Some size
+head_block (heads.Define size) = Some size
+head_block (heads.Connect number size) = Some size
+head_block (heads.Step actor) = None
+head_block (heads.Run actor) = None
+
+-- its numbers are small, its block isn't too long, and its path may be one
+abbrev pub IsShortHead : Head → Type 0
+IsShortHead (heads.Workers count) = IsSmall count
+IsShortHead (heads.Clock moment) = IsSmall moment
+IsShortHead (heads.Page path size) = IsPathWord path.now × (size ≤ most_page)
+IsShortHead (heads.Define size) = size ≤ most_block
+IsShortHead (heads.Connect number size) = IsSmall number × (size ≤ most_input)
+IsShortHead (heads.Step actor) = IsShortActor (actor_of actor)
+IsShortHead (heads.Run actor) = IsShortActor (actor_of actor)
+
+abbrev pub IsHead : Head → List ℕ → Type 0
+IsHead head line = IsShortHead head × (line ≡ join_with_byte 32 (head_words head))
+
+-- the words behind `page`, and those behind `connect`
+abbrev pub PageAt : Head → List ℕ → Type 0
+PageAt head words = IsHead head (codes "page " ++ words)
+
+abbrev pub ConnectAt : Head → List ℕ → Type 0
+ConnectAt head words = IsHead head (codes "connect " ++ words)
+
+-- how many bytes stand behind the line
+abbrev pub behind_line : Option ℕ → ℕ
+behind_line None = 0
+behind_line (Some size) = size + 1
+
+-- the event of the line has so many bytes
+abbrev pub SizeOf : List ℕ → ℕ → Type 0
+SizeOf line size = (head : Head) × IsHead head line × (size ≡ length line + 1 + behind_line (head_block head))
+
+-- ---- events
 
 -- what an event of the program is
 abbrev pub event_of : code_event.Event → Event
 event_of (code_events.Workers count) = workers count
 event_of (code_events.Clock moment) = clock moment
+event_of (code_events.Page path text) = page path.now text.now
 event_of (code_events.Define block) = define block.now
-event_of (code_events.Connect worker input) = connect worker input.now
-event_of (code_events.Step worker) = step worker
-event_of (code_events.Run worker) = run worker
+event_of (code_events.Connect number input) = connect number input.now
+event_of (code_events.Step actor) = step (actor_of actor)
+event_of (code_events.Run actor) = run (actor_of actor)
 
--- The number of the event has at most 12 digits, and its block at most 8,388,608 bytes.
+-- The numbers of the event are small, its block isn't too long, and its path is one. Every event that may come is so.
 abbrev pub IsShort : Event → Type 0
-IsShort (workers count) = count < 1000000000000
-IsShort (clock moment) = moment < 1000000000000
+IsShort (workers count) = IsSmall count
+IsShort (clock moment) = IsSmall moment
+IsShort (page path text) = IsPath path × (length text ≤ most_page)
 IsShort (define block) = length block ≤ most_block
-IsShort (connect worker input) = (worker < 1000000000000) × (length input ≤ most_block)
-IsShort (step worker) = worker < 1000000000000
-IsShort (run worker) = worker < 1000000000000
+IsShort (connect number input) = IsSmall number × (length input ≤ most_input)
+IsShort (step actor) = IsShortActor actor
+IsShort (run actor) = IsShortActor actor
 
--- Such an event at the front, and what is left.
-abbrev pub EventAt : List ℕ → Event × List ℕ → Type 0
-EventAt bytes x = IsShort x.0 × (bytes ≡ spelled x.0 ++ x.1)
-
--- what stands behind the first word of an event and its space
-abbrev pub tail_of : Event → List ℕ
-tail_of (workers count) = with_number count
-tail_of (clock moment) = with_number moment
-tail_of (define block) = with_block block
-tail_of (connect worker input) = (decimal worker ++ codes " ") ++ with_block input
-tail_of (step worker) = with_number worker
-tail_of (run worker) = with_number worker
-
-abbrev pub keyword_of : Event → Keyword
-keyword_of (workers count) = keywords.Workers
-keyword_of (clock moment) = keywords.Clock
-keyword_of (define block) = keywords.Define
-keyword_of (connect worker input) = keywords.Connect
-keyword_of (step worker) = keywords.Step
-keyword_of (run worker) = keywords.Run
-
--- A number event that is made so, and what is left.
-abbrev pub NumberEventAt : (ℕ → Event) → List ℕ → Event × List ℕ → Type 0
-NumberEventAt make bytes x = (number : ℕ) × NumberAt bytes (number, x.1) × (x.0 ≡ make number)
-
--- A short event of this keyword, of which the first word and its space are gone, and what is left.
-abbrev pub TailAt : Keyword → List ℕ → Event × List ℕ → Type 0
-TailAt keywords.Workers bytes x = NumberEventAt workers bytes x
-TailAt keywords.Clock bytes x = NumberEventAt clock bytes x
-TailAt keywords.Define bytes x = (block : List ℕ) × BlockAt bytes (block, x.1) × (x.0 ≡ define block)
-TailAt keywords.Connect bytes x =
-    (worker : ℕ) × (input : List ℕ) × InputAt bytes (worker, input, x.1) × (x.0 ≡ connect worker input)
-TailAt keywords.Step bytes x = NumberEventAt step bytes x
-TailAt keywords.Run bytes x = NumberEventAt run bytes x
+-- An event of this line, whatever its block has in it.
+abbrev pub HasHead : Head → Event → Type 0
+HasHead (heads.Workers count) e = e ≡ workers count
+HasHead (heads.Clock moment) e = e ≡ clock moment
+HasHead (heads.Page path size) e = (text : List ℕ) × (length text ≡ size) × (e ≡ page path.now text)
+HasHead (heads.Define size) e = (block : List ℕ) × (length block ≡ size) × (e ≡ define block)
+HasHead (heads.Connect number size) e = (input : List ℕ) × (length input ≡ size) × (e ≡ connect number input)
+HasHead (heads.Step actor) e = e ≡ step (actor_of actor)
+HasHead (heads.Run actor) e = e ≡ run (actor_of actor)

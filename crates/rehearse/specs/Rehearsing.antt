@@ -1,11 +1,12 @@
 -- What a rehearsal does to its source and its sink.
-use Rattle.std.specs.Prelude.{◌≡◌, ℕ, ◌<◌, ◌≤◌, ◌⊎◌, List, [], length, take, Option, Some}
+use Rattle.std.specs.Prelude.{◌≡◌, ℕ, ◌<◌, ◌≤◌, List, [], ◌++◌, length, take, Option, Some}
 use Rattle.outside.specs.Faults.{Rose}
 use Rattle.outside.specs.Reading.{Gives}
 use Rattle.outside.specs.Writing.{Gains}
 use Rattle.rehearse.specs.declared.answer.Rehearsal.{Rehearsal}
 use Rattle.rehearse.specs.declared.answer.Rehearsal.TheVariants.{Done, BadEvent, ReadFault, WriteFault, NoMemory}
 use Rattle.rehearse.specs.Events.{Event}
+use Rattle.rehearse.specs.Lines.{Line, listing_of}
 use Rattle.rehearse.specs.Files.{End, whole, bad, Opens, Holds}
 use Rattle.rehearse.specs.World.{World}
 
@@ -25,69 +26,82 @@ abbrev pub KeepsCounts : Outside → Outside → Type 0
 KeepsCounts before after = (before.read_faults ≤ after.read_faults) × (before.write_faults ≤ after.write_faults)
 
 -- The whole input, where it is told, holds these events.
-abbrev pub InputHolds : List (List ℕ) → Option (List ℕ) → List Event → List ℕ → End → Type 0
-InputHolds natives told events listing end = (input : List ℕ) → told ≡ Some input → Holds natives input events listing end
+abbrev pub InputHolds : List (List ℕ) → Option (List ℕ) → List Event → List Line → End → Type 0
+InputHolds natives told events lines end = (input : List ℕ) → told ≡ Some input → Holds natives input events lines end
+
+-- These entries are the first ones of the listing of whatever the whole input, where it is told, holds.
+abbrev pub AreFirst : List (List ℕ) → Option (List ℕ) → List Line → Type 0
+AreFirst natives told lines =
+    (input : List ℕ) → told ≡ Some input → (events : List Event) (all : List Line) (end : End) → Holds natives input events all end
+    → (others : List Line) × (all ≡ lines ++ others)
+
+-- These bytes are a proper front of the listing of whatever the whole input, where it is told, holds.
+abbrev pub IsProperFront : List (List ℕ) → Option (List ℕ) → List ℕ → Type 0
+IsProperFront natives told bytes =
+    (input : List ℕ) → told ≡ Some input → (events : List Event) (all : List Line) (end : End) → Holds natives input events all end
+    → (rest : List ℕ) × (¬ (rest ≡ [])) × (listing_of all ≡ bytes ++ rest)
 
 -- The source gave these bytes, from the front of its input, and they hold these events.
-pub record Performs (natives : List (List ℕ)) (before after : Outside) (given : List ℕ) (events : List Event) (listing : List ℕ) (end : End) : Type 0 where
+pub record Performs (natives : List (List ℕ)) (before after : Outside) (given : List ℕ) (events : List Event) (lines : List Line) (end : End) : Type 0 where
   pub read : Gives before.input given after.input
-  pub holds : Holds natives given events listing end
+  pub holds : Holds natives given events lines end
 
 -- The input was read to its end, it holds events and nothing else, and their listing was written.
 pub record AllDone (natives : List (List ℕ)) (before after : Outside) : Type 0 where
   pub given : List ℕ
   pub events : List Event
-  pub listing : List ℕ
-  pub performs : Performs natives before after given events listing whole
-  pub input : InputHolds natives before.input events listing whole
+  pub lines : List Line
+  pub performs : Performs natives before after given events lines whole
+  pub input : InputHolds natives before.input events lines whole
   pub at_end : (input : List ℕ) → before.input ≡ Some input → after.input ≡ Some []
-  pub written : Gains before.output listing after.output
+  pub written : Gains before.output (listing_of lines) after.output
 
 -- The event of this number is none and all before it are, and the listing of those was written.
 pub record HadBadEvent (natives : List (List ℕ)) (before after : Outside) (event : ℕ) : Type 0 where
   pub given : List ℕ
   pub events : List Event
-  pub listing : List ℕ
-  pub performs : Performs natives before after given events listing (bad event)
-  pub input : InputHolds natives before.input events listing (bad event)
-  pub written : Gains before.output listing after.output
+  pub lines : List Line
+  pub performs : Performs natives before after given events lines (bad event)
+  pub input : InputHolds natives before.input events lines (bad event)
+  pub written : Gains before.output (listing_of lines) after.output
 
--- The source failed, so its count rose, and the listing of the whole events among the bytes that it had
--- given was written.
+-- The source failed, so its count rose, and the listing of the whole events among the bytes that it had given was written.
 pub record HadReadFault (natives : List (List ℕ)) (before after : Outside) : Type 0 where
   pub given : List ℕ
   pub events : List Event
-  pub listing : List ℕ
+  pub lines : List Line
   pub end : End
-  pub performs : Performs natives before after given events listing end
-  pub written : Gains before.output listing after.output
+  pub performs : Performs natives before after given events lines end
+  pub written : Gains before.output (listing_of lines) after.output
   pub rose : Rose before.read_faults after.read_faults
 
--- The sink failed, so its count rose, when it had taken the first so many bytes of the listing and not
--- all of it. It is the listing of the events of the input, or, where the source's count rose too, of those
--- among the bytes given.
+-- The sink failed, so its count rose, when it had taken the first so many bytes of the listing of the first events of the input, and
+-- not all of it; and these are a proper front of the listing of the whole input, where that is told.
 pub record HadWriteFault (natives : List (List ℕ)) (before after : Outside) (sent : ℕ) : Type 0 where
   pub given : List ℕ
   pub events : List Event
-  pub listing : List ℕ
-  pub end : End
-  pub performs : Performs natives before after given events listing end
-  pub input : InputHolds natives before.input events listing end ⊎ Rose before.read_faults after.read_faults
-  pub sent_less : sent < length listing
-  pub written : Gains before.output (take sent listing) after.output
-  pub rose : Rose before.write_faults after.write_faults
-
--- Memory ran out: of the bytes that the source had given, so many events were played, and the listing
--- of these was written.
-pub record RanOut (natives : List (List ℕ)) (before after : Outside) : Type 0 where
-  pub given : List ℕ
-  pub events : List Event
-  pub listing : List ℕ
+  pub lines : List Line
   pub world : World
   pub left : List ℕ
   pub read : Gives before.input given after.input
-  pub opens : Opens natives given events listing world left
-  pub written : Gains before.output listing after.output
+  pub opens : Opens natives given events lines world left
+  pub input : AreFirst natives before.input lines
+  pub sent_less : sent < length (listing_of lines)
+  pub front : IsProperFront natives before.input (take sent (listing_of lines))
+  pub written : Gains before.output (take sent (listing_of lines)) after.output
+  pub rose : Rose before.write_faults after.write_faults
+
+-- Memory ran out: of the bytes that the source had given, so many first events were played, and their listing was written.
+pub record RanOut (natives : List (List ℕ)) (before after : Outside) : Type 0 where
+  pub given : List ℕ
+  pub events : List Event
+  pub lines : List Line
+  pub world : World
+  pub left : List ℕ
+  pub read : Gives before.input given after.input
+  pub opens : Opens natives given events lines world left
+  pub input : AreFirst natives before.input lines
+  pub written : Gains before.output (listing_of lines) after.output
 
 -- What a rehearsal does, by its answer.
 abbrev pub Ends : List (List ℕ) → Outside → Rehearsal → Outside → Type 0

@@ -1,81 +1,126 @@
--- The steps of workers.
-use Rattle.std.specs.Prelude.{◌≡◌, ℕ, List, [], ◌++◌, true, false, Some, None}
+-- The steps of a worker.
+use Rattle.std.specs.Prelude.{◌≡◌, ℕ, List, [], ◌∷◌, ◌++◌, true, false, Some, None}
+use Rattle.outside.specs.declared.question.Answer.{Answer}
 use Rattle.outside.specs.declared.question.Question.{Question}
+use Rattle.http_req.specs.Outcomes.{Gets, Whole, End, Truncated, Refused}
 use Rattle.http_req.specs.declared.request.Request.{Request}
-use Rattle.http_resp.specs.declared.response.Response.{Response}
+use Rattle.http_resp.specs.Replies.{plain_reply}
 use Rattle.http_resp.specs.ResponseBytes.{response_bytes}
-use Rattle.nsv_bucket.specs.Buckets.{AllArrays}
-use Rattle.rehearse.specs.Requests.{IsEarlyRequest}
-use Rattle.rehearse.specs.Serving.{asking, ready, over, stands_at, has_spent, reply_to}
-use Rattle.rehearse.specs.World.{Pages, Open, Worker, idle, connected, Now, begun, as_answered, as_written, response_output, closed_output, closed_spent_output}
+use Rattle.http_resp.specs.declared.response.Response.{Response}
+use Rattle.tcl_eval.specs.declared.outcome.Outcome.{Outcome}
+use Rattle.ictl.specs.Falls.{IsEnd}
+use Rattle.serving.specs.Connections as connections
+use Rattle.serving.specs.declared.connection.Behind.{Behind}
+use Rattle.serving.specs.declared.connection.Behind.TheVariants.{GoesOn, Closing, Spent}
+use Rattle.rehearse.specs.Lines.{Line, response, closed, ended, closing, truncated, refused, spent}
+use Rattle.rehearse.specs.Objects.{Setting, Answers}
+use Rattle.rehearse.specs.declared.objects.Objects.{Objects}
+use Rattle.rehearse.specs.Runs.{asking, ready, over, request_stand}
+use Rattle.rehearse.specs.World.{Open, Connection, Worker, idle, connected, peer, with_request, with_answer, with_written, without_request}
 
--- A worker, and the shared arrays.
+-- A worker, and the objects.
 pub record Place : Type 0 where
   pub worker : Worker
-  pub arrays : AllArrays
+  pub objects : Objects
 
--- the worker is this one now, and the arrays are as they were
+-- the worker is this one now, and the objects are as they were
 abbrev pub with_worker : Place → Worker → Place
-with_worker place worker = record { worker = worker; arrays = place.arrays }
+with_worker place worker = record { worker = worker; objects = place.objects }
 
--- the request that the worker serves has its question answered, by the pages or the shared arrays as they are now
-abbrev pub with_answer : Pages → Place → List ℕ → Open → Question → Place
-with_answer pages place left request question = record {
-  worker = connected left (Some (as_answered request (reply_to question pages place.arrays).0));
-  arrays = (reply_to question pages place.arrays).1;
-}
+-- The bytes of a response of the request under way. It says that the connection closes where the request asked so, where it is the
+-- last that a connection may have, and where the answers have passed what a connection may have.
+abbrev pub bytes_of : Connection → Open → Response → List ℕ
+bytes_of connection request reply =
+    response_bytes reply request.moment (connections.is_head_only request.request)
+    (connections.closes (connections.asks_close request.request) connection.requests connection.answer_bytes)
 
--- A step of the worker of this number, with some output: the first of these that fits.
-pub data Step (number : ℕ) (now : Now) (before : Place) (output : List ℕ) (after : Place) : Type 0 where
+-- the plain reply of a refusal, which closes
+abbrev pub refusal_bytes : ℕ → ℕ → List ℕ
+refusal_bytes status moment = response_bytes (plain_reply status) moment false true
+
+-- the connection closes behind a request, or stays
+abbrev pub end_lines : ℕ → Behind → List Line
+end_lines number Closing = closed number closing ∷ []
+end_lines number Spent = closed number spent ∷ []
+end_lines number GoesOn = []
+
+abbrev pub end_worker : Connection → Behind → Worker
+end_worker connection Closing = idle
+end_worker connection Spent = idle
+end_worker connection GoesOn = connected (without_request connection)
+
+-- what follows the request under way
+abbrev pub behind : Connection → Open → Behind
+behind connection request = connections.after_request (connections.asks_close request.request) connection.requests connection.answer_bytes
+
+-- the worker serves this request
+abbrev pub IsServing : Worker → Connection → Open → Type 0
+IsServing worker connection request = (worker ≡ connected connection) × (connection.request ≡ Some request)
+
+-- the worker has this connection, and no request is under way
+abbrev pub IsBetween : Worker → Connection → Type 0
+IsBetween worker connection = (worker ≡ connected connection) × (connection.request ≡ None)
+
+-- A step of the worker of this number, and what it tells. What fits a worker is one of these.
+pub data Step (number : ℕ) (setting : Setting) (before : Place) (lines : List Line) (after : Place) : Type 0 where
   -- an idle worker does nothing
-  rests : before.worker ≡ idle → output ≡ [] → after ≡ before → Step number now before output after
-  -- it answers the open question
-  answers : (left : List ℕ) (request : Open) (question : Question)
-      → before.worker ≡ connected left (Some request)
-      → stands_at now.natives request ≡ asking question
-      → output ≡ []
-      → after ≡ with_answer now.pages before left request question
-      → Step number now before output after
-  -- it writes the response that stands ready (of a GET), which says whether the connection closes behind it
-  writes : (left : List ℕ) (request : Open) (response : Response)
-      → before.worker ≡ connected left (Some request)
-      → stands_at now.natives request ≡ ready response
-      → output ≡ response_output number request.blueprint.epoch (response_bytes response request.moment false (has_spent request))
-      → after ≡ with_worker before (connected left (Some (as_written request)))
-      → Step number now before output after
-  -- it ends a request whose run has ended, and keeps the connection
-  ends : (left : List ℕ) (request : Open)
-      → before.worker ≡ connected left (Some request)
-      → stands_at now.natives request ≡ over
-      → has_spent request ≡ false
-      → output ≡ []
-      → after ≡ with_worker before (connected left None)
-      → Step number now before output after
-  -- it ends such a request, and closes the connection where its answers had too many bytes
-  spends : (left : List ℕ) (request : Open)
-      → before.worker ≡ connected left (Some request)
-      → stands_at now.natives request ≡ over
-      → has_spent request ≡ true
-      → output ≡ closed_spent_output number
+  rests : before.worker ≡ idle → lines ≡ [] → after ≡ before → Step number setting before lines after
+  -- it answers the open question, from the objects and the pages as they are now
+  answers : (connection : Connection) (request : Open) (question : Question) (answer : Answer) (objects : Objects)
+      → IsServing before.worker connection request
+      → request_stand setting.natives request ≡ asking question
+      → Answers setting request.moment question before.objects answer objects
+      → lines ≡ []
+      → after ≡ record { worker = connected (with_answer connection request answer); objects = objects }
+      → Step number setting before lines after
+  -- it writes the response that stands ready, by the blueprint and the moment of the request
+  writes : (connection : Connection) (request : Open) (reply : Response)
+      → IsServing before.worker connection request
+      → request_stand setting.natives request ≡ ready reply
+      → lines ≡ response number (Some request.blueprint.epoch) reply.status (bytes_of connection request reply) ∷ []
+      → after ≡ with_worker before (connected (with_written connection request))
+      → Step number setting before lines after
+  -- it ends a request whose run has ended, and closes the connection where that is to close; want of memory is no end
+  ends : (connection : Connection) (request : Open) (outcome : Outcome)
+      → IsServing before.worker connection request
+      → request_stand setting.natives request ≡ over outcome
+      → IsEnd outcome
+      → lines ≡ end_lines number (behind connection request)
+      → after ≡ with_worker before (end_worker connection (behind connection request))
+      → Step number setting before lines after
+  -- it begins the next request of the input, with the blueprint and the clock as they are then
+  begins : (connection : Connection) (request : Request) (used : ℕ)
+      → IsBetween before.worker connection
+      → Gets connection.input peer (Whole request used)
+      → lines ≡ []
+      → after ≡ with_worker before (connected (with_request setting before.objects connection request used))
+      → Step number setting before lines after
+  -- it closes the connection at the end of the input
+  closes : (connection : Connection)
+      → IsBetween before.worker connection
+      → Gets connection.input peer End
+      → lines ≡ closed number ended ∷ []
       → after ≡ with_worker before idle
-      → Step number now before output after
-  -- it begins the next request, which is all the input that is left, with the blueprint and the clock as they are then
-  begins : (input : List ℕ) (request : Request)
-      → before.worker ≡ connected input None
-      → IsEarlyRequest input request
-      → output ≡ []
-      → after ≡ with_worker before (connected [] (Some (begun now request)))
-      → Step number now before output after
-  -- it closes the connection at the end of its input
-  closes : before.worker ≡ connected [] None
-      → output ≡ closed_output number
+      → Step number setting before lines after
+  -- it closes the connection where the input ends inside a request
+  cuts : (connection : Connection) (have : ℕ)
+      → IsBetween before.worker connection
+      → Gets connection.input peer (Truncated have)
+      → lines ≡ closed number (truncated have) ∷ []
       → after ≡ with_worker before idle
-      → Step number now before output after
+      → Step number setting before lines after
+  -- it closes the connection at a refusal, whose reply it writes first, at the moment that the clock shows
+  refuses : (connection : Connection) (status : ℕ)
+      → IsBetween before.worker connection
+      → Gets connection.input peer (Refused status)
+      → lines ≡ response number None status (refusal_bytes status setting.moment) ∷ closed number (refused status) ∷ []
+      → after ≡ with_worker before idle
+      → Step number setting before lines after
 
 -- Steps, at least one, until the worker is idle.
-pub data Runs (number : ℕ) (now : Now) : Place → List ℕ → Place → Type 0 where
-  last : {before after : Place} {output : List ℕ}
-      → Step number now before output after → after.worker ≡ idle → Runs number now before output after
-  more : {before between after : Place} (output outputs : List ℕ)
-      → Step number now before output between → ¬ (between.worker ≡ idle)
-      → Runs number now between outputs after → Runs number now before (output ++ outputs) after
+pub data RunsUntilIdle (number : ℕ) (setting : Setting) : Place → List Line → Place → Type 0 where
+  last : {before after : Place} {lines : List Line}
+      → Step number setting before lines after → after.worker ≡ idle → RunsUntilIdle number setting before lines after
+  more : {before between after : Place} (lines others : List Line)
+      → Step number setting before lines between → ¬ (between.worker ≡ idle)
+      → RunsUntilIdle number setting between others after → RunsUntilIdle number setting before (lines ++ others) after

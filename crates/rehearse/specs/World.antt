@@ -1,53 +1,116 @@
--- The machine of one thread: its workers, and what they share.
-use Rattle.std.specs.Prelude.{ℕ, List, [], ◌∷◌, ◌++◌, length, replicate, Bool, true, false, decimal, codes, Option}
-use Rattle.std.specs.FinMap as map
-use Rattle.std.specs.FinMap.{FinMap}
+-- The machine of one thread: its workers, its scheduler, and what they share.
+use Rattle.std.specs.Prelude.{ℕ, ◌+◌, List, [], ◌∷◌, ◌++◌, drop, replicate, Bool, true, false, codes, Option, Some, None}
 use Rattle.outside.specs.declared.question.Answer.{Answer}
 use Rattle.http_req.specs.declared.request.Request.{Request}
-use Rattle.nsv_bucket.specs.Arrays.{text_cmp}
-use Rattle.nsv_bucket.specs.Buckets.{AllArrays, no_arrays}
-use Rattle.ictl.specs.Main.{Blueprint}
-use Rattle.rehearse.specs.Events.{newline}
+use Rattle.sched_core.specs.declared.call.DueScript.{DueScript}
+use Rattle.server_host.specs.declared.edition.Edition.{Edition}
+use Rattle.serving.specs.Connections as connections
+use Rattle.rehearse.specs.Objects.{Setting, first_setting, new_objects, published_now}
+use Rattle.rehearse.specs.declared.objects.Objects.{Objects}
+
+-- ---- workers
 
 -- A request under way.
 pub record Open : Type 0 where
   pub request : Request
-  -- the blueprint and the moment at which it began, by which it is served
-  pub blueprint : Blueprint
+  -- the blueprint and the moment at which it began, by which the whole of it is served
+  pub blueprint : Edition
   pub moment : ℕ
   -- what its questions were answered so far, in order
   pub answers : List Answer
   -- its response was written
   pub written : Bool
 
+pub record Connection : Type 0 where
+  -- the input that no request took yet
+  pub input : List ℕ
+  -- how many requests began
+  pub requests : ℕ
+  -- how many bytes of answers they have had, together
+  pub answer_bytes : ℕ
+  -- the request under way, if any
+  pub request : Option Open
+
 pub data Worker : Type 0 where
   -- it has no connection
   idle : Worker
-  -- it has a connection, with the input that is left and the request under way, if any
-  connected : (input : List ℕ) (request : Option Open) → Worker
+  connected : (connection : Connection) → Worker
 
--- texts by their paths: at most one for each
-abbrev pub Pages : Type 0
-Pages = FinMap text_cmp (List ℕ)
+-- where all connections come from
+abbrev pub peer : List ℕ
+peer = codes "127.0.0.1"
 
--- no page is there
-abbrev pub no_pages : Pages
-no_pages = map.empty
+-- a connection with this input, of which nothing was used
+abbrev pub new_connection : List ℕ → Connection
+new_connection input = record { input = input; requests = 0; answer_bytes = 0; request = None }
 
--- What workers see of the world when they take a step, and don't change by it: the names of the natives, which stay the
--- same; what the clock shows, in seconds since 1970; the pages, which no event changes yet; and what was published.
-pub record Now : Type 0 where
-  pub natives : List (List ℕ)
+-- a request begins, on the blueprint and at the moment as they are now
+abbrev pub begun_request : Setting → Objects → Request → Open
+begun_request setting objects request =
+    record { request = request; blueprint = published_now objects; moment = setting.moment; answers = []; written = false }
+
+-- it took so many bytes of the input
+abbrev pub with_request : Setting → Objects → Connection → Request → ℕ → Connection
+with_request setting objects connection request used = record {
+  input = drop used connection.input;
+  requests = connection.requests + 1;
+  answer_bytes = connection.answer_bytes;
+  request = Some (begun_request setting objects request);
+}
+
+-- its question was answered
+abbrev pub with_answer : Connection → Open → Answer → Connection
+with_answer connection request answer = record connection {
+  answer_bytes = connection.answer_bytes + connections.answer_bytes answer;
+  request = Some (record request { answers = request.answers ++ answer ∷ [] });
+}
+
+-- its response was written
+abbrev pub with_written : Connection → Open → Connection
+with_written connection request = record connection { request = Some (record request { written = true }) }
+
+-- it has ended
+abbrev pub without_request : Connection → Connection
+without_request connection = record connection { request = None }
+
+-- ---- the scheduler
+
+-- A scheduled script under way.
+pub record Script : Type 0 where
+  pub id : ℕ
+  pub script : List ℕ
+  -- the blueprint and the moment at which it began
+  pub blueprint : Edition
   pub moment : ℕ
-  pub pages : Pages
-  pub blueprint : Blueprint
+  -- what its questions were answered so far, in order
+  pub answers : List Answer
+
+pub record Scheduler : Type 0 where
+  -- the scripts that were taken and haven't begun, in their order
+  pub waiting : List DueScript
+  -- the script under way, if any
+  pub running : Option Script
+
+-- it has no script
+abbrev pub resting : Scheduler
+resting = record { waiting = []; running = None }
+
+-- a script begins, on the blueprint and at the moment as they are now
+abbrev pub begun_script : Setting → Objects → DueScript → Script
+begun_script setting objects due =
+    record { id = due.id; script = due.script; blueprint = published_now objects; moment = setting.moment; answers = [] }
+
+abbrev pub with_script_answer : Script → Answer → Script
+with_script_answer script answer = record script { answers = script.answers ++ answer ∷ [] }
+
+-- ---- all together
 
 pub record World : Type 0 where
   -- an event came
   pub started : Bool
-  pub now : Now
-  -- the shared arrays, bucket by bucket
-  pub arrays : AllArrays
+  pub setting : Setting
+  pub objects : Objects
+  pub scheduler : Scheduler
   -- by their numbers, from 0
   pub workers : List Worker
 
@@ -55,62 +118,24 @@ pub record World : Type 0 where
 abbrev pub all_idle : ℕ → List Worker
 all_idle count = replicate count idle
 
--- the world before the first event, with natives of these names: the clock shows 0, nothing was published, no page and
--- no array is there, and one worker is idle
+-- the world before the first event, with natives of these names; there is one worker
 abbrev pub opening : List (List ℕ) → World
 opening natives = record {
   started = false;
-  now = record { natives = natives; moment = 0; pages = no_pages; blueprint = record { epoch = 0; definitions = [] } };
-  arrays = no_arrays;
-  workers = idle ∷ [];
+  setting = first_setting natives;
+  objects = new_objects natives;
+  scheduler = resting;
+  workers = all_idle 1;
 }
 
-abbrev pub with_moment : World → ℕ → World
-with_moment world moment = record world { now = record { natives = world.now.natives; moment = moment; pages = world.now.pages; blueprint = world.now.blueprint } }
+abbrev pub with_setting : World → Setting → World
+with_setting world setting = record world { setting = setting }
+
+abbrev pub with_objects : World → Objects → World
+with_objects world objects = record world { objects = objects }
 
 abbrev pub with_workers : World → List Worker → World
 with_workers world workers = record world { workers = workers }
 
 abbrev pub as_started : World → World
 as_started world = record world { started = true }
-
--- a request that begins
-abbrev pub begun : Now → Request → Open
-begun now request = record { request = request; blueprint = now.blueprint; moment = now.moment; answers = []; written = false }
-
-abbrev pub as_answered : Open → Answer → Open
-as_answered request answer = record request { answers = request.answers ++ answer ∷ [] }
-
-abbrev pub as_written : Open → Open
-as_written request = record request { written = true }
-
--- ---- what is told
-
--- `response WORKER EPOCH LEN`, a newline, the bytes and a newline
-abbrev pub response_output : ℕ → ℕ → List ℕ → List ℕ
-response_output worker epoch bytes =
-    codes "response " ++ decimal worker ++ codes " " ++ decimal epoch ++ codes " " ++ decimal (length bytes) ++ newline ++ bytes ++ newline
-
--- `closed WORKER ended`
-abbrev pub closed_output : ℕ → List ℕ
-closed_output worker = codes "closed " ++ decimal worker ++ codes " ended" ++ newline
-
--- `closed WORKER spent`
-abbrev pub closed_spent_output : ℕ → List ℕ
-closed_spent_output worker = codes "closed " ++ decimal worker ++ codes " spent" ++ newline
-
--- `defined EPOCH`
-abbrev pub defined_output : ℕ → List ℕ
-defined_output epoch = codes "defined " ++ decimal epoch ++ newline
-
--- `define error LEN`, a newline, the text and a newline
-abbrev pub error_output : List ℕ → List ℕ
-error_output text = codes "define error " ++ decimal (length text) ++ newline ++ text ++ newline
-
--- `define spent`
-abbrev pub spent_output : List ℕ
-spent_output = codes "define spent" ++ newline
-
--- `define deep`
-abbrev pub deep_output : List ℕ
-deep_output = codes "define deep" ++ newline

@@ -1,13 +1,15 @@
 //! The first words of events.
 
 ghost use Rattle.std.specs.Prelude.{◌≡◌};
-ghost use Rattle.rehearse.specs.Reading.{Finds, name_of};
+ghost use Rattle.rehearse.specs.Numbers.{Finds};
+ghost use Rattle.rehearse.specs.Reading.{name_of};
 
 /// The first word of an event.
 #[derive(Clone, Copy, Debug, PartialEq, Eq)]
 pub enum Keyword {
     Workers,
     Clock,
+    Page,
     Define,
     Connect,
     Step,
@@ -23,6 +25,9 @@ pub fn find_keyword(word: &[u8]) -> Option<Keyword>
     }
     if word == b"clock".as_slice() {
         return Some(Keyword::Clock);
+    }
+    if word == b"page".as_slice() {
+        return Some(Keyword::Page);
     }
     if word == b"define".as_slice() {
         return Some(Keyword::Define);

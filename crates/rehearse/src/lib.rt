@@ -2,33 +2,28 @@
 #![tactic(auto)]
 
 mod answer;
-mod answered;
-mod blueprint;
 mod cut;
-mod decimal;
 mod defining;
 mod event;
-mod event_reader;
-mod input;
+mod head;
+mod intake;
+mod keeper;
 mod keyword;
 mod law;
-mod letters;
 mod listing;
 mod machine;
-mod now;
+mod number;
 mod objects;
-#[cfg(test)]
-mod plain;
 mod playback;
-mod request;
-#[cfg(test)]
-mod tests;
-mod url;
-mod waiting;
+mod running;
+mod scheduler;
+mod setting;
+mod supply;
+mod tally;
 mod worker;
 
 pub use answer::Rehearsal;
-pub use law::{
-    definitions_fit_where_they_apply, early_requests_are_requests, one_file, one_listing,
-};
-pub use playback::rehearse;
+pub use law::{one_file, one_listing, one_outcome};
+pub use number::read_number;
+pub use playback::{Counted, count_listing, rehearse};
+pub use tally::Tally;

@@ -1,143 +1,150 @@
 //! The machine of one thread.
 
-ghost use Rattle.std.specs.Prelude.{◌≡◌, ◌<◌, ◌≤◌, ℕ, List, length, replicate, slice_get, slice_set, Some, IfOk};
+ghost use Rattle.std.specs.Prelude.{◌≡◌, ◌≤◌, ℕ, List, length, IfOk, OnOk};
+ghost use Rattle.blueprint.specs.States.{State};
 ghost use Rattle.natives.specs.Names.{names_of};
-ghost use Rattle.rehearse.specs.Events.{workers, clock, define, connect, step, run, most_block};
-ghost use Rattle.rehearse.specs.Reading.{event_of, IsShort};
-ghost use Rattle.rehearse.specs.World.{opening};
-ghost use Rattle.rehearse.specs.Playing.{Shows, AreReady, Did, Played};
-ghost use Rattle.rehearse.specs.declared.worker.Worker.TheVariants.{Idle as is_idle};
+ghost use Rattle.rehearse.specs.Events.{workers, clock, page as spelled_page, define, connect, step, run, most_block, most_input};
+ghost use Rattle.rehearse.specs.Reading.{event_of, actor_of, IsShort};
+ghost use Rattle.rehearse.specs.World.{opening, all_idle};
+ghost use Rattle.rehearse.specs.Playing.{Shows, ShowsWorkers, AreReady, IsMachineReady, Did, Played};
+ghost use Rattle.rehearse.specs.declared.listing.Listing.{Listing as Told};
 
-use crate::blueprint::Blueprint;
-use crate::defining;
+use crate::defining::Definer;
 use crate::event::Event;
-use crate::now::Now;
-use crate::waiting::Waiting;
+use crate::head::Actor;
+use crate::listing::Listing;
+use crate::objects::Objects;
+use crate::scheduler::Scheduler;
+use crate::setting::{Setting, Shelf};
 use crate::worker::Worker;
 use cmd_table::Steps;
 use natives::Natives;
-use nsv_bucket::Buckets;
 use std::alloc::Global;
 use std::mem;
 use std::sync::ledger::Ledger;
-use txt_core::{NoMemory, Text};
+use txt_core::{LAST_MOMENT, NoMemory, Text};
 
 /// The greatest number of workers.
 const MOST_WORKERS: u64 = 16;
 
-/// The last moment that the clock can show: the last second of the year 9999.
-const LAST_MOMENT: u64 = 253_402_300_799;
-
 /// The machine.
 #[derive(Drop)]
 pub struct Machine {
+    alloc: Global,
     /// Whether an event came.
-    pub started: bool,
-    /// What the clock shows, and what was published.
-    pub now: Now,
-    /// The shared arrays.
-    pub arrays: Buckets,
+    started: bool,
+    setting: Setting,
+    objects: Objects,
+    definer: Definer,
+    scheduler: Scheduler,
     /// By their numbers, from 0.
-    pub workers: Vec<Worker>,
+    workers: Vec<Worker>,
 }
 
+/// So many workers without connections, whose numbers count from 0.
 fn idle_workers(alloc: Global, count: u64) -> Result<Vec<Worker>, NoMemory>
-    ensures { IfOk result (λ made. made.items ≡ replicate count is_idle) }
+    ensures shows { (names : List (List ℕ)) → IfOk result (λ made. ShowsWorkers names 0 made.items (all_idle count)) }
+    ensures ready { (names : List (List ℕ)) (now : State) → now.natives ≡ names → IfOk result (λ made. AreReady names now made.items) }
 {
     let mut made = Vec::new(alloc);
-    for _ in 0..count {
-        made.push(Worker::Idle)?;
+    for number in 0..count {
+        made.push(Worker::new(alloc, number))?;
     }
     Ok(made)
 }
 
-/// Takes a worker away; an idle one is left in its place.
-fn take(workers: &mut Vec<Worker>, place: usize) -> Worker
-    requires { place < length workers.old.items }
-    ensures worker { slice_get workers.old.items place ≡ Some result }
-    ensures left { workers.new.items ≡ slice_set workers.old.items place is_idle }
-{
-    mem::replace(&mut workers[place], Worker::Idle)
-}
-
-/// Puts a worker in its place.
-fn put(workers: &mut Vec<Worker>, place: usize, worker: Worker)
-    requires { place < length workers.old.items }
-    ensures { workers.new.items ≡ slice_set workers.old.items place worker }
-{
-    drop(mem::replace(&mut workers[place], worker));
-}
-
 impl Machine {
     /// The machine before the first event.
-    pub fn new(alloc: Global) -> Result<Machine, NoMemory>
-        ensures { (natives : List (List ℕ)) → IfOk result (λ machine. Shows natives machine (opening natives)) }
+    pub fn new(alloc: Global, natives: &Natives) -> Result<Machine, NoMemory>
+        ensures shows { let names = names_of natives.now in IfOk result (λ machine. Shows names machine (opening names)) }
+        ensures ready { IfOk result (λ machine. IsMachineReady (names_of natives.now) machine) }
     {
+        let objects = Objects::new(alloc, natives)?;
         let workers = idle_workers(alloc, 1)?;
         Ok(Machine {
+            alloc,
             started: false,
-            now: Now {
+            setting: Setting {
                 moment: 0,
-                blueprint: Blueprint::new(alloc),
+                pages: Shelf::new(alloc),
             },
-            arrays: Buckets::new(alloc),
+            objects,
+            definer: Definer::new(alloc),
+            scheduler: Scheduler::new(alloc),
             workers,
         })
     }
 
+    /// Turns to these workers, and lets go of those before.
+    fn turn_to(&mut self, workers: Vec<Worker>)
+        ensures { self.new ≡ record self.old { workers = workers } }
+    {
+        drop(mem::replace(&mut self.workers, workers));
+    }
+
     /// Makes so many workers, where no event came yet and the number is from 1 to 16.
-    fn set_workers(&mut self, alloc: Global, count: u64) -> Result<bool, NoMemory>
-        ensures { IfOk result (λ came. (natives : List (List ℕ)) (listing : List ℕ) → Did natives came (workers count) self.old listing self.new listing) }
+    fn set_workers(&mut self, count: u64) -> Result<bool, NoMemory>
+        ensures did { (names : List (List ℕ)) (listing : Told) → IfOk result (λ came. Did names came (workers count) self.old listing self.new listing) }
+        ensures ready { (names : List (List ℕ)) → IsMachineReady names self.old → OnOk result (IsMachineReady names self.new) }
     {
         if self.started || count == 0 || count > MOST_WORKERS {
             return Ok(false);
         }
-        self.workers = idle_workers(alloc, count)?;
+        let workers = idle_workers(self.alloc, count)?;
+        self.turn_to(workers);
         Ok(true)
     }
 
     /// Sets the clock, where it can show the moment.
     fn set_clock(&mut self, moment: u64) -> bool
-        ensures { (natives : List (List ℕ)) (listing : List ℕ) → Did natives result (clock moment) self.old listing self.new listing }
+        ensures did { (names : List (List ℕ)) (listing : Told) → Did names result (clock moment) self.old listing self.new listing }
+        ensures ready { (names : List (List ℕ)) → IsMachineReady names self.old → IsMachineReady names self.new }
     {
         if moment > LAST_MOMENT {
             return false;
         }
-        self.now.moment = moment;
+        self.setting.moment = moment;
         true
     }
 
-    /// Runs a block, which has at most 8,388,608 bytes, as a script that may define.
-    fn define<L: Ledger>(
-        &mut self,
-        alloc: Global,
-        natives: &Natives,
-        block: &[u8],
-        listing: &mut Text,
-        steps: &mut Steps<L>,
-    ) -> Result<bool, NoMemory>
-        requires { length block.now ≤ most_block }
-        ensures { IfOk result (λ came. Did (names_of natives.now) came (define block.now) self.old listing.old self.new listing.new) }
+    /// Sets the page of a path.
+    fn set_page(&mut self, path: &[u8], page: &[u8]) -> Result<bool, NoMemory>
+        requires { IsShort (spelled_page path.now page.now) }
+        ensures did { (names : List (List ℕ)) (listing : Told) → IfOk result (λ came. Did names came (spelled_page path.now page.now) self.old listing self.new listing) }
+        ensures ready { (names : List (List ℕ)) → IsMachineReady names self.old → OnOk result (IsMachineReady names self.new) }
     {
-        let block = Text::new(alloc, block)?;
-        let now = &mut self.now;
-        defining::define(
-            alloc,
-            natives,
-            &block,
-            now.moment,
-            &mut now.blueprint,
-            &mut self.arrays,
-            listing,
-            steps,
-        )?;
+        let path = Text::new(self.alloc, path)?;
+        let page = Text::new(self.alloc, page)?;
+        self.setting.pages.set(path, page)?;
         Ok(true)
     }
 
-    /// Gives a worker a connection, where there is a worker of this number, it is idle and the input is a
-    /// request.
-    fn connect(&mut self, alloc: Global, number: u64, input: &[u8]) -> Result<bool, NoMemory>
-        ensures { IfOk result (λ came. (natives : List (List ℕ)) (listing : List ℕ) → Did natives came (connect number input.now) self.old listing self.new listing) }
+    /// Runs a block as a start script.
+    fn define<L: Ledger>(
+        &mut self,
+        natives: &Natives,
+        block: &[u8],
+        listing: &mut Listing,
+        steps: &mut Steps<L>,
+    ) -> Result<bool, NoMemory>
+        requires short { length block.now ≤ most_block }
+        requires ready { IsMachineReady (names_of natives.now) self.old }
+        ensures did { IfOk result (λ came. Did (names_of natives.now) came (define block.now) self.old listing.old self.new listing.new) }
+        ensures ready { OnOk result (IsMachineReady (names_of natives.now) self.new) }
+    {
+        let block = Text::new(self.alloc, block)?;
+        let setting = &self.setting;
+        let objects = &mut self.objects;
+        self.definer
+            .define(natives, setting, objects, &block, listing, steps)?;
+        Ok(true)
+    }
+
+    /// Gives a worker a connection, where there is a worker of this number and it is idle.
+    fn connect(&mut self, number: u64, input: &[u8]) -> Result<bool, NoMemory>
+        requires { length input.now ≤ most_input }
+        ensures did { (names : List (List ℕ)) (listing : Told) → IfOk result (λ came. Did names came (connect number input.now) self.old listing self.new listing) }
+        ensures ready { (names : List (List ℕ)) → IsMachineReady names self.old → OnOk result (IsMachineReady names self.new) }
     {
         if number >= self.workers.len() as u64 {
             return Ok(false);
@@ -146,114 +153,113 @@ impl Machine {
         if !self.workers[place].is_idle() {
             return Ok(false);
         }
-        match Waiting::read(alloc, input)? {
-            None => Ok(false),
-            Some(waiting) => {
-                put(&mut self.workers, place, Worker::Waiting(waiting));
+        let input = Text::new(self.alloc, input)?;
+        self.workers[place].connect(input);
+        Ok(true)
+    }
+
+    /// Lets an actor take one step, where there is one of this name.
+    fn step<L: Ledger>(
+        &mut self,
+        natives: &Natives,
+        actor: Actor,
+        listing: &mut Listing,
+        steps: &mut Steps<L>,
+    ) -> Result<bool, NoMemory>
+        requires ready { IsMachineReady (names_of natives.now) self.old }
+        ensures did { IfOk result (λ came. Did (names_of natives.now) came (step (actor_of actor)) self.old listing.old self.new listing.new) }
+        ensures ready { OnOk result (IsMachineReady (names_of natives.now) self.new) }
+    {
+        let setting = &self.setting;
+        let objects = &mut self.objects;
+        match actor {
+            Actor::Scheduler => {
+                self.scheduler
+                    .step(natives, setting, objects, listing, steps)?;
+                Ok(true)
+            }
+            Actor::Worker(number) => {
+                if number >= self.workers.len() as u64 {
+                    return Ok(false);
+                }
+                self.workers[number as usize].step(natives, setting, objects, listing, steps)?;
                 Ok(true)
             }
         }
     }
 
-    /// Lets the worker of this number take one step, where there is one.
-    fn step<L: Ledger>(
-        &mut self,
-        alloc: Global,
-        natives: &Natives,
-        number: u64,
-        listing: &mut Text,
-        steps: &mut Steps<L>,
-    ) -> Result<bool, NoMemory>
-        requires { AreReady self.old.workers.items }
-        ensures { IfOk result (λ came. Did (names_of natives.now) came (step number) self.old listing.old self.new listing.new) }
-    {
-        if number >= self.workers.len() as u64 {
-            return Ok(false);
-        }
-        let place = number as usize;
-        let worker = take(&mut self.workers, place);
-        let worker = worker.step(
-            alloc,
-            natives,
-            number,
-            &self.now,
-            &mut self.arrays,
-            listing,
-            steps,
-        )?;
-        put(&mut self.workers, place, worker);
-        Ok(true)
-    }
-
-    /// Lets the worker of this number take steps until it is idle, where there is one.
+    /// Lets an actor take steps until it is idle, where there is one of this name.
     fn run<L: Ledger>(
         &mut self,
-        alloc: Global,
         natives: &Natives,
-        number: u64,
-        listing: &mut Text,
+        actor: Actor,
+        listing: &mut Listing,
         steps: &mut Steps<L>,
     ) -> Result<bool, NoMemory>
-        requires { AreReady self.old.workers.items }
-        ensures { IfOk result (λ came. Did (names_of natives.now) came (run number) self.old listing.old self.new listing.new) }
+        requires ready { IsMachineReady (names_of natives.now) self.old }
+        ensures did { IfOk result (λ came. Did (names_of natives.now) came (run (actor_of actor)) self.old listing.old self.new listing.new) }
+        ensures ready { OnOk result (IsMachineReady (names_of natives.now) self.new) }
     {
-        if number >= self.workers.len() as u64 {
-            return Ok(false);
+        let setting = &self.setting;
+        let objects = &mut self.objects;
+        match actor {
+            Actor::Scheduler => {
+                self.scheduler
+                    .run(natives, setting, objects, listing, steps)?;
+                Ok(true)
+            }
+            Actor::Worker(number) => {
+                if number >= self.workers.len() as u64 {
+                    return Ok(false);
+                }
+                self.workers[number as usize].run(natives, setting, objects, listing, steps)?;
+                Ok(true)
+            }
         }
-        let place = number as usize;
-        let worker = take(&mut self.workers, place);
-        worker.run(
-            alloc,
-            natives,
-            number,
-            &self.now,
-            &mut self.arrays,
-            listing,
-            steps,
-        )?;
-        Ok(true)
     }
 
     /// Does what an event says, where it may come, and tells whether it may.
     fn act<L: Ledger>(
         &mut self,
-        alloc: Global,
         natives: &Natives,
         event: Event<'_>,
-        listing: &mut Text,
+        listing: &mut Listing,
         steps: &mut Steps<L>,
     ) -> Result<bool, NoMemory>
         requires short { IsShort (event_of event) }
-        requires ready { AreReady self.old.workers.items }
-        ensures { IfOk result (λ came. Did (names_of natives.now) came (event_of event.entry) self.old listing.old self.new listing.new) }
+        requires ready { IsMachineReady (names_of natives.now) self.old }
+        ensures did { IfOk result (λ came. Did (names_of natives.now) came (event_of event.entry) self.old listing.old self.new listing.new) }
+        ensures ready { OnOk result (IsMachineReady (names_of natives.now) self.new) }
     {
         match event {
-            Event::Workers(count) => self.set_workers(alloc, count),
+            Event::Workers(count) => self.set_workers(count),
             Event::Clock(moment) => Ok(self.set_clock(moment)),
-            Event::Define(block) => self.define(alloc, natives, block, listing, steps),
-            Event::Connect(number, input) => self.connect(alloc, number, input),
-            Event::Step(number) => self.step(alloc, natives, number, listing, steps),
-            Event::Run(number) => self.run(alloc, natives, number, listing, steps),
+            Event::Page(path, page) => self.set_page(path, page),
+            Event::Define(block) => self.define(natives, block, listing, steps),
+            Event::Connect(number, input) => self.connect(number, input),
+            Event::Step(actor) => self.step(natives, actor, listing, steps),
+            Event::Run(actor) => self.run(natives, actor, listing, steps),
         }
     }
 
     /// Plays an event that may come, and tells whether it may.
     pub fn play<L: Ledger>(
         &mut self,
-        alloc: Global,
         natives: &Natives,
         event: Event<'_>,
-        listing: &mut Text,
+        listing: &mut Listing,
         steps: &mut Steps<L>,
     ) -> Result<bool, NoMemory>
         requires short { IsShort (event_of event) }
-        requires ready { AreReady self.old.workers.items }
-        ensures { IfOk result (λ came. Played (names_of natives.now) came (event_of event.entry) self.old listing.old self.new listing.new) }
+        requires ready { IsMachineReady (names_of natives.now) self.old }
+        ensures played { IfOk result (λ came. Played (names_of natives.now) came (event_of event.entry) self.old listing.old self.new listing.new) }
+        ensures ready { OnOk result (IsMachineReady (names_of natives.now) self.new) }
     {
-        let came = self.act(alloc, natives, event, listing, steps)?;
-        if came {
-            self.started = true;
+        let came = self.act(natives, event, listing, steps)?;
+        if !came {
+            return Ok(false);
         }
-        Ok(came)
+        self.started = true;
+        Ok(true)
     }
 }

@@ -1,35 +1,85 @@
 //! The objects that answer questions.
 
-ghost use Rattle.std.specs.Prelude.{◌≡◌, IfOk};
-ghost use Rattle.nsv_bucket.specs.Buckets.{buckets_step};
-ghost use Rattle.rehearse.specs.Serving.{answer_of, reply_to};
-ghost use Rattle.rehearse.specs.World.{no_pages};
+ghost use Rattle.std.specs.Prelude.{◌≡◌, ℕ, List, IfOk};
+ghost use Rattle.natives.specs.Names.{names_of};
+ghost use Rattle.rehearse.specs.Objects.{new_objects, Answers, BlueprintAnswers, ScheduleAnswers};
+ghost use Rattle.rehearse.specs.Playing.{setting_of, IsPut};
 
-use nsv_bucket::{Buckets, NsvReply};
+use crate::setting::Setting;
+use blueprint::{BlueCall, BlueReply, Blueprint};
+use natives::Natives;
+use nsv_bucket::Buckets;
 use outside::{Answer, Question, Service};
+use sched_core::Schedule;
+use serving::{
+    Asked, nsv_answer, publish_call, published_answer, save_call, sched_answer, sched_call,
+};
 use std::alloc::Global;
+use turn_cell::Obj;
 use txt_core::{NoMemory, Text, Words};
 
-/// What the bucket answers to which the words are put.
-fn ask(arrays: &mut Buckets, words: &Words) -> Result<Answer, NoMemory>
-    ensures { IfOk result (λ answer. (answer ≡ answer_of (buckets_step arrays.old words.now).0) × (arrays.new ≡ (buckets_step arrays.old words.now).1)) }
-{
-    match arrays.ask(words)? {
-        NsvReply::Said(text) => Ok(Answer::Said(text)),
-        NsvReply::Failed(text) => Ok(Answer::Failed(text)),
-        NsvReply::NoMemory => Err(NoMemory),
-    }
+/// The objects: what was published, the shared arrays, and the schedule.
+#[derive(Drop)]
+pub struct Objects {
+    pub blueprint: Blueprint,
+    pub arrays: Buckets,
+    pub schedule: Schedule,
 }
 
-/// Answers a question to the shared arrays from them, and one for a page with `NoPage`, since no page is
-/// there yet. A question to any other service is refused with an empty text.
-pub fn reply(alloc: Global, question: Question, arrays: &mut Buckets) -> Result<Answer, NoMemory>
-    ensures { IfOk result (λ answer. (answer ≡ (reply_to question no_pages arrays.old).0) × (arrays.new ≡ (reply_to question no_pages arrays.old).1)) }
-{
-    let Question { service, words } = question;
-    match service {
-        Service::Nsv => ask(arrays, &words),
-        Service::Page => Ok(Answer::NoPage),
-        _ => Ok(Answer::Failed(Text::empty(alloc))),
+impl Objects {
+    /// Nothing was published, no array is there, and nothing is scheduled.
+    pub fn new(alloc: Global, natives: &Natives) -> Result<Objects, NoMemory>
+        ensures { IfOk result (λ objects. objects ≡ new_objects (names_of natives.now)) }
+    {
+        Ok(Objects {
+            blueprint: Blueprint::new(alloc, natives)?,
+            arrays: Buckets::new(alloc),
+            schedule: Schedule::new(alloc),
+        })
+    }
+
+    /// Puts a publication or a save to the blueprint.
+    fn publish(&mut self, alloc: Global, call: BlueCall) -> Result<Answer, NoMemory>
+        requires { IsPut call }
+        ensures { IfOk result (λ answer. BlueprintAnswers call self.old answer self.new) }
+    {
+        match self.blueprint.act(call) {
+            BlueReply::Published(reply) => published_answer(alloc, reply),
+            BlueReply::Look(_) => unreachable!(),
+        }
+    }
+
+    /// Puts the words of a run at this moment to the schedule.
+    fn schedule(&mut self, alloc: Global, words: &Words, moment: u64) -> Result<Answer, NoMemory>
+        ensures { IfOk result (λ answer. ScheduleAnswers moment words.now self.old answer self.new) }
+    {
+        let call = sched_call(alloc, words, moment)?;
+        let reply = self.schedule.act(call);
+        sched_answer(alloc, words, reply)
+    }
+
+    /// Answers a question of a run whose moment is this, from the objects and the pages as they are now.
+    /// The only error is want of memory.
+    pub fn answer(
+        &mut self,
+        alloc: Global,
+        setting: &Setting,
+        moment: u64,
+        question: Question,
+    ) -> Result<Answer, NoMemory>
+        ensures { (names : List (List ℕ)) → IfOk result (λ answer. Answers (setting_of names setting.now) moment question self.old answer self.new) }
+    {
+        let Question { service, words } = question;
+        match service {
+            Service::Page => setting.pages.answer(alloc, &words),
+            Service::Nsv => nsv_answer(self.arrays.ask(&words)?),
+            Service::Schedule => self.schedule(alloc, &words, moment),
+            Service::Publish => match publish_call(alloc, &words)? {
+                Asked::Puts(call) => self.publish(alloc, call),
+                Asked::Refused(answer) => Ok(answer),
+            },
+            Service::Save => self.publish(alloc, save_call(alloc, &words)?),
+            Service::Inner => Ok(Answer::Failed(Text::empty(alloc))),
+        }
     }
 }

@@ -1,100 +1,141 @@
 //! The rehearsal of a file.
 
-ghost use Rattle.std.specs.Prelude.{◌≡◌, ◌+◌, ◌≤◌, List, IfOk, length};
-ghost use Rattle.std.specs.Option.{option_copied};
+ghost use Rattle.std.specs.Prelude.{◌≡◌, ◌≤◌, ◌+◌, [], ℕ, List, length, true, IfOk, OnOk, OnErr};
 ghost use Rattle.natives.specs.Names.{names_of};
-ghost use Rattle.rehearse.specs.Events.{Event as SpelledEvent, most_bytes};
-ghost use Rattle.rehearse.specs.Files.{Holds};
-ghost use Rattle.rehearse.specs.Playing.{AreReady, PlayedNext, answer_of, end_of};
-ghost use Rattle.rehearse.specs.Rehearsing.{Rehearses};
+ghost use Rattle.rehearse.specs.Events.{most_bytes};
+ghost use Rattle.rehearse.specs.Rehearsing.{Outside, Rehearses};
+ghost use Rattle.rehearse.specs.Summary.{Counts};
+ghost use Rattle.rehearse.specs.Playing.{outside_of, IsMachineReady, SoFar, PlaysOne, PassesOn, IsOfSink, IsCounted};
 
 use crate::answer::Rehearsal;
-use crate::event::MOST_BYTES;
-use crate::event_reader::read_event;
-use crate::input::{Stopped, read_input};
+use crate::event::read_event;
+use crate::intake::Intake;
+use crate::listing::Listing;
 use crate::machine::Machine;
+use crate::supply::Supply;
+use crate::tally::Tally;
 use cmd_table::Steps;
 use natives::Natives;
-use outside::{Sent, Sink, Source, write_all};
+use outside::{Sent, Sink, Source, WriteAnswer, write_all};
 use std::alloc::Global;
 use std::sync::ledger::Ledger;
 use txt_core::{NoMemory, Text};
 
-/// How a file ends.
-#[derive(Clone, Copy, Debug, PartialEq, Eq)]
-pub enum Ending {
-    /// Behind its last event.
-    Whole,
-    /// With something that is no event, in the place of the event of this number, from 1.
-    Bad(u64),
+/// A rehearsal under way.
+#[derive(Drop)]
+struct Play {
+    machine: Machine,
+    intake: Intake,
+    listing: Listing,
+    /// How many events were played.
+    events: u64,
+    /// How many bytes of the listing were written.
+    written: u64,
 }
 
-/// Plays the event that comes next, which begins at this place of the file, and gives what is left
-/// behind it; `None` where none comes next.
-fn play_next<'a, L: Ledger>(
-    alloc: Global,
-    natives: &Natives,
-    machine: &mut Machine,
-    place: usize,
-    left: &'a [u8],
-    listing: &mut Text,
-    steps: &mut Steps<L>,
-) -> Result<Option<&'a [u8]>, NoMemory>
-    requires in_time { place ≤ most_bytes }
-    requires few { length machine.old.workers.items ≤ 16 }
-    requires ready { AreReady machine.old.workers.items }
-    ensures { IfOk result (λ rest. PlayedNext (names_of natives.now) (option_copied rest) machine.old place left.now listing.old machine.new listing.new) }
-{
-    let Some((event, rest)) = read_event(left) else {
-        return Ok(None);
-    };
-    if left.len() - rest.len() > MOST_BYTES - place {
-        return Ok(None);
+impl Play {
+    /// A rehearsal before the first event.
+    fn new(alloc: Global, natives: &Natives) -> Result<Play, NoMemory>
+        ensures so_far { (outside : Outside) → IfOk result (λ play. SoFar (names_of natives.now) outside outside play) }
+        ensures nothing { IfOk result (λ play. play.listing.text ≡ []) }
+    {
+        Ok(Play {
+            machine: Machine::new(alloc, natives)?,
+            intake: Intake::new(alloc),
+            listing: Listing::new(alloc),
+            events: 0,
+            written: 0,
+        })
     }
-    let came = machine.play(alloc, natives, event, listing, steps)?;
-    Ok(if came { Some(rest) } else { None })
-}
 
-/// The listing of the events that the bytes begin with, and how the bytes end as a file.
-fn play_all<L: Ledger>(
-    alloc: Global,
-    natives: &Natives,
-    bytes: &[u8],
-    steps: &mut Steps<L>,
-) -> Result<(Text, Ending), NoMemory>
-    ensures { IfOk result (λ x. (events : List SpelledEvent) × Holds (names_of natives.now) bytes.now events x.0 (end_of x.1)) }
-{
-    let mut machine = Machine::new(alloc)?;
-    let mut listing = Text::empty(alloc);
-    let mut left = bytes;
-    let mut count = 0;
-    'events: while !left.is_empty() {
-        let place = bytes.len() - left.len();
-        match play_next(
-            alloc,
-            natives,
-            &mut machine,
-            place,
-            left,
-            &mut listing,
-            steps,
-        )? {
-            Some(rest) => left = rest,
-            None => return Ok((listing, Ending::Bad(count + 1))),
+    /// Plays the event of so many bytes that stands in front, and tells whether it came.
+    fn play<L: Ledger>(
+        &mut self,
+        natives: &Natives,
+        size: usize,
+        steps: &mut Steps<L>,
+    ) -> Result<bool, NoMemory>
+        requires there { (size ≤ length self.old.intake.left) × (self.old.intake.place + size ≤ most_bytes) }
+        requires ready { IsMachineReady (names_of natives.now) self.old.machine }
+        requires few { self.old.events ≤ self.old.intake.place }
+        ensures plays { IfOk result (λ came. PlaysOne (names_of natives.now) came size self.old self.new) }
+        ensures ready { OnOk result (IsMachineReady (names_of natives.now) self.new.machine) }
+        ensures few { self.new.events ≤ self.new.intake.place }
+        ensures further { IfOk result (λ came. came ≡ true → self.new.intake.place ≡ self.old.intake.place + size) }
+    {
+        let Some(event) = read_event(&self.intake.left()[..size]) else {
+            return Ok(false);
+        };
+        if !self.machine.play(natives, event, &mut self.listing, steps)? {
+            return Ok(false);
         }
-        count += 1;
+        self.intake.use_up(size);
+        self.events += 1;
+        Ok(true)
     }
-    Ok((listing, Ending::Whole))
+
+    /// Writes what was told of the last event; the sink's fault ends the rehearsal. A listing of 2^64
+    /// bytes counts as want of memory.
+    fn pass_on<K: Sink>(&mut self, sink: &mut K) -> Result<Option<Rehearsal>, NoMemory>
+        ensures passes { (names : List (List ℕ)) (outside now : Outside) → now.output ≡ K.taken sink.old → now.write_faults ≡ K.faults sink.old → IfOk result (λ fault. PassesOn names fault outside now self.old self.new (record now { output = K.taken sink.new; write_faults = K.faults sink.new })) }
+        ensures rest { self.new ≡ record self.old { listing = self.new.listing; written = self.new.written } }
+        ensures unwritten { OnErr result ((K.taken sink.new ≡ K.taken sink.old) × (K.faults sink.new ≡ K.faults sink.old)) }
+        ensures of_sink { IfOk result IsOfSink }
+        ensures counts { K.faults sink.old ≤ K.faults sink.new }
+    {
+        let text = self.listing.text.bytes();
+        let Some(written) = self.written.checked_add(text.len() as u64) else {
+            return Err(NoMemory);
+        };
+        match write_all(sink, text) {
+            Sent::Whole { .. } => {
+                self.written = written;
+                self.listing.text.clear();
+                Ok(None)
+            }
+            Sent::WriteFault { sent } => Ok(Some(Rehearsal::WriteFault {
+                sent: self.written + sent,
+            })),
+        }
+    }
+
+    /// Plays one event after the other, until one ends the rehearsal.
+    fn play_all<S: Source, K: Sink, L: Ledger>(
+        &mut self,
+        natives: &Natives,
+        source: &mut S,
+        sink: &mut K,
+        steps: &mut Steps<L>,
+    ) -> Result<Rehearsal, NoMemory>
+        requires so_far { SoFar (names_of natives.now) (outside_of (S.rest source.old) (S.faults source.old) (K.taken sink.old) (K.faults sink.old)) (outside_of (S.rest source.old) (S.faults source.old) (K.taken sink.old) (K.faults sink.old)) self.old }
+        requires nothing { self.old.listing.text ≡ [] }
+        ensures ends { IfOk result (λ answer. Rehearses (names_of natives.now) (outside_of (S.rest source.old) (S.faults source.old) (K.taken sink.old) (K.faults sink.old)) answer (outside_of (S.rest source.new) (S.faults source.new) (K.taken sink.new) (K.faults sink.new))) }
+        ensures ran_out { OnErr result (Rehearses (names_of natives.now) (outside_of (S.rest source.old) (S.faults source.old) (K.taken sink.old) (K.faults sink.old)) Rehearsal.NoMemory (outside_of (S.rest source.new) (S.faults source.new) (K.taken sink.new) (K.faults sink.new))) }
+        ensures counted { IfOk result (λ answer. IsCounted (names_of natives.now) (S.rest source.old) answer self.new.listing.tally) }
+    {
+        'events: while let Some(size) = self.intake.fetch_event(source)? {
+            if !self.play(natives, size, steps)? {
+                return Ok(Rehearsal::BadEvent {
+                    event: self.events + 1,
+                });
+            }
+            if let Some(fault) = self.pass_on(sink)? {
+                return Ok(fault);
+            }
+        }
+        Ok(self.intake.ending(self.events + 1))
+    }
 }
 
 /// Reads a file of events from the source, plays them on one thread and writes the listing of what came
 /// of them to the sink. Scripts have the natives beside their other commands.
 ///
-/// The input comes in any pieces and the output is taken in any pieces. Of a file with a bad event the
-/// events before it are played and listed. A fault of the source ends the input there. A fault of the
-/// sink goes before every other answer, and one of the source before a bad event. Where memory wants, the
-/// listing of some first events, and today of none, is what was written. Each entry of a command table that
-/// an interpreter writes or removes is counted as a step.
+/// The file is read in pieces and isn't held: an event is played once its line and its block are there,
+/// and what is told of it is written before the next one is read. The output is taken in any pieces. Of a
+/// file with a bad event the events before it are played and listed. A fault of the source ends the input
+/// there, and a fault of the sink ends the rehearsal at once. Where memory wants, the listing of some
+/// first events is what was written. Each entry of a command table that an interpreter writes or removes
+/// is counted as a step.
 pub fn rehearse<S: Source, K: Sink, L: Ledger>(
     alloc: Global,
     natives: &Natives,
@@ -107,25 +148,60 @@ pub fn rehearse<S: Source, K: Sink, L: Ledger>(
         result
         (record { input = S.rest source.new; read_faults = S.faults source.new; output = K.taken sink.new; write_faults = K.faults sink.new }) }
 {
-    let Ok((input, stopped)) = read_input(alloc, source) else {
+    let Ok(mut play) = Play::new(alloc, natives) else {
         return Rehearsal::NoMemory;
     };
-    let Ok((listing, ending)) = play_all(alloc, natives, input.bytes(), steps) else {
-        return Rehearsal::NoMemory;
-    };
-    match write_all(sink, listing.bytes()) {
-        Sent::Whole { .. } => answer(stopped, ending),
-        Sent::WriteFault { sent } => Rehearsal::WriteFault { sent },
+    match play.play_all(natives, source, sink, steps) {
+        Ok(answer) => answer,
+        Err(NoMemory) => Rehearsal::NoMemory,
     }
 }
 
-/// The answer where the whole listing was written.
-fn answer(stopped: Stopped, ending: Ending) -> Rehearsal
-    ensures { result ≡ answer_of stopped ending }
+/// What was counted of the listing of a file, or why nothing was.
+#[derive(Clone, Copy, Debug, PartialEq, Eq)]
+pub enum Counted {
+    /// The file holds events and nothing else.
+    Done(Tally),
+    /// The event of this number, counted from 1, is none.
+    BadEvent { event: u64 },
+    /// Memory ran out.
+    NoMemory,
+}
+
+/// A sink that takes all, and keeps nothing.
+#[derive(Drop)]
+struct Nowhere;
+
+impl Sink for Nowhere {
+    ghost use Rattle.std.specs.Prelude.{None};
+
+    ghost taken = { λ s. None };
+
+    ghost faults = { λ s. 0 };
+
+    fn write(&mut self, piece: &[u8]) -> WriteAnswer {
+        WriteAnswer::Took(piece.len())
+    }
+}
+
+/// Plays a file of events, as a rehearsal does, and counts its listing in place of writing it.
+pub fn count_listing<L: Ledger>(
+    alloc: Global,
+    natives: &Natives,
+    file: Text,
+    steps: &mut Steps<L>,
+) -> Counted
+    ensures { Counts (names_of natives.now) file result }
 {
-    match (stopped, ending) {
-        (Stopped::AtFault, _) => Rehearsal::ReadFault,
-        (_, Ending::Whole) => Rehearsal::Done,
-        (_, Ending::Bad(event)) => Rehearsal::BadEvent { event },
+    let Ok(mut play) = Play::new(alloc, natives) else {
+        return Counted::NoMemory;
+    };
+    let mut source = Supply::new(file);
+    let mut sink = Nowhere;
+    match play.play_all(natives, &mut source, &mut sink, steps) {
+        Ok(Rehearsal::Done) => Counted::Done(play.listing.tally),
+        Ok(Rehearsal::BadEvent { event }) => Counted::BadEvent { event },
+        Ok(Rehearsal::ReadFault | Rehearsal::WriteFault { .. }) => unreachable!(),
+        Ok(Rehearsal::NoMemory) | Err(NoMemory) => Counted::NoMemory,
     }
 }

@@ -1,265 +1,368 @@
 //! Workers.
 
-ghost use Rattle.std.specs.Prelude.{◌≡◌, ◌<◌, ◌↔◌, ◌++◌, ℕ, false, IfOk, IsTrue};
-ghost use Rattle.http_req.specs.declared.request.Request.{Request as ReadRequest};
-ghost use Rattle.http_resp.specs.ResponseBytes.{response_bytes};
-ghost use Rattle.ictl.specs.Interps.{StandsAt};
-ghost use Rattle.ictl.specs.Main.{Blueprint as SeenBlueprint};
+ghost use Rattle.std.specs.Prelude.{◌≡◌, ◌↔◌, ◌∷◌, [], None, Some, IfOk, OnOk, IsTrue};
 ghost use Rattle.natives.specs.Names.{names_of};
-ghost use Rattle.rehearse.specs.Requests.{IsEarlyRequest};
-ghost use Rattle.rehearse.specs.Steps.{Step, Runs};
-ghost use Rattle.rehearse.specs.World.{Now as SeenNow, begun, no_pages, response_output};
-ghost use Rattle.nsv_bucket.specs.Buckets.{AllArrays as SeenArrays};
-ghost use Rattle.rehearse.specs.Playing.{now_of, Went, Serves, IsReady, IsBusy, HasBegun, HasNone, steps_left};
-ghost use Rattle.rehearse.specs.declared.worker.Worker.TheVariants.{Idle as is_idle, Serving as is_serving, AtEnd as is_at_end};
+ghost use Rattle.http_resp.specs.ResponseBytes.{response_bytes};
+ghost use Rattle.serving.specs.Connections.{closes};
+ghost use Rattle.ictl.specs.Falls.{IsWriting};
+ghost use Rattle.ictl.specs.declared.next.Next.TheVariants as nexts;
+ghost use Rattle.tcl_eval.specs.declared.outcome.Outcome.{Outcome};
+ghost use Rattle.rehearse.specs.Lines.{response, closed, refused};
+ghost use Rattle.rehearse.specs.Objects.{Setting as SeenSetting};
+ghost use Rattle.rehearse.specs.Steps.{RunsUntilIdle, refusal_bytes};
+ghost use Rattle.rehearse.specs.Playing.{setting_of, with_task, HasNew, HasBegun, IsReady, Stepped, Moved, Tells};
+ghost use Rattle.rehearse.specs.declared.listing.Listing.{Listing as Told};
+ghost use Rattle.rehearse.specs.declared.objects.Objects.{Objects as SeenObjects};
+ghost use Rattle.rehearse.specs.declared.worker.Task.TheVariants as tasks;
 
-use crate::answered::{count, is_spent};
-use crate::listing::{push_closed, push_closed_spent, push_response};
-use crate::now::Now;
-use crate::objects::reply;
-use crate::waiting::Waiting;
+use crate::keeper::Keeper;
+use crate::listing::{Closing, Listing};
+use crate::objects::Objects;
+use crate::running::{begin_request, go_behind, resume};
+use crate::setting::Setting;
+use crate::supply::Supply;
 use cmd_table::Steps;
-use http_resp::{Response, response_bytes};
-use ictl::{Interp, Next};
+use http_req::{Carry, Got, Request, read_request};
+use http_resp::{Response, plain, response_bytes};
+use ictl::{Interp, Next, one_response};
 use natives::Natives;
-use nsv_bucket::Buckets;
+use outside::Question;
+use serving::{Behind, after_request, asks_close, closes, counted, is_head_only};
 use std::alloc::Global;
+use std::mem;
 use std::sync::ledger::Ledger;
+use turn_cell::Obj;
 use txt_core::{NoMemory, Text};
 
-/// A request under way, at the end of its connection's input.
+/// Where all connections come from.
+const PEER: &[u8] = b"127.0.0.1";
+
+/// A connection: the input that no request took yet, how many requests began, and how many bytes of
+/// answers they have had.
+#[derive(Drop)]
+pub struct Connection {
+    source: Supply,
+    carry: Carry,
+    requests: u64,
+    answer_bytes: u64,
+}
+
+/// A request under way: the interpreter that serves it, the moment at which it began, and what it asks of
+/// its connection and of its response.
 #[derive(Drop)]
 pub struct Serving {
-    /// The interpreter that serves it, made when it began, and what it answered last.
-    pub interp: Interp,
-    pub next: Next,
-    /// The moment at which it began.
-    pub moment: u64,
-    /// How many bytes its answers have so far.
-    pub answered: u64,
+    interp: Interp,
+    moment: u64,
+    asks_close: bool,
+    head_only: bool,
+    /// Its response was written.
+    written: bool,
 }
 
-/// A worker.
+/// What a worker is at.
 #[derive(Drop)]
-pub enum Worker {
+pub enum Task {
     /// It has no connection.
     Idle,
-    /// It has a connection, of whose input nothing was used yet.
-    Waiting(Waiting),
-    /// It serves the request that its input was.
-    Serving(Serving),
-    /// It has a connection, whose input was used up.
-    AtEnd,
+    /// It has a connection, and no request is under way.
+    Between(Connection),
+    /// It serves a request, whose interpreter came to this.
+    Serving(Connection, Serving, Next),
 }
 
-/// Begins a request, with what there is now.
-fn begin<L: Ledger>(
+/// A worker of a number, with the interpreter that it keeps.
+#[derive(Drop)]
+pub struct Worker {
     alloc: Global,
-    natives: &Natives,
-    waiting: &Waiting,
-    now: &Now,
-    steps: &mut Steps<L>,
-) -> Result<Serving, NoMemory>
-    ensures serves { IfOk result (λ serving. (request : ReadRequest) × IsEarlyRequest waiting.now request × Serves (names_of natives.now) serving (begun (now_of (names_of natives.now) now.now) request)) }
-    ensures ready { IfOk result (λ serving. StandsAt serving.next serving.interp) }
-{
-    let request = waiting.request(alloc)?;
-    let blueprint = &now.blueprint;
-    let mut interp = Interp::build(
-        alloc,
-        natives,
-        blueprint.epoch(),
-        blueprint.definitions(),
-        steps,
-    )?;
-    let next = interp.start_request(natives, request, now.moment, steps);
-    Ok(Serving {
-        interp,
-        next,
-        moment: now.moment,
-        answered: 0,
-    })
-}
-
-/// Writes the response that an interpreter gave.
-fn write_response(
-    alloc: Global,
-    listing: &mut Text,
-    worker: u64,
-    epoch: u64,
-    response: Response,
-    moment: u64,
-    closes: bool,
-) -> Result<(), NoMemory>
-    ensures { IfOk result (λ _. listing.new ≡ listing.old ++ response_output worker epoch (response_bytes response moment false closes)) }
-{
-    let bytes = response_bytes(alloc, &response, moment, false, closes)?;
-    push_response(alloc, listing, worker, epoch, bytes.bytes())
-}
-
-/// Goes on with a request by one step: answers the open question, writes the response that stands ready,
-/// or ends the request, and with it the connection where its answers had too many bytes.
-fn serve<L: Ledger>(
-    alloc: Global,
-    natives: &Natives,
     number: u64,
-    serving: Serving,
-    arrays: &mut Buckets,
-    listing: &mut Text,
-    steps: &mut Steps<L>,
-) -> Result<Worker, NoMemory>
-    requires { StandsAt serving.next serving.interp }
-    ensures went { (moment : ℕ) (blueprint : SeenBlueprint) → IfOk result (λ after. Went Step number (record { natives = names_of natives.now; moment = moment; pages = no_pages; blueprint = blueprint }) (is_serving serving) arrays.old listing.old after arrays.new listing.new) }
-    ensures ready { IfOk result IsReady }
-    ensures begun { IfOk result HasBegun }
-    ensures falls { IfOk result (λ after. steps_left after < steps_left (is_serving serving)) }
+    keeper: Keeper,
+    task: Task,
+}
+
+/// The reply of a refusal, which closes its connection.
+fn refusal(alloc: Global, status: u16, moment: u64) -> Result<Text, NoMemory>
+    ensures { IfOk result (λ bytes. bytes ≡ refusal_bytes status moment) }
 {
-    let Serving {
-        mut interp,
-        next,
-        moment,
-        answered,
-    } = serving;
-    match next {
-        Next::Asks(question) => match reply(alloc, question, arrays) {
-            Ok(answer) => {
-                let answered = count(answered, &answer);
-                let next = interp.resume(natives, answer, steps);
-                Ok(Worker::Serving(Serving {
-                    interp,
-                    next,
-                    moment,
-                    answered,
-                }))
-            }
-            Err(error) => {
-                drop(interp);
-                Err(error)
-            }
-        },
-        Next::Write(response) => {
-            let epoch = interp.epoch();
-            let closes = is_spent(answered);
-            match write_response(alloc, listing, number, epoch, response, moment, closes) {
-                Ok(()) => {
-                    let next = interp.written(natives, true, steps);
-                    Ok(Worker::Serving(Serving {
-                        interp,
-                        next,
-                        moment,
-                        answered,
-                    }))
-                }
-                Err(error) => {
-                    drop(interp);
-                    Err(error)
-                }
-            }
-        }
-        Next::Ended(outcome) => {
-            drop(outcome);
-            drop(interp);
-            if is_spent(answered) {
-                push_closed_spent(alloc, listing, number)?;
-                return Ok(Worker::Idle);
-            }
-            Ok(Worker::AtEnd)
-        }
-        Next::NoMemory => {
-            drop(interp);
-            Err(NoMemory)
-        }
-    }
+    let reply = plain(alloc, status)?;
+    response_bytes(alloc, &reply, moment, false, true)
 }
 
 impl Worker {
+    /// A worker of this number without a connection, which has made no interpreter yet.
+    pub fn new(alloc: Global, number: u64) -> Worker
+        ensures { (result.task ≡ tasks.Idle) × (result.keeper.interp ≡ None) × (result.number ≡ number) }
+    {
+        Worker {
+            alloc,
+            number,
+            keeper: Keeper::new(),
+            task: Task::Idle,
+        }
+    }
+
     /// Whether it has no connection.
     pub fn is_idle(&self) -> bool
-        ensures { IsTrue result ↔ (self.now ≡ is_idle) }
+        ensures { IsTrue result ↔ (self.now.task ≡ tasks.Idle) }
     {
-        match self {
-            Worker::Idle => true,
-            _ => false,
+        match self.task {
+            Task::Idle => true,
+            Task::Between(_) | Task::Serving(_, _, _) => false,
         }
     }
 
-    /// Whether its connection's input was used up.
-    fn is_at_end(&self) -> bool
-        ensures { IsTrue result ↔ (self.now ≡ is_at_end) }
+    /// Turns to a task, and lets go of what it was at.
+    fn turn_to(&mut self, task: Task)
+        ensures { self.new ≡ with_task self.old task }
     {
-        match self {
-            Worker::AtEnd => true,
-            _ => false,
-        }
+        drop(mem::replace(&mut self.task, task));
     }
 
-    /// One step of a worker that serves no request and has no request to begin: it closes its connection,
-    /// if it has one.
-    fn close(self, alloc: Global, number: u64, listing: &mut Text) -> Result<Worker, NoMemory>
-        requires { HasNone self }
-        ensures went { (now : SeenNow) (arrays : SeenArrays) → IfOk result (λ after. Went Step number now self arrays listing.old after arrays listing.new) }
-        ensures idle { IfOk result (λ after. after ≡ is_idle) }
+    /// Gives it a connection with this input, in the place of what it was at.
+    pub fn connect(&mut self, input: Text)
+        ensures task { HasNew self.new input }
+        ensures rest { (self.new.number ≡ self.old.number) × (self.new.keeper ≡ self.old.keeper) }
     {
-        let at_end = self.is_at_end();
-        drop(self);
-        if at_end {
-            push_closed(alloc, listing, number)?;
-        }
-        Ok(Worker::Idle)
+        let source = Supply::new(input);
+        let carry = Carry::new(self.alloc);
+        let connection = Connection {
+            source,
+            carry,
+            requests: 0,
+            answer_bytes: 0,
+        };
+        self.turn_to(Task::Between(connection));
     }
 
-    /// Takes one step. Its number is for the listing.
-    pub fn step<L: Ledger>(
-        self,
-        alloc: Global,
+    /// Begins a request on the blueprint and at the moment as they are now.
+    fn begin<L: Ledger>(
+        &mut self,
         natives: &Natives,
-        number: u64,
-        now: &Now,
-        arrays: &mut Buckets,
-        listing: &mut Text,
+        setting: &Setting,
+        objects: &Objects,
+        mut connection: Connection,
+        request: Request,
         steps: &mut Steps<L>,
-    ) -> Result<Worker, NoMemory>
-        requires { IsReady self }
-        ensures went { IfOk result (λ after. Went Step number (now_of (names_of natives.now) now.now) self arrays.old listing.old after arrays.new listing.new) }
-        ensures ready { IfOk result IsReady }
-        ensures begun { IfOk result HasBegun }
-        ensures falls { IfOk result (λ after. IsBusy self → steps_left after < steps_left self) }
+    ) -> Result<(), NoMemory>
+        requires ready { IsReady (names_of natives.now) objects.now.blueprint (with_task self.old (tasks.Between connection)) }
+        ensures begun { OnOk result (HasBegun (names_of natives.now) (setting_of (names_of natives.now) setting.now) objects.now connection request self.new) }
+        ensures ready { OnOk result (IsReady (names_of natives.now) objects.now.blueprint self.new) }
+        ensures number { self.new.number ≡ self.old.number }
     {
-        match self {
-            Worker::Waiting(waiting) => {
-                let serving = begin(alloc, natives, &waiting, now, steps)?;
-                Ok(Worker::Serving(serving))
+        let mut interp = self
+            .keeper
+            .take(self.alloc, natives, &objects.blueprint, steps)?;
+        let asks_close = asks_close(&request);
+        let head_only = is_head_only(&request);
+        let moment = setting.moment;
+        let next = begin_request(&mut interp, natives, request, moment, steps);
+        connection.requests += 1;
+        let serving = Serving {
+            interp,
+            moment,
+            asks_close,
+            head_only,
+            written: false,
+        };
+        self.turn_to(Task::Serving(connection, serving, next));
+        Ok(())
+    }
+
+    /// A step of a worker that serves no request: it begins the next one, or closes its connection.
+    fn go_on<L: Ledger>(
+        &mut self,
+        natives: &Natives,
+        setting: &Setting,
+        objects: &Objects,
+        mut connection: Connection,
+        listing: &mut Listing,
+        steps: &mut Steps<L>,
+    ) -> Result<(), NoMemory>
+        requires idle { self.old.task ≡ tasks.Idle }
+        requires ready { IsReady (names_of natives.now) objects.now.blueprint (with_task self.old (tasks.Between connection)) }
+        ensures { OnOk result (Stepped (setting_of (names_of natives.now) setting.now) (with_task self.old (tasks.Between connection)) objects.now listing.old self.new objects.now listing.new) }
+    {
+        let peer = Text::new(self.alloc, PEER)?;
+        let source = &mut connection.source;
+        match read_request(self.alloc, source, &mut connection.carry, &peer) {
+            Got::Request(request) => {
+                self.begin(natives, setting, objects, connection, request, steps)
             }
-            Worker::Serving(serving) => {
-                let worker = serve(alloc, natives, number, serving, arrays, listing, steps)?;
-                Ok(worker)
+            Got::End => listing.push_closed(self.number, Closing::Ended),
+            Got::Truncated { have } => listing.push_closed(self.number, Closing::Truncated(have)),
+            Got::Refused { status } => self.refuse(status, setting.moment, listing),
+            Got::ReadFault => unreachable!(),
+            Got::NoMemory => Err(NoMemory),
+        }
+    }
+
+    /// Writes the reply of a refusal, and closes the connection.
+    fn refuse(&self, status: u16, moment: u64, listing: &mut Listing) -> Result<(), NoMemory>
+        ensures { OnOk result (Tells listing.old (response self.now.number None status (refusal_bytes status moment) ∷ closed self.now.number (refused status) ∷ []) listing.new) }
+    {
+        let reply = refusal(self.alloc, status, moment)?;
+        listing.push_response(self.number, None, status, reply.bytes())?;
+        listing.push_closed(self.number, Closing::Refused(status))
+    }
+
+    /// Answers the question at which the request stands.
+    fn answer<L: Ledger>(
+        &mut self,
+        natives: &Natives,
+        setting: &Setting,
+        objects: &mut Objects,
+        mut connection: Connection,
+        mut serving: Serving,
+        question: Question,
+        steps: &mut Steps<L>,
+    ) -> Result<(), NoMemory>
+        requires ready { IsReady (names_of natives.now) objects.old.blueprint (with_task self.old (tasks.Serving connection serving (nexts.Asks question))) }
+        ensures { (listing : Told) → OnOk result (Stepped (setting_of (names_of natives.now) setting.now) (with_task self.old (tasks.Serving connection serving (nexts.Asks question))) objects.old listing self.new objects.new listing) }
+    {
+        objects.blueprint.shown();
+        let answer = objects.answer(self.alloc, setting, serving.moment, question)?;
+        connection.answer_bytes = counted(connection.answer_bytes, &answer);
+        let next = resume(&mut serving.interp, natives, answer, steps);
+        self.turn_to(Task::Serving(connection, serving, next));
+        Ok(())
+    }
+
+    /// Tells the response of the request, as it goes to the connection.
+    fn tell(
+        &self,
+        connection: &Connection,
+        serving: &Serving,
+        reply: &Response,
+        listing: &mut Listing,
+    ) -> Result<(), NoMemory>
+        ensures { OnOk result (Tells listing.old (response self.now.number (Some serving.now.interp.blueprint.value.epoch) reply.now.status (response_bytes reply.now serving.now.moment serving.now.head_only (closes serving.now.asks_close connection.now.requests connection.now.answer_bytes)) ∷ []) listing.new) }
+    {
+        let (requests, answer_bytes) = (connection.requests, connection.answer_bytes);
+        let closes = closes(serving.asks_close, requests, answer_bytes);
+        let bytes = response_bytes(self.alloc, reply, serving.moment, serving.head_only, closes)?;
+        let epoch = serving.interp.epoch();
+        listing.push_response(self.number, Some(epoch), reply.status, bytes.bytes())
+    }
+
+    /// Writes the response of the request.
+    fn write<L: Ledger>(
+        &mut self,
+        natives: &Natives,
+        connection: Connection,
+        mut serving: Serving,
+        response: Response,
+        listing: &mut Listing,
+        steps: &mut Steps<L>,
+    ) -> Result<(), NoMemory>
+        requires writing { IsWriting serving.interp }
+        ensures { (setting : SeenSetting) (objects : SeenObjects) → setting.natives ≡ names_of natives.now → IsReady setting.natives objects.blueprint (with_task self.old (tasks.Serving connection serving (nexts.Write response))) → OnOk result (Stepped setting (with_task self.old (tasks.Serving connection serving (nexts.Write response))) objects listing.old self.new objects listing.new) }
+    {
+        one_response();
+        self.tell(&connection, &serving, &response, listing)?;
+        let next = go_behind(&mut serving.interp, natives, steps);
+        serving.written = true;
+        self.turn_to(Task::Serving(connection, serving, next));
+        Ok(())
+    }
+
+    /// Ends the request, and closes the connection where that is to close.
+    fn end<L: Ledger>(
+        &mut self,
+        connection: Connection,
+        serving: Serving,
+        listing: &mut Listing,
+        steps: &mut Steps<L>,
+    ) -> Result<(), NoMemory>
+        requires { self.old.task ≡ tasks.Idle }
+        ensures { (setting : SeenSetting) (objects : SeenObjects) (outcome : Outcome) → IsReady setting.natives objects.blueprint (with_task self.old (tasks.Serving connection serving (nexts.Ended outcome))) → OnOk result (Stepped setting (with_task self.old (tasks.Serving connection serving (nexts.Ended outcome))) objects listing.old self.new objects listing.new) }
+    {
+        let Serving {
+            interp,
+            asks_close,
+            ..
+        } = serving;
+        let behind = after_request(asks_close, connection.requests, connection.answer_bytes);
+        self.keeper.keep(interp, steps);
+        match behind {
+            Behind::GoesOn => {
+                self.turn_to(Task::Between(connection));
+                Ok(())
             }
-            other => {
-                let worker = other.close(alloc, number, listing)?;
-                Ok(worker)
+            Behind::Closing => listing.push_closed(self.number, Closing::Closing),
+            Behind::Spent => listing.push_closed(self.number, Closing::Spent),
+        }
+    }
+
+    /// A step of a worker that serves a request: it answers the open question, writes the response that
+    /// stands ready, or ends the request.
+    fn serve<L: Ledger>(
+        &mut self,
+        natives: &Natives,
+        setting: &Setting,
+        objects: &mut Objects,
+        connection: Connection,
+        serving: Serving,
+        next: Next,
+        listing: &mut Listing,
+        steps: &mut Steps<L>,
+    ) -> Result<(), NoMemory>
+        requires idle { self.old.task ≡ tasks.Idle }
+        requires ready { IsReady (names_of natives.now) objects.old.blueprint (with_task self.old (tasks.Serving connection serving next)) }
+        ensures { OnOk result (Stepped (setting_of (names_of natives.now) setting.now) (with_task self.old (tasks.Serving connection serving next)) objects.old listing.old self.new objects.new listing.new) }
+    {
+        match next {
+            Next::Asks(question) => self.answer(
+                natives, setting, objects, connection, serving, question, steps,
+            ),
+            Next::Write(response) => {
+                self.write(natives, connection, serving, response, listing, steps)
             }
+            Next::Ended(_) => self.end(connection, serving, listing, steps),
+            Next::NoMemory => {
+                drop(serving);
+                Err(NoMemory)
+            }
+        }
+    }
+
+    /// Takes one step. Where memory wants, the worker is in any state.
+    pub fn step<L: Ledger>(
+        &mut self,
+        natives: &Natives,
+        setting: &Setting,
+        objects: &mut Objects,
+        listing: &mut Listing,
+        steps: &mut Steps<L>,
+    ) -> Result<(), NoMemory>
+        requires { IsReady (names_of natives.now) objects.old.blueprint self.old }
+        ensures { OnOk result (Stepped (setting_of (names_of natives.now) setting.now) self.old objects.old listing.old self.new objects.new listing.new) }
+    {
+        match mem::replace(&mut self.task, Task::Idle) {
+            Task::Idle => Ok(()),
+            Task::Between(connection) => {
+                self.go_on(natives, setting, objects, connection, listing, steps)
+            }
+            Task::Serving(connection, serving, next) => self.serve(
+                natives, setting, objects, connection, serving, next, listing, steps,
+            ),
         }
     }
 
     /// Takes steps, at least one, until it is idle.
     pub fn run<L: Ledger>(
-        self,
-        alloc: Global,
+        &mut self,
         natives: &Natives,
-        number: u64,
-        now: &Now,
-        arrays: &mut Buckets,
-        listing: &mut Text,
+        setting: &Setting,
+        objects: &mut Objects,
+        listing: &mut Listing,
         steps: &mut Steps<L>,
     ) -> Result<(), NoMemory>
-        requires { IsReady self }
-        ensures { IfOk result (λ _. Went Runs number (now_of (names_of natives.now) now.now) self arrays.old listing.old is_idle arrays.new listing.new) }
+        requires { IsReady (names_of natives.now) objects.old.blueprint self.old }
+        ensures { OnOk result (Moved RunsUntilIdle (setting_of (names_of natives.now) setting.now) self.old objects.old listing.old self.new objects.new listing.new) }
     {
-        let mut worker = self.step(alloc, natives, number, now, arrays, listing, steps)?;
-        'steps: while !worker.is_idle() {
-            worker = worker.step(alloc, natives, number, now, arrays, listing, steps)?;
+        self.step(natives, setting, objects, listing, steps)?;
+        'steps: while !self.is_idle() {
+            self.step(natives, setting, objects, listing, steps)?;
         }
-        drop(worker);
         Ok(())
     }
 }

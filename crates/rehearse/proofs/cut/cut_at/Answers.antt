@@ -1,7 +1,7 @@
 use Rattle.std.proofs.Common.{◌≡◌, ℕ, ◌+◌, ◌∷◌, ◌++◌, List, take, true, sym, ap, ◌∙◌}
 use Rattle.std.specs.List.{list_all}
 use Rattle.std.proofs.lemmas.List.{take_all}
-use Rattle.rehearse.specs.Letters.{is_other}
+use Rattle.rehearse.specs.Reading.{is_other}
 use Rattle.rehearse.proofs.Cutting.{parts_at, no_cut, to_end}
 use Rattle.rehearse.proofs.cut.cut_at.Goals as goal
 

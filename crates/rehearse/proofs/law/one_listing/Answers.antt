@@ -1,5 +1,5 @@
-use Rattle.rehearse.proofs.OneListing.{listing_unique}
+use Rattle.rehearse.proofs.OneListing as listing
 use Rattle.rehearse.proofs.law.one_listing.Goals as goal
 
 pub returns : goal.returns
-returns c = λ before events l m after other h k. listing_unique h k
+returns c = listing.one_listing

@@ -1,5 +1,0 @@
-use Rattle.rehearse.proofs.Applying.{fits_where}
-use Rattle.rehearse.proofs.law.definitions_fit_where_they_apply.Goals as goal
-
-pub returns : goal.returns
-returns c = fits_where

@@ -1,0 +1,119 @@
+//! Interpreters that are kept between runs.
+
+ghost use Rattle.std.specs.Prelude.{◌≡◌, ℕ, List, IfOk, None};
+ghost use Rattle.blueprint.specs.States.{State};
+ghost use Rattle.natives.specs.Names.{names_of};
+ghost use Rattle.ictl.specs.Interps.{IsNew, IsSound};
+ghost use Rattle.rehearse.specs.Objects.{edition_of};
+ghost use Rattle.rehearse.specs.Playing.{KeepsOn, IsOn};
+
+use blueprint::{
+    Blueprint, Look, equal_epochs_are_one_state, since_applies, since_is_added, whole_is_all,
+};
+use cmd_table::Steps;
+use ictl::Interp;
+use natives::Natives;
+use std::alloc::Global;
+use std::mem;
+use std::sync::ledger::Ledger;
+use txt_core::NoMemory;
+
+/// Keeps the interpreter of the last run, as newly made.
+#[derive(Drop)]
+pub struct Keeper {
+    pub interp: Option<Interp>,
+}
+
+/// An interpreter made from the blueprint as it is published now.
+fn build<L: Ledger>(
+    alloc: Global,
+    natives: &Natives,
+    blueprint: &Blueprint,
+    steps: &mut Steps<L>,
+) -> Result<Interp, NoMemory>
+    requires { blueprint.now.natives ≡ names_of natives.now }
+    ensures { let names = names_of natives.now in IfOk result (λ interp. IsNew names interp × (interp.blueprint.value ≡ edition_of blueprint.now) × IsOn names blueprint.now interp) }
+{
+    let defs = blueprint.definitions()?;
+    Interp::build(alloc, natives, blueprint.epoch(), &defs, steps)
+}
+
+/// An interpreter, as newly made, on the blueprint as it is published now: it stays as it is where nothing
+/// is new, takes what was added, and is made anew where a save came between.
+fn renew<L: Ledger>(
+    alloc: Global,
+    natives: &Natives,
+    mut interp: Interp,
+    blueprint: &Blueprint,
+    steps: &mut Steps<L>,
+) -> Result<Interp, NoMemory>
+    requires { IsOn (names_of natives.now) blueprint.now interp × IsNew (names_of natives.now) interp }
+    ensures { let names = names_of natives.now in IfOk result (λ interp. IsNew names interp × (interp.blueprint.value ≡ edition_of blueprint.now) × IsOn names blueprint.now interp) }
+{
+    match blueprint.look(interp.epoch()) {
+        Look::Same => {
+            equal_epochs_are_one_state();
+            Ok(interp)
+        }
+        Look::Since { epoch, defs } => {
+            since_is_added();
+            since_applies();
+            match interp.update(epoch, &defs, steps) {
+                Ok(()) => Ok(interp),
+                Err(NoMemory) => {
+                    drop(interp);
+                    Err(NoMemory)
+                }
+            }
+        }
+        Look::Whole { epoch, defs } => {
+            whole_is_all();
+            drop(interp);
+            Interp::build(alloc, natives, epoch, &defs, steps)
+        }
+        Look::NoMemory => {
+            drop(interp);
+            Err(NoMemory)
+        }
+    }
+}
+
+impl Keeper {
+    /// No interpreter was made yet.
+    pub fn new() -> Keeper
+        ensures { result ≡ record { interp = None } }
+    {
+        Keeper { interp: None }
+    }
+
+    /// Gives an interpreter, as newly made, on the blueprint as it is published now: the one of the last
+    /// run where there is one that wasn't marked, and else a new one. It gives it away.
+    pub fn take<L: Ledger>(
+        &mut self,
+        alloc: Global,
+        natives: &Natives,
+        blueprint: &Blueprint,
+        steps: &mut Steps<L>,
+    ) -> Result<Interp, NoMemory>
+        requires { KeepsOn (names_of natives.now) blueprint.now self.old }
+        ensures is_new { let names = names_of natives.now in IfOk result (λ interp. IsNew names interp × (interp.blueprint.value ≡ edition_of blueprint.now) × IsOn names blueprint.now interp) }
+        ensures none { self.new.interp ≡ None }
+    {
+        let Some(interp) = self.interp.take() else {
+            return build(alloc, natives, blueprint, steps);
+        };
+        if interp.marked() {
+            drop(interp);
+            return build(alloc, natives, blueprint, steps);
+        }
+        renew(alloc, natives, interp, blueprint, steps)
+    }
+
+    /// Takes the interpreter of a run that has ended, and makes it as newly made.
+    pub fn keep<L: Ledger>(&mut self, mut interp: Interp, steps: &mut Steps<L>)
+        ensures { (names : List (List ℕ)) (now : State) → now.natives ≡ names → IsSound names interp → IsOn names now interp → KeepsOn names now self.new }
+    {
+        interp.reset(steps);
+        drop(mem::replace(&mut self.interp, Some(interp)));
+    }
+}

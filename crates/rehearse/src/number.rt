@@ -1,0 +1,40 @@
+//! Numbers of events.
+
+ghost use Rattle.std.specs.Prelude.{◌≡◌, ◌≤◌, decimal};
+ghost use Rattle.rehearse.specs.Numbers.{Finds, IsSmall};
+
+/// The most digits of a number: as many as the last moment of the clock has.
+const MOST_DIGITS: usize = 12;
+
+/// The number of these digits, which have no extra zero in front; `None` where they are no number, or
+/// more than twelve digits.
+pub fn read_number(digits: &[u8]) -> Option<u64>
+    ensures { Finds (λ n. IsSmall n × (digits.now ≡ decimal n)) result }
+{
+    if digits.is_empty() || digits.len() > MOST_DIGITS {
+        return None;
+    }
+    if digits[0] == b'0' && digits.len() > 1 {
+        return None;
+    }
+    let mut number = 0u64;
+    'digits: for digit in digits {
+        if *digit < b'0' || *digit > b'9' {
+            return None;
+        }
+        number = number * 10 + (*digit - b'0') as u64;
+    }
+    Some(number)
+}
+
+/// The same of the length of a block, which may have at most so many bytes.
+pub fn read_length(digits: &[u8], most: u64) -> Option<usize>
+    requires { IsSmall most }
+    ensures { Finds (λ n. (n ≤ most) × (digits.now ≡ decimal n)) result }
+{
+    let length = read_number(digits)?;
+    if length > most {
+        return None;
+    }
+    Some(length as usize)
+}
