@@ -1,1 +1,5 @@
 pub mod WordsLemmas
+pub mod WordLines
+pub mod EventSpelling
+pub mod OneLoad
+pub mod Loading

@@ -1,4 +1,4 @@
--- Lists of one word.
+-- Lists of one word, and of two.
 use Rattle.std.proofs.Common.{◌≡◌, ◌≤◌, ◌<◌, ℕ, List, [], ◌∷◌, length, slice_index_or, slice_set, drop, Bool, IsTrue, refl, sym, ap, ◌∙◌, arith}
 use Rattle.std.specs.Bool.{Decides}
 
@@ -7,6 +7,13 @@ pub one_word : (words : List (List ℕ)) (word : List ℕ) → 1 ≤ length word
 one_word [] word le lt is = absurd (omega (arith, le))
 one_word (only ∷ []) word le lt is = ap (λ w. w ∷ []) (sym is)
 one_word (first ∷ second ∷ rest) word le lt is = absurd (omega (arith, lt))
+
+-- A list of exactly two words.
+pub two_words : (words : List (List ℕ)) (word other : List ℕ) → 2 ≤ length words → length words < 3 → word ≡ slice_index_or words 0 word → other ≡ slice_index_or words 1 other → words ≡ word ∷ other ∷ []
+two_words [] word other le lt is are = absurd (omega (arith, le))
+two_words (first ∷ []) word other le lt is are = absurd (omega (arith, le))
+two_words (first ∷ second ∷ []) word other le lt is are = ap (λ (w : List ℕ). w ∷ second ∷ []) (sym is) ∙ ap (λ (w : List ℕ). word ∷ w ∷ []) (sym are)
+two_words (first ∷ second ∷ third ∷ rest) word other le lt is are = absurd (omega (arith, lt))
 
 -- A test of the one word is a test of the list.
 pub one_word_is : (words : List (List ℕ)) (word wanted : List ℕ) (test : Bool) → words ≡ word ∷ [] → Decides test (word ≡ wanted)

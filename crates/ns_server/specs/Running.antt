@@ -1,12 +1,19 @@
 -- What a run of the program does.
-use Rattle.std.specs.Prelude.{◌≡◌, ℕ, List, Option}
+use Rattle.std.specs.Prelude.{◌≡◌, ℕ, ◌<◌, ◌≤◌, List, [], length, take, Option}
+use Rattle.outside.specs.Faults.{Rose}
 use Rattle.outside.specs.Sending.{Sends}
+use Rattle.outside.specs.Writing.{Gains}
 use Rattle.outside.specs.declared.sending.Sent.{Sent}
 use Rattle.rehearse.specs.declared.answer.Rehearsal.TheVariants as rehearsal
+use Rattle.load_gen.specs.Load.{load_file, most_requests}
+use Rattle.rehearse.specs.Files.{Holds, whole}
+use Rattle.rehearse.specs.Lines.{Line}
 use Rattle.rehearse.specs.Rehearsing.{Outside, Rehearses}
+use Rattle.rehearse.specs.Summary.{summary, tally_of}
 use Rattle.ns_server.specs.declared.status.Status.{Status}
 use Rattle.ns_server.specs.declared.status.Status.TheVariants.{Done, BadEvent, BadWords, ReadFault, WriteFault, NoMemory}
-use Rattle.ns_server.specs.Statuses.{number_of, line_of, rehearse_words}
+use Rattle.ns_server.specs.Loads.{load_events}
+use Rattle.ns_server.specs.Statuses.{number_of, line_of, rehearse_words, load_words}
 
 -- What the streams of the program tell of themselves.
 pub record Streams : Type 0 where
@@ -29,26 +36,76 @@ outside_of s = record { input = s.input; read_faults = s.read_faults; output = s
 abbrev pub Tells : Streams → List ℕ → Streams → Type 0
 Tells before line after = (sent : Sent) × Sends before.errors before.error_faults line sent after.errors after.error_faults
 
--- What a status says of the words, the input and the output, where the natives have these names.
-abbrev pub Means : List (List ℕ) → Status → List (List ℕ) → Streams → Streams → Type 0
+-- ---- a load
+
+-- The words ask for a load of so many requests, from 1 to 100,000.
+pub record AsksLoad (words : List (List ℕ)) (requests : ℕ) : Type 0 where
+  pub words_are : words ≡ load_words requests
+  pub some : 1 ≤ requests
+  pub few : requests ≤ most_requests
+
+-- The input isn't touched, and the output took these bytes.
+pub record TellsOnly (before after : Streams) (bytes : List ℕ) : Type 0 where
+  pub input : (after.input ≡ before.input) × (after.read_faults ≡ before.read_faults)
+  pub output : Gains before.output bytes after.output
+
+-- The file of so many requests, where the natives have these names, holds the events of such a load and nothing else, and these four
+-- lines are counted of their listing.
+pub record Summarised (natives : List (List ℕ)) (requests : ℕ) (text : List ℕ) : Type 0 where
+  pub lines : List Line
+  pub holds : Holds natives (load_file requests) (load_events requests) lines whole
+  pub text_is : text ≡ summary requests (tally_of lines)
+
+-- The output failed, so its count rose, when it had taken the first so many bytes of the four lines, and not all.
+pub record HadLoadFault (natives : List (List ℕ)) (requests : ℕ) (before after : Streams) : Type 0 where
+  pub text : List ℕ
+  pub sent : ℕ
+  pub summarised : Summarised natives requests text
+  pub sent_less : sent < length text
+  pub tells : TellsOnly before after (take sent text)
+  pub rose : Rose before.write_faults after.write_faults
+
+-- What a status says of a load of so many requests.
+abbrev pub LoadMeans : List (List ℕ) → Status → ℕ → Streams → Streams → Type 0
+-- the four lines were written
+LoadMeans natives Done requests before after =
+    (text : List ℕ) × Summarised natives requests text × TellsOnly before after text
+LoadMeans natives WriteFault requests before after = HadLoadFault natives requests before after
+-- memory ran out, and nothing was written
+LoadMeans natives NoMemory requests before after = TellsOnly before after []
+-- its file holds events and nothing else, it reads nothing, and its words are a command
+LoadMeans natives (BadEvent event) requests before after = ⊥
+LoadMeans natives ReadFault requests before after = ⊥
+LoadMeans natives BadWords requests before after = ⊥
+
+-- ---- a rehearsal
+
+-- What a status says of a rehearsal.
+abbrev pub RehearsalMeans : List (List ℕ) → Status → Streams → Streams → Type 0
 -- all events of the input were read, and their listing was written
-Means natives Done words before after =
-    (words ≡ rehearse_words) × Rehearses natives (outside_of before) rehearsal.Done (outside_of after)
+RehearsalMeans natives Done before after = Rehearses natives (outside_of before) rehearsal.Done (outside_of after)
 -- the event of this number is none, all before it are, and the listing of these was written
-Means natives (BadEvent event) words before after =
-    (words ≡ rehearse_words) × Rehearses natives (outside_of before) (rehearsal.BadEvent event) (outside_of after)
--- the words are others, and nothing was read or written
-Means natives BadWords words before after =
-    ¬ (words ≡ rehearse_words) × (outside_of after ≡ outside_of before)
+RehearsalMeans natives (BadEvent event) before after =
+    Rehearses natives (outside_of before) (rehearsal.BadEvent event) (outside_of after)
 -- the input failed, and the listing of the whole events that it had given was written
-Means natives ReadFault words before after =
-    (words ≡ rehearse_words) × Rehearses natives (outside_of before) rehearsal.ReadFault (outside_of after)
+RehearsalMeans natives ReadFault before after = Rehearses natives (outside_of before) rehearsal.ReadFault (outside_of after)
 -- the output failed, when it had taken a front of the listing and not all of it
-Means natives WriteFault words before after =
-    (words ≡ rehearse_words) × (sent : ℕ) × Rehearses natives (outside_of before) (rehearsal.WriteFault sent) (outside_of after)
+RehearsalMeans natives WriteFault before after =
+    (sent : ℕ) × Rehearses natives (outside_of before) (rehearsal.WriteFault sent) (outside_of after)
 -- memory ran out, and the listing of the events played so far was written
-Means natives NoMemory words before after =
-    (words ≡ rehearse_words) × Rehearses natives (outside_of before) rehearsal.NoMemory (outside_of after)
+RehearsalMeans natives NoMemory before after = Rehearses natives (outside_of before) rehearsal.NoMemory (outside_of after)
+-- its words are a command
+RehearsalMeans natives BadWords before after = ⊥
+
+-- ---- both
+
+-- What a status says of the words, the input and the output, where the natives have these names. The words are those of a rehearsal,
+-- or of a load; or they are others, and nothing was read or written.
+pub data Means (natives : List (List ℕ)) (status : Status) (words : List (List ℕ)) (before after : Streams) : Type 0 where
+  rehearses : words ≡ rehearse_words → RehearsalMeans natives status before after → Means natives status words before after
+  loads : (requests : ℕ) → AsksLoad words requests → LoadMeans natives status requests before after → Means natives status words before after
+  refuses : status ≡ BadWords → ¬ (words ≡ rehearse_words) → ((requests : ℕ) → ¬ (AsksLoad words requests))
+      → outside_of after ≡ outside_of before → Means natives status words before after
 
 -- A run ends with the number of a status, did what the status means and told its line on errors,
 -- whatever errors did with it.

@@ -24,3 +24,7 @@ line_of NoMemory = codes "out of memory\n"
 -- the words of a rehearsal: `rehearse` alone
 abbrev pub rehearse_words : List (List ℕ)
 rehearse_words = codes "rehearse" ∷ []
+
+-- the words of a load of so many requests: `load` and their number
+abbrev pub load_words : ℕ → List (List ℕ)
+load_words requests = codes "load" ∷ decimal requests ∷ []

@@ -1,5 +1,6 @@
 //! The program `ns_server`: `ns_server rehearse` plays the file of events on standard input and writes the
-//! listing of what came of them to standard output.
+//! listing of what came of them to standard output; `ns_server load N` plays a file of N requests that it
+//! makes itself, and tells what was counted.
 #![tactic(auto)]
 
 ghost use Rattle.std.specs.Prelude.{◌≡◌, ◌<◌, ◌+◌, ◌∷◌, ◌++◌, [], false, take, OnOk};

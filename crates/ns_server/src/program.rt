@@ -1,23 +1,30 @@
 //! The commands of the program, over any streams.
 
-ghost use Rattle.std.specs.Prelude.{◌≡◌, ◌<◌, ◌↔◌, IsTrue, drop, length};
+ghost use Rattle.std.specs.Prelude.{◌≡◌, ◌<◌, ◌≤◌, ◌↔◌, ℕ, IsTrue, MatchOption, drop, length};
 ghost use Rattle.natives.specs.Names.{names_of};
 ghost use Rattle.outside.specs.Sending.{Sends};
 ghost use Rattle.outside.specs.declared.sending.Sent.{Sent};
 ghost use Rattle.ns_server.specs.Statuses.{number_of, line_of, rehearse_words};
-ghost use Rattle.ns_server.specs.Running.{Ends};
+ghost use Rattle.load_gen.specs.Load.{most_requests};
+ghost use Rattle.rehearse.specs.Summary.{summary};
+ghost use Rattle.ns_server.specs.Answers.{WritesSummary};
+ghost use Rattle.ns_server.specs.Running.{Streams, Ends, AsksLoad, LoadMeans};
 
 use crate::status::Status;
 use cmd_table::Steps;
+use load_gen::{MOST_REQUESTS, load};
 use natives::Natives;
-use outside::{Sink, Source, write_all};
-use rehearse::rehearse;
+use outside::{Sent, Sink, Source, write_all};
+use rehearse::{Counted, Tally, count_listing, read_number, rehearse};
 use std::alloc::Global;
 use std::sync::ledger::Ledger;
 use txt_core::Words;
 
 /// The word of a rehearsal.
 const REHEARSE: &[u8] = b"rehearse";
+
+/// The first word of a load.
+const LOAD: &[u8] = b"load";
 
 /// Whether the words are those of a rehearsal.
 fn asks_rehearsal(words: &Words) -> bool
@@ -26,6 +33,59 @@ fn asks_rehearsal(words: &Words) -> bool
     match words.as_slice() {
         [word] => word.bytes() == REHEARSE,
         _ => false,
+    }
+}
+
+/// How many requests the words ask a load of; `None` where they ask none.
+fn requests_asked(words: &Words) -> Option<u32>
+    ensures { MatchOption result ((requests : ℕ) → ¬ (AsksLoad words.now requests)) (λ requests. AsksLoad words.now requests) }
+{
+    let [word, count] = words.as_slice() else {
+        return None;
+    };
+    if word.bytes() != LOAD {
+        return None;
+    }
+    let requests = read_number(count.bytes())?;
+    if requests < 1 || requests > u64::from(MOST_REQUESTS) {
+        return None;
+    }
+    Some(requests as u32)
+}
+
+/// Writes the four lines that tell of so many requests and what was counted of their listing.
+fn write_summary<K: Sink>(alloc: Global, requests: u32, tally: Tally, output: &mut K) -> Status
+    ensures { WritesSummary (summary requests tally) (K.taken output.old) (K.faults output.old) result (K.taken output.new) (K.faults output.new) }
+{
+    let Ok(text) = tally.summary(alloc, requests) else {
+        return Status::NoMemory;
+    };
+    match write_all(output, text.bytes()) {
+        Sent::Whole { .. } => Status::Done,
+        Sent::WriteFault { .. } => Status::WriteFault,
+    }
+}
+
+/// Plays the file of so many requests, which holds events and nothing else, and writes what is counted of
+/// its listing.
+fn run_load<K: Sink, L: Ledger>(
+    alloc: Global,
+    natives: &Natives,
+    requests: u32,
+    output: &mut K,
+    steps: &mut Steps<L>,
+) -> Status
+    requires some { 1 ≤ requests }
+    requires few { requests ≤ most_requests }
+    ensures { (before : Streams) → before.output ≡ K.taken output.old → before.write_faults ≡ K.faults output.old → LoadMeans (names_of natives.now) result requests before (record before { output = K.taken output.new; write_faults = K.faults output.new }) }
+{
+    let Ok(file) = load(alloc, requests) else {
+        return Status::NoMemory;
+    };
+    match count_listing(alloc, natives, file, steps) {
+        Counted::Done(tally) => write_summary(alloc, requests, tally, output),
+        Counted::BadEvent { .. } => unreachable!(),
+        Counted::NoMemory => Status::NoMemory,
     }
 }
 
@@ -40,10 +100,12 @@ pub fn report<E: Sink>(errors: &mut E, status: Status) -> u8
     status.number()
 }
 
-/// Rehearses the file of events on the input, where the words are exactly `rehearse`, and gives the number
-/// of the status with which the program ends. Scripts have the natives beside their other commands.
+/// Rehearses the file of events on the input, where the words are exactly `rehearse`; or, where they are
+/// `load` and a number from 1 to 100,000, a file of so many requests, of whose listing four lines are
+/// counted. It gives the number of the status with which the program ends. Scripts have the natives beside
+/// their other commands.
 ///
-/// The listing goes to the output, and one line to errors unless all was read and written. A fault of
+/// The listing or the four lines go to the output, and one line to errors unless all was read and written. A fault of
 /// errors changes no status. The statuses: 0, all was read and written; 1, a bad event; 2, other words, and
 /// nothing was read or written; 3, a fault of the input; 4, a fault of the output; 5, want of memory.
 pub fn run_rehearse<S: Source, K: Sink, E: Sink, L: Ledger>(
@@ -60,6 +122,10 @@ pub fn run_rehearse<S: Source, K: Sink, E: Sink, L: Ledger>(
         result
         (record { input = S.rest input.new; read_faults = S.faults input.new; output = K.taken output.new; write_faults = K.faults output.new; errors = E.taken errors.new; error_faults = E.faults errors.new }) }
 {
+    if let Some(requests) = requests_asked(words) {
+        let status = run_load(alloc, natives, requests, output, steps);
+        return report(errors, status);
+    }
     if !asks_rehearsal(words) {
         return report(errors, Status::BadWords);
     }
@@ -68,7 +134,7 @@ pub fn run_rehearse<S: Source, K: Sink, E: Sink, L: Ledger>(
 }
 
 /// Does the command that the words name, and gives the number of the status with which the program ends.
-/// `rehearse` is the only command; it counts its steps in the first counter, and the others stay.
+/// `rehearse` and `load` are the commands; they count their steps in the first counter, and the others stay.
 pub fn run<S: Source, K: Sink, E: Sink, L: Ledger>(
     alloc: Global,
     natives: &Natives,

@@ -6,6 +6,7 @@ use natives::{Native, Natives};
 use outside::{MemSink, MemSource};
 use std::alloc::Global;
 use std::marker::Brand;
+use std::process::Abort;
 use std::sync::ledger::{Blank, Ledger};
 use std::test::*;
 use txt_core::{NoMemory, Text, Words};
@@ -16,6 +17,9 @@ const READ_PIECE: usize = 80;
 const WRITE_PIECE: usize = 100;
 
 const ERROR_PIECE: usize = 5;
+
+/// How many bytes are told of the first event.
+const DEFINED: usize = 10;
 
 /// A procedure, its URL and a GET of it. The first event has 79 bytes.
 const HI: &[u8] = b"define 68\n\
@@ -144,6 +148,15 @@ fn rehearsal(
     }
 }
 
+/// A load of one request, which reads nothing.
+fn load_of_one(status: u8, output: &'static [u8], errors: &'static [u8]) -> Case {
+    Case {
+        words: &[b"load", b"1"],
+        read_fails: &[0],
+        ..rehearsal(HI, status, output, errors)
+    }
+}
+
 fn others(words: &'static [&'static [u8]]) -> Case {
     Case {
         words,
@@ -151,37 +164,8 @@ fn others(words: &'static [&'static [u8]]) -> Case {
     }
 }
 
-#[test]
-fn each_status_has_its_cause_and_its_line(rt: HostRuntime) -> Result<(), Fail> {
-    let cases = [
-        rehearsal(HI, 0, HI_LISTING, b""),
-        rehearsal(NONE, 0, NONE_LISTING, b""),
-        rehearsal(b"", 0, b"", b""),
-        rehearsal(b"connect 5 0\n\n", 1, b"", b"bad event 1\n"),
-        rehearsal(HI_AND_MORE, 1, HI_LISTING, b"bad event 4\n"),
-        others(&[]),
-        others(&[b"load", b"0"]),
-        others(&[b"rehearse", b""]),
-        others(&[b"rehears"]),
-        others(&[b"rehearsed"]),
-        others(&[b"--help"]),
-        Case {
-            read_fails: &[1],
-            ..rehearsal(HI, 3, b"defined 1\n", b"read fault\n")
-        },
-        Case {
-            write_fails: &[1],
-            ..rehearsal(HI, 4, &HI_LISTING[..WRITE_PIECE], b"write fault\n")
-        },
-        Case {
-            error_fails: &[0],
-            ..rehearsal(HI_AND_MORE, 1, HI_LISTING, b"")
-        },
-        Case {
-            error_fails: &[1],
-            ..rehearsal(b"\n", 1, b"", b"bad e")
-        },
-    ];
+/// Runs the program for each case, and looks at what came.
+fn check_cases<R: Abort + AllocGlobal>(rt: &R, cases: &[Case]) -> Result<(), Fail> {
     let natives = Natives::new(rt.alloc());
     for (number, case) in cases.iter().enumerate() {
         let came = play::<Brand>(rt.alloc(), &natives, Blank::new(1), case)?;
@@ -196,4 +180,60 @@ fn each_status_has_its_cause_and_its_line(rt: HostRuntime) -> Result<(), Fail> {
         );
     }
     Ok(())
+}
+
+#[test]
+fn each_status_has_its_cause_and_its_line(rt: HostRuntime) -> Result<(), Fail> {
+    let cases = [
+        rehearsal(HI, 0, HI_LISTING, b""),
+        rehearsal(NONE, 0, NONE_LISTING, b""),
+        rehearsal(b"", 0, b"", b""),
+        rehearsal(b"connect 5 0\n\n", 1, b"", b"bad event 1\n"),
+        rehearsal(HI_AND_MORE, 1, HI_LISTING, b"bad event 4\n"),
+        others(&[]),
+        others(&[b"rehearse", b""]),
+        others(&[b"rehears"]),
+        others(&[b"rehearsed"]),
+        others(&[b"--help"]),
+        Case {
+            read_fails: &[1],
+            ..rehearsal(HI, 3, b"defined 1\n", b"read fault\n")
+        },
+        Case {
+            write_fails: &[1],
+            ..rehearsal(HI, 4, &HI_LISTING[..DEFINED], b"write fault\n")
+        },
+        Case {
+            error_fails: &[0],
+            ..rehearsal(HI_AND_MORE, 1, HI_LISTING, b"")
+        },
+        Case {
+            error_fails: &[1],
+            ..rehearsal(b"\n", 1, b"", b"bad e")
+        },
+    ];
+    check_cases(&rt, &cases)
+}
+
+#[test]
+fn loads_tell_what_is_counted(rt: HostRuntime) -> Result<(), Fail> {
+    let cases = [
+        load_of_one(
+            0,
+            b"requests 1\nstatus 200 1\nstatus 404 0\nbytes 156\n",
+            b"",
+        ),
+        Case {
+            write_fails: &[0],
+            ..load_of_one(4, b"", b"write fault\n")
+        },
+        others(&[b"load"]),
+        others(&[b"load", b"0"]),
+        others(&[b"load", b"01"]),
+        others(&[b"load", b"+1"]),
+        others(&[b"load", b"100001"]),
+        others(&[b"load", b"1", b"1"]),
+        others(&[b"Load", b"1"]),
+    ];
+    check_cases(&rt, &cases)
 }
