@@ -17,6 +17,7 @@ use Rattle.tcl_expr.specs.Outcome as answers
 use Rattle.tcl_expr.specs.Outcome.{Answer}
 use Rattle.tcl_expr.specs.Reading.{expression_of}
 use Rattle.tcl_expr.specs.Operators.{value_of}
+use Rattle.tcl_expr.specs.View.{tree_of as expression_tree}
 use Rattle.cmd_table.specs.Table.{command_of}
 use Rattle.cmd_table.specs.Renaming.{rename_answer}
 use Rattle.cmd_table.specs.declared.renaming.Renamed.{Renamed}
@@ -36,10 +37,18 @@ use Rattle.tcl_varcmd.specs.Answers.{Came, gives as gives_text, fails as fails_w
 use Rattle.tcl_varcmd.specs.Commands.{begins_var_command, var_came}
 use Rattle.tcl_eval.specs.declared.branch.Turning.{Turning}
 use Rattle.tcl_eval.specs.declared.branch.Branches.{Branches}
+use Rattle.tcl_eval.specs.declared.branch.Branch.{Branch}
+use Rattle.tcl_eval.specs.declared.branch.Branch.TheVariants as branch
 use Rattle.tcl_eval.specs.declared.operation.Way.{Way}
 use Rattle.tcl_eval.specs.declared.operation.Way.TheVariants.{Both, IfTrue, IfFalse}
 use Rattle.tcl_eval.specs.declared.parameter.Parameter.{Parameter}
 use Rattle.tcl_eval.specs.declared.stack.Ended.{Ended}
+use Rattle.tcl_eval.specs.declared.stack.Frame.{Frame}
+use Rattle.tcl_eval.specs.declared.stack.Frame.TheVariants as frames
+use Rattle.tcl_eval.specs.declared.stack.Ready.{Ready}
+use Rattle.tcl_eval.specs.declared.stack.Ready.TheVariants as ready
+use Rattle.tcl_eval.specs.declared.stack.Step.{Step}
+use Rattle.tcl_eval.specs.declared.stack.Step.TheVariants as step
 use Rattle.tcl_eval.specs.declared.verb.Verb.{Verb}
 use Rattle.tcl_eval.specs.declared.verb.Verb.TheVariants as verb
 use Rattle.tcl_eval.specs.declared.outcome.Work.{Work}
@@ -60,6 +69,8 @@ use Rattle.tcl_eval.specs.Loops.{assigned, in_loop, between, turn_body, turns, t
 use Rattle.tcl_eval.specs.Switch.{options, body_for, run_body, by_pairs, by_listing, by_words, by_options}
 use Rattle.tcl_eval.specs.Info.{info_said, do_info}
 use Rattle.tcl_eval.specs.Eval.{verb_of, is_for_host, set_or_fails, set_global, make, define, leaf, built_in, built, run_command, act, command, run_words, run_commands, run_reading, run_script, nested, eval}
+use Rattle.tcl_eval.specs.Places.{tree_of, commands_from, command_at, words_from, place_parts}
+use Rattle.tcl_eval.specs.Stack.{branch_next, frame_next, above, stack_next, ready_next, step_next}
 use Rattle.tcl_eval.specs.Pages.{words_script, page_end, text_end, told, piece_end, run_piece, run_pieces, run_page}
 
 -- What steps keep: P is said of a run by the state, the budget and the answers with which it begins, and by what it comes to; Q is
@@ -559,3 +570,116 @@ module _ {H : Type 0} (P Q : State H → ℕ → Given → Out H → Type 0) (Sh
   eval_good rule ns depth (work.Script bytes) short = run_script_good rule ns (most_levels + 1 - depth) (unread bytes) done c.ends
   eval_good rule ns depth (work.Call words) short = command_good rule ns (nested ns t (most_levels - depth)) (run_script_good rule ns (most_levels - depth)) words short done c.ends
   eval_good rule ns depth (work.Page page) short = run_page_good (nested ns t (most_levels + 1 - depth)) (run_script_good rule ns (most_levels + 1 - depth)) page done c.ends
+
+  -- ---- what is suspended
+
+  branch_good : LeafRule → (ns : Names) (b : Branch) (k : Next H) → GoodNext k → GoodNext (branch_next ns t b k)
+  branch_good rule ns (branch.If body branches next levels) k h =
+      let inner : Inner H = nested ns t levels in
+      let run : Runs inner = run_script_good rule ns levels in
+      let clauses : List (List ℕ × List ℕ) = drop next branches.value.clauses in
+      let go : List ℕ → Rest H = λ v. by_truth v (inner.run (unread body) k) (choose inner clauses branches.value.last k) k in
+      on_ok_good go k
+      (λ v. by_truth_good v (inner.run (unread body) k) (choose inner clauses branches.value.last k) k (run (unread body) k h) (choose_good inner run clauses branches.value.last k h) h) h
+  branch_good rule ns (branch.Start turning levels) k h =
+      let inner : Inner H = nested ns t levels in
+      on_ok_good (λ v. turn_on inner turning.value k) k (λ v. turn_on_good inner (run_script_good rule ns levels) turning.value k h) h
+  branch_good rule ns (branch.Condition turning left levels) k h =
+      let inner : Inner H = nested ns t levels in
+      let run : Runs inner = run_script_good rule ns levels in
+      let behind : Rest H = turns inner turning.value left k in
+      let go : List ℕ → Rest H = λ v. by_truth v (turn_body inner turning.value behind k) (k 0 []) k in
+      on_ok_good go k
+      (λ v. by_truth_good v (turn_body inner turning.value behind k) (k 0 []) k
+      (turn_body_good inner run turning.value behind k (turns_good inner run turning.value left k h) h) (h 0 []) h) h
+  branch_good rule ns (branch.Body turning left levels) k h =
+      let inner : Inner H = nested ns t levels in
+      let run : Runs inner = run_script_good rule ns levels in
+      let behind : Rest H = turns inner turning.value left k in
+      in_loop_good (between inner turning.value.next behind k) k
+      (between_good inner run turning.value.next behind k (turns_good inner run turning.value left k h) h) h
+  branch_good rule ns (branch.Next turning left levels) k h =
+      let inner : Inner H = nested ns t levels in
+      in_loop_good (turns inner turning.value left k) k (turns_good inner (run_script_good rule ns levels) turning.value left k h) h
+  branch_good rule ns (branch.Each walk at left levels) k h =
+      let inner : Inner H = nested ns t levels in
+      let values : List (List ℕ) = drop at walk.value.values in
+      in_loop_good (walk_on inner walk.value.names walk.value.body left values k) k
+      (walk_on_good inner (run_script_good rule ns levels) walk.value.names walk.value.body left values k h) h
+  branch_good rule ns (branch.Page page next levels) k h =
+      let inner : Inner H = nested ns t levels in
+      piece_end_good (run_pieces t inner (drop next page) k) k (run_pieces_good inner (run_script_good rule ns levels) (drop next page) k h) h
+
+  -- any words are as a run reads them
+  abbrev pub AnyShort : Type 0
+  AnyShort = (words : List (List ℕ)) → AllByRecursion Short words
+
+  frame_good : LeafRule → AnyShort → (ns : Names) (f : Frame) (k : Next H) → GoodNext k → GoodNext (frame_next ns t f k)
+  frame_good rule any ns (frames.Script script next levels) k h =
+      let inner : Inner H = nested ns t levels in
+      let behind : Commands = commands_from next (tree_of script.value) in
+      on_ok_good (λ v. run_commands ns t inner behind v k) k (λ v. run_commands_good rule ns inner (run_script_good rule ns levels) behind v k h) h
+  frame_good rule any ns (frames.Command script at values levels) k h =
+      let inner : Inner H = nested ns t levels in
+      let behind : Words = words_from (length values + 1) (command_at at (tree_of script.value)) in
+      let go : List ℕ → Rest H = λ v. run_words ns t inner behind (values ++ v ∷ []) k in
+      word_end_good go k (λ v short. run_words_good rule ns inner (run_script_good rule ns levels) behind (values ++ v ∷ []) (any (values ++ v ∷ [])) k h) h
+  frame_good rule any ns (frames.Word place so_far levels) k h =
+      let inner : Inner H = nested ns t levels in
+      on_ok_good (λ v. run_parts inner (place_parts place) (so_far ++ v) k) k
+      (λ v. run_parts_good inner (run_script_good rule ns levels) (place_parts place) (so_far ++ v) k h) h
+  frame_good rule any ns (frames.Index array) k h =
+      on_ok_good (λ v. read_variable (element_name array v) k) k (λ v. read_variable_good (element_name array v) k h) h
+  frame_good rule any ns frames.Result k h = command_end_good k h
+  frame_good rule any ns frames.Procedure k h = proc_end_good k h
+  frame_good rule any ns (frames.Caught name) k h = catch_end_good name k h
+  frame_good rule any ns (frames.Expression expr levels) k h =
+      let inner : Inner H = nested ns t levels in
+      on_ok_good (λ v. run_expression inner (expression_tree expr) k) k
+      (λ v. run_expression_good inner (run_script_good rule ns levels) (expression_tree expr) k h) h
+  frame_good rule any ns frames.Operand k h = word_end_good (λ v. k 0 v) k (λ v short. h 0 v) h
+  frame_good rule any ns (frames.Operation op) k h = on_ok_good (λ v. give (with_one op v) k) k (λ v. give_good (with_one op v) k h) h
+  frame_good rule any ns (frames.Left op right levels) k h =
+      let inner : Inner H = nested ns t levels in
+      let x : Tree = expression_tree right.value in
+      let end : List ℕ → Next H = λ left. on_ok (λ v. give (with_two op left v) k) k in
+      let go : List ℕ → Rest H = λ left. behind_left (way_of op) left (run_expression inner x (end left)) k in
+      on_ok_good go k
+      (λ left. behind_left_good (way_of op) left (run_expression inner x (end left)) k
+      (run_expression_good inner (run_script_good rule ns levels) x (end left)
+      (on_ok_good (λ v. give (with_two op left v) k) k (λ v. give_good (with_two op left v) k h) h)) h) h
+  frame_good rule any ns (frames.Right op left) k h =
+      on_ok_good (λ v. give (with_two op left v) k) k (λ v. give_good (with_two op left v) k h) h
+  frame_good rule any ns (frames.Choice first second levels) k h =
+      let inner : Inner H = nested ns t levels in
+      let run : Runs inner = run_script_good rule ns levels in
+      let x : Tree = expression_tree first.value in
+      let y : Tree = expression_tree second.value in
+      let go : List ℕ → Rest H = λ v. by_truth v (run_expression inner x k) (run_expression inner y k) k in
+      on_ok_good go k
+      (λ v. by_truth_good v (run_expression inner x k) (run_expression inner y k) k (run_expression_good inner run x k h) (run_expression_good inner run y k h) h) h
+  frame_good rule any ns frames.Value k h = on_ok_good (λ v. k 0 (value_of v)) k (λ v. h 0 (value_of v)) h
+  frame_good rule any ns (frames.Branch b) k h = branch_good rule ns b k h
+
+  above_good : LeafRule → AnyShort → (ns : Names) (fs : List Frame) (k : Next H) → GoodNext k → GoodNext (above ns t fs k)
+  above_good rule any ns [] k h = h
+  above_good rule any ns (f ∷ fs) k h = above_good rule any ns fs (frame_next ns t f k) (frame_good rule any ns f k h)
+
+  pub stack_good : LeafRule → AnyShort → (ns : Names) (fs : List Frame) → GoodNext (stack_next ns t fs)
+  stack_good rule any ns fs = above_good rule any ns fs done c.ends
+
+  pub ready_good : LeafRule → AnyShort → (ns : Names) (what : Ready) (k : Next H) → GoodNext k → Good (ready_next ns t what k)
+  ready_good rule any ns (ready.Command words levels) k h =
+      command_good rule ns (nested ns t levels) (run_script_good rule ns levels) words (any (drop 1 words)) k h
+  ready_good rule any ns (ready.Branch b value) k h = branch_good rule ns b k h value.code value.result
+  ready_good rule any ns ready.TooDeep k h = λ s b g. c.sinks s b g
+  ready_good rule any ns ready.Spent k h = λ s b g. c.spends s b g
+
+  pub step_good : LeafRule → AnyShort → (ns : Names) (what : Step) (k : Next H) → GoodNext k → Good (step_next ns t what k)
+  step_good rule any ns (step.Value value) k h = give_good value k h
+  step_good rule any ns (step.Pieces place so_far levels) k h = run_parts_good (nested ns t levels) (run_script_good rule ns levels) (place_parts place) so_far k h
+  step_good rule any ns (step.Stop what) k h = ready_good rule any ns what k h
+
+  -- what a command may run, where so many levels are left to it
+  pub nested_good : LeafRule → (ns : Names) (levels : ℕ) → Runs (nested ns t levels)
+  nested_good rule ns levels = run_script_good rule ns levels

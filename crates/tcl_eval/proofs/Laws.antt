@@ -20,7 +20,7 @@ abbrev pub AnyWord : List ℕ → Type 0
 AnyWord word = Unit {0}
 
 -- words of which nothing is said
-any_words : (words : List (List ℕ)) → AllByRecursion AnyWord words
+pub any_words : (words : List (List ℕ)) → AllByRecursion AnyWord words
 any_words [] = tt
 any_words (w ∷ words) = (tt, any_words words)
 

@@ -4,6 +4,7 @@ pub mod Bases
 pub mod Branches
 pub mod Every
 pub mod Expressions
+pub mod Fronts
 pub mod Laws
 pub mod Made
 pub mod Turns

@@ -28,7 +28,7 @@ pub record Making (H : Type 0) (t : LeafTable H) (Is : Def → Type 0) (Short : 
   pub answers : (words : List (List ℕ)) (answer : Answer) (host new : H) (def : Def) → AllByRecursion Short (drop 1 words) → is_for_host def ≡ true → t.answers words answer host ≡ goes (defines def new) → Is def
   pub shortens : (value : List ℕ) → IsShort value → Short value
 
-abbrev Grows : {H : Type 0} → (Def → Type 0) → State H → ℕ → Given → Out H → Type 0
+abbrev pub Grows : {H : Type 0} → (Def → Type 0) → State H → ℕ → Given → Out H → Type 0
 Grows Is s b g x = Adds Is s.made (state_in x).made
 
 module _ {H : Type 0} (Is : Def → Type 0) where
@@ -39,11 +39,11 @@ module _ {H : Type 0} (Is : Def → Type 0) where
   adds_moved : (s s' : State H) (new : List Def) → s'.made ≡ s.made → Adds Is s'.made new → Adds Is s.made new
   adds_moved s s' new same a = (a.0, a.1 ∙ ap (λ (made : List Def). made ++ a.0) same, a.2)
 
-  adds_none : (s : State H) → Adds Is s.made s.made
+  pub adds_none : (s : State H) → Adds Is s.made s.made
   adds_none s = ([], sym (append-nil s.made), tt)
 
 module _ {H : Type 0} (t : LeafTable H) (Is : Def → Type 0) (Short : List ℕ → Type 0) (making : Making H t Is Short) where
-  grows : Closed H (Grows Is) (Grows Is) Short
+  pub grows : Closed H (Grows Is) (Grows Is) Short
   grows = record {
     falls = λ s b b' g x le h. h;
     moves = λ s s' b g x same h. adds_moved Is s s' (state_in x).made same h;
@@ -59,14 +59,14 @@ module _ {H : Type 0} (t : LeafTable H) (Is : Def → Type 0) (Short : List ℕ 
 
 module _ {H : Type 0} (t : LeafTable H) (Is : Def → Type 0) (Short : List ℕ → Type 0) (making : Making H t Is Short) (inner : Inner H) (run : every.Runs (Grows Is) (Grows Is) Short (grows t Is Short making) t inner) where
   -- what a command said, or an answer made it say, is so
-  abbrev Said : Leaf H → Type 0
+  abbrev pub Said : Leaf H → Type 0
   Said said = (def : Def) (new : H) → is_for_host def ≡ true → said ≡ defines def new → Is def
 
-  resumed_grows : (said : Onward H) (go : Leaf H → Out H) (k : Next H) (s : State H) (b : ℕ) (g : Given) → ((l : Leaf H) → said ≡ goes l → Grows Is s b g (go l)) → every.GoodNext (Grows Is) (Grows Is) Short (grows t Is Short making) t k → Grows Is s b g (resumed t inner said go k s b g)
+  pub resumed_grows : (said : Onward H) (go : Leaf H → Out H) (k : Next H) (s : State H) (b : ℕ) (g : Given) → ((l : Leaf H) → said ≡ goes l → Grows Is s b g (go l)) → every.GoodNext (Grows Is) (Grows Is) Short (grows t Is Short making) t k → Grows Is s b g (resumed t inner said go k s b g)
   resumed_grows (goes said) go k s b g on h = on said refl
   resumed_grows (enters page host) go k s b g on h = every.run_page_good (Grows Is) (Grows Is) Short (grows t Is Short making) t inner run page k h (with_host s host) b g
 
-  leaf_grows : (words : List (List ℕ)) → AllByRecursion Short (drop 1 words) → (said : Leaf H) → Said said → (k : Next H) → every.GoodNext (Grows Is) (Grows Is) Short (grows t Is Short making) t k → (s : State H) (b : ℕ) (g : Given) → Grows Is s b g (leaf t inner words said k s b g)
+  pub leaf_grows : (words : List (List ℕ)) → AllByRecursion Short (drop 1 words) → (said : Leaf H) → Said said → (k : Next H) → every.GoodNext (Grows Is) (Grows Is) Short (grows t Is Short making) t k → (s : State H) (b : ℕ) (g : Given) → Grows Is s b g (leaf t inner words said k s b g)
   leaf_grows words short (says code result host) is k h s b g = h code result (with_host s host) b g
   leaf_grows words short (defines def host) is k h s b g =
       every.define_good (Grows Is) (Grows Is) Short (grows t Is Short making) t def
@@ -88,16 +88,16 @@ module _ {H : Type 0} (t : LeafTable H) (Is : Def → Type 0) (Short : List ℕ 
       k h s' (b - cost) g) h)
 
 module _ {H : Type 0} (t : LeafTable H) (Is : Def → Type 0) (Short : List ℕ → Type 0) (making : Making H t Is Short) where
-  run_grows : every.LeafRule (Grows Is) (Grows Is) Short (grows t Is Short making) t
+  pub run_grows : every.LeafRule (Grows Is) (Grows Is) Short (grows t Is Short making) t
   run_grows inner run words short k h s b g =
       leaf_grows t Is Short making inner run words short (t.calls words s.host) (λ def new yes e. making.calls words s.host new def short yes e) k h s b g
 
 -- ---- whatever is made
 
-abbrev AnyDef : Def → Type 0
+abbrev pub AnyDef : Def → Type 0
 AnyDef def = Unit {0}
 
-any_making : {H : Type 0} (t : LeafTable H) → Making H t AnyDef AnyWord
+pub any_making : {H : Type 0} (t : LeafTable H) → Making H t AnyDef AnyWord
 any_making t = record {
   procs = λ words all is short four. tt;
   renames = λ words short three. tt;

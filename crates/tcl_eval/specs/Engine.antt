@@ -163,9 +163,13 @@ module _ {H : Type 0} where
   Leaves TooDeep engine = engine.question ≡ None
   Leaves NoMemory engine = Unit {0}
 
-  -- the table is as it was, the definitions made write as many of its entries, and the base scalars are kept
+  -- the table is as it was, no definition was made, and the base scalars are kept
   abbrev pub Holds : Engine H → Engine H → Type 0
-  Holds new old = (new.table ≡ old.table) × (Writes new.made ≡ Writes old.made) × (new.frames.keeps ≡ old.frames.keeps)
+  Holds new old = (new.table ≡ old.table) × (new.made ≡ old.made) × (new.frames.keeps ≡ old.frames.keeps)
+
+  -- the same, but definitions may have been made that write no entry of the table
+  abbrev pub HoldsTable : Engine H → Engine H → Type 0
+  HoldsTable new old = (new.table ≡ old.table) × (Writes new.made ≡ Writes old.made) × (new.frames.keeps ≡ old.frames.keeps)
 
   -- What no run changes, also where memory wants: each mark of the table is one still, and of the same state; the table's mark is
   -- as much higher as there are more entries that the definitions made write; and the base scalars are those that were kept.

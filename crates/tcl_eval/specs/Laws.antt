@@ -3,6 +3,7 @@ use Rattle.std.specs.Prelude.{◌≡◌, ◌≤◌, ◌<◌, ℕ, suc, ◌+◌, 
 use Rattle.std.specs.List.{AllByRecursion}
 use Rattle.outside.specs.declared.question.Answer.{Answer}
 use Rattle.outside.specs.declared.question.Question.{Question}
+use Rattle.cmd_table.specs.Commands.{Writes}
 use Rattle.cmd_table.specs.declared.definition.Def.{Def}
 use Rattle.tcl_eval.specs.declared.branch.Turning.{Turning}
 use Rattle.tcl_eval.specs.declared.parameter.Parameter.{Parameter}
@@ -15,6 +16,9 @@ use Rattle.tcl_eval.specs.Parameters.{parameters}
 use Rattle.tcl_eval.specs.Commands.{proc_of, rename_of}
 use Rattle.tcl_eval.specs.Loops.{turns}
 use Rattle.tcl_eval.specs.Eval.{is_for_host, nested, eval}
+use Rattle.tcl_eval.specs.Engine.{comes_to}
+use Rattle.tcl_eval.specs.declared.engine.Engine.{Engine}
+use Rattle.tcl_eval.specs.declared.outcome.Outcome.TheVariants.{Asks}
 use Rattle.tcl_eval.specs.State.{State, LeafTable, wants, defines, goes, Given, Out, done, asks, spent, too_deep, Next}
 
 -- More turns than the budget that is left change nothing. So the number of turns never ends a loop that has budget left.
@@ -76,11 +80,21 @@ state_in (too_deep state) = state
 abbrev pub Adds : (Def → Type 0) → List Def → List Def → Type 0
 Adds Is old new = (more : List Def) × (new ≡ old ++ more) × AllByRecursion Is more
 
+-- definitions that stand in front of others: these are the same ones, and perhaps more behind them
+abbrev pub IsFront : List Def → List Def → Type 0
+IsFront old new = (more : List Def) × (new ≡ old ++ more)
+
 -- What is made only grows.
 abbrev pub MadeGrows : {H : Type 0} → LeafTable H → Type 0
 MadeGrows {H} table =
     (names : Names) (depth : ℕ) (work : Work) (state : State H) (budget : ℕ) (given : Given)
     → Adds (λ def. Unit {0}) state.made (state_in (eval names table depth work state budget given)).made
+
+-- The same from an engine that stands at a question: what it made stays in front of what it makes with any answers.
+abbrev pub MadeGrowsOn : {H : Type 0} → LeafTable H → Type 0
+MadeGrowsOn {H} table =
+    (names : Names) (question : Question) (engine : Engine H) (given : Given)
+    → IsFront engine.made (state_in (comes_to names table (Asks question) engine given)).made
 
 -- a word isn't longer than a word may be
 abbrev pub IsShort : List ℕ → Type 0
@@ -127,3 +141,7 @@ MadeByCommands {H} table =
     (names : Names) (depth : ℕ) (work : Work) (state : State H) (budget : ℕ) (given : Given)
     → HasShortCall work
     → Adds (Makes H table) state.made (state_in (eval names table depth work state budget given)).made
+
+-- Definitions in front of others write at most as many entries of the table as those.
+abbrev pub FrontsWriteLess : Type 0
+FrontsWriteLess = (old new : List Def) → IsFront old new → Writes old ≤ Writes new

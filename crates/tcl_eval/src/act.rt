@@ -9,7 +9,7 @@ ghost use Rattle.tcl_varcmd.specs.Commands.{begins_var_command, var_came};
 ghost use Rattle.tcl_eval.specs.Natives.{Names};
 ghost use Rattle.tcl_eval.specs.State.{Onward, Next, Rest};
 ghost use Rattle.tcl_eval.specs.Eval.{Inner, addressed, nested, answer_cost, write_all, call_proc, call_native, do_proc, do_rename, do_eval, do_catch, catch_end, came_next, arg, define, make, set_global, is_for_host, leaf, onward, built_in, built, act, run_script, unread, stored, stored_of, proc_of, give, error_of};
-ghost use Rattle.tcl_eval.specs.Engine.{Same, Keeps, Holds, Counts, IsNoPage, Opens, Enters, Lower, credit, acted_next, AskedBy, after_writes};
+ghost use Rattle.tcl_eval.specs.Engine.{Same, Keeps, Holds, HoldsTable, Counts, IsNoPage, Opens, Enters, Lower, credit, acted_next, AskedBy, after_writes};
 ghost use Rattle.tcl_eval.specs.Verbs.{IsRunning, ValueOf, made_by};
 ghost use Rattle.tcl_host.specs.Answers.{RepliesTo};
 ghost use Rattle.tcl_eval.specs.declared.stack.Acted.{Acted};
@@ -160,7 +160,8 @@ impl<H: Host> Engine<H> {
     fn set_global(&mut self, name: Text, value: Text) -> Result<Ended, NoMemory>
         ensures means { IfOk result (λ answer. (names : Names) → Same names H.table self.new self.old (give answer) (set_global name value)) }
         ensures keeps { OnOk result (Keeps self.new self.old) }
-        ensures holds { Holds self.new self.old }
+        ensures holds { HoldsTable self.new self.old }
+        ensures kept { OnErr result (self.new.made ≡ self.old.made) }
     {
         if value.len() > MOST_BYTES {
             return too_long(self.alloc);
@@ -181,7 +182,8 @@ impl<H: Host> Engine<H> {
         requires { is_for_host def ≡ true }
         ensures means { IfOk result (λ value. (names : Names) → Same names H.table self.new self.old (give value) (make def)) }
         ensures keeps { OnOk result (Keeps self.new self.old) }
-        ensures holds { Holds self.new self.old }
+        ensures holds { HoldsTable self.new self.old }
+        ensures kept { OnErr result (self.new.made ≡ self.old.made) }
     {
         match def {
             Def::Set { name, value } => {
@@ -199,7 +201,8 @@ impl<H: Host> Engine<H> {
     fn define_for_host(&mut self, def: Def, words: &Words) -> Result<Ended, NoMemory>
         ensures means { IfOk result (λ value. (names : Names) → Same names H.table self.new self.old (give value) (define def words.now)) }
         ensures keeps { OnOk result (Keeps self.new self.old) }
-        ensures holds { Holds self.new self.old }
+        ensures holds { HoldsTable self.new self.old }
+        ensures kept { OnErr result (self.new.made ≡ self.old.made) }
     {
         if !is_for_host(&def) {
             let message = unknown_command(self.alloc, word_at(words, 0))?;
@@ -238,7 +241,8 @@ impl<H: Host> Engine<H> {
         ensures credit { OnOk result (IsNoPage reply → credit self.new ≤ credit self.old + 1) }
         ensures opens { IfOk result (λ acted. Opens acted self.new self.old) }
         ensures asks { IfOk result (λ acted. AskedBy acted reply words self.new self.old) }
-        ensures holds { Holds self.new self.old }
+        ensures holds { HoldsTable self.new self.old }
+        ensures kept { OnErr result (self.new.made ≡ self.old.made) }
     {
         match reply {
             HostReply::Done { code, result } => Ok(Acted::Gives(Ended { code, result })),
@@ -275,7 +279,8 @@ impl<H: Host> Engine<H> {
         ensures means { IfOk result (λ acted. (names : Names) → Same names H.table self.new self.old (acted_next names H.table acted self.new.question) (λ k state. leaf H.table (nested names H.table levels) words (H.table.calls words state.host) k state)) }
         ensures lower { OnOk result (Lower self.new self.old 1) }
         ensures opens { IfOk result (λ acted. Opens acted self.new self.old) }
-        ensures holds { Holds self.new self.old }
+        ensures holds { HoldsTable self.new self.old }
+        ensures kept { OnErr result (self.new.made ≡ self.old.made) }
     {
         let reply = self.host.call(&words);
         let acted = self.replied(reply, words, levels)?;
@@ -288,6 +293,7 @@ impl<H: Host> Engine<H> {
         ensures table { OnOk result (self.new.table.table ≡ defined self.old.table.table (proc_of words.now)) }
         ensures steps { steps.old ≤ steps.new }
         ensures counts { Counts steps.new steps.old self.new self.old }
+        ensures kept { OnErr result (self.new.made ≡ self.old.made) }
     {
         let def = proc_of(self.alloc, words)?;
         let count = self.made.len();
@@ -307,6 +313,7 @@ impl<H: Host> Engine<H> {
         ensures keeps { OnOk result (Keeps self.new self.old) }
         ensures steps { steps.old ≤ steps.new }
         ensures counts { Counts steps.new steps.old self.new self.old }
+        ensures kept { OnErr result (self.new.made ≡ self.old.made) }
     {
         if words.len() != 4 {
             return wrong_words(self.alloc, words);
@@ -333,6 +340,7 @@ impl<H: Host> Engine<H> {
         ensures table { OnOk result (self.new.table.table ≡ renamed self.old.table.table old.now new.now) }
         ensures steps { steps.old ≤ steps.new }
         ensures counts { Counts steps.new steps.old self.new self.old }
+        ensures kept { OnErr result (self.new.made ≡ self.old.made) }
     {
         let def = Def::Rename {
             old: old.copy(self.alloc)?,
@@ -367,6 +375,7 @@ impl<H: Host> Engine<H> {
         ensures keeps { OnOk result (Keeps self.new self.old) }
         ensures steps { steps.old ≤ steps.new }
         ensures counts { Counts steps.new steps.old self.new self.old }
+        ensures kept { OnErr result (self.new.made ≡ self.old.made) }
     {
         if words.len() != 3 {
             return wrong_words(self.alloc, words);
@@ -479,6 +488,7 @@ impl<H: Host> Engine<H> {
         ensures keeps { OnOk result (Keeps self.new self.old) }
         ensures steps { steps.old ≤ steps.new }
         ensures counts { Counts steps.new steps.old self.new self.old }
+        ensures kept { OnErr result (self.new.made ≡ self.old.made) }
     {
         let value = match verb {
             Verb::Proc => self.do_proc(words, steps)?,
@@ -507,7 +517,8 @@ impl<H: Host> Engine<H> {
         ensures means { IfOk result (λ acted. (names : Names) → Same names H.table self.new self.old (acted_next names H.table acted self.new.question) (built_in names H.table (nested names H.table levels) verb words)) }
         ensures lower { OnOk result (Lower self.new self.old 1) }
         ensures opens { IfOk result (λ acted. Opens acted self.new self.old) }
-        ensures holds { Holds self.new self.old }
+        ensures holds { HoldsTable self.new self.old }
+        ensures kept { OnErr result (self.new.made ≡ self.old.made) }
     {
         let acted = match verb {
             Verb::Eval => self.do_eval(&words, levels)?,
@@ -536,6 +547,7 @@ impl<H: Host> Engine<H> {
         ensures opens { IfOk result (λ acted. Opens acted self.new self.old) }
         ensures steps { steps.old ≤ steps.new }
         ensures counts { Counts steps.new steps.old self.new self.old }
+        ensures kept { OnErr result (self.new.made ≡ self.old.made) }
     {
         match self.do_value(verb, &words, steps)? {
             Some(value) => Ok(Acted::Gives(value)),
@@ -559,6 +571,7 @@ impl<H: Host> Engine<H> {
         ensures opens { IfOk result (λ acted. Opens acted self.new self.old) }
         ensures steps { steps.old ≤ steps.new }
         ensures counts { Counts steps.new steps.old self.new self.old }
+        ensures kept { OnErr result (self.new.made ≡ self.old.made) }
     {
         let name = copy_word(self.alloc, &words, 0)?;
         if let Some(native) = natives.find(&name) {
@@ -631,6 +644,7 @@ impl<H: Host> Engine<H> {
         ensures opens { IfOk result (λ acted. Opens acted self.new self.old) }
         ensures steps { steps.old ≤ steps.new }
         ensures counts { Counts steps.new steps.old self.new self.old }
+        ensures kept { OnErr result (self.new.made ≡ self.old.made) }
     {
         let name = copy_word(self.alloc, &words, 0)?;
         match self.table.get(&name) {

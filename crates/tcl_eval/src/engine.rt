@@ -1,6 +1,6 @@
 //! The engine.
 
-ghost use Rattle.std.specs.Prelude.{◌≡◌, ◌≤◌, ◌+◌, ◌-◌, [], IsSome, None, OnOk, OnErr, length, false};
+ghost use Rattle.std.specs.Prelude.{◌≡◌, ◌≤◌, ℕ, ◌+◌, ◌-◌, [], ◌∷◌, IsSome, None, OnOk, OnErr, length, false};
 ghost use Rattle.std.specs.Option.{option_copied};
 ghost use Rattle.cmd_table.specs.Commands.{Applies, defined, writes, Writes};
 ghost use Rattle.cmd_table.specs.Table.{command_of, mark_of, table_at, back_at, Keeps as KeepsMarks};
@@ -8,7 +8,12 @@ ghost use Rattle.natives.specs.Names.{names_of};
 ghost use Rattle.tcl_frame.specs.Base.{IsAtBase, cleared, kept, unkept};
 ghost use Rattle.tcl_frame.specs.Names.{named, is_element};
 ghost use Rattle.outside.specs.declared.question.Service.{Service};
-ghost use Rattle.tcl_eval.specs.Engine.{Holds, Lasts, FellTo, IsKeepable, kept_by, state_of, at_global, IsIdle, IsOpenTo, IfRan, Leaves, Stands, Answered, StandsOn, Falls};
+ghost use Rattle.outside.specs.declared.question.Question.{Question};
+ghost use Rattle.tcl_eval.specs.State.{Given};
+ghost use Rattle.tcl_eval.specs.Eval.{eval};
+ghost use Rattle.tcl_eval.specs.Laws.{state_in, IsFront};
+ghost use Rattle.tcl_eval.specs.Engine.{Holds, Lasts, FellTo, IsKeepable, kept_by, state_of, at_global, IsIdle, IsOpenTo, IfRan, Leaves, Stands, Answered, StandsOn, Falls, comes_to, with_more};
+ghost use Rattle.tcl_eval.specs.declared.outcome.Outcome.TheVariants.{Asks};
 
 use crate::outcome::{Outcome, Work};
 use crate::stack::Frame;
@@ -92,6 +97,7 @@ impl<H: Host> Engine<H> {
         ensures steps { steps.old ≤ steps.new }
         ensures counts { steps.new + Writes self.old.made ≡ steps.old + Writes self.new.made }
         ensures lasts { Lasts self.new self.old }
+        ensures front { (given : Given) → IsFront self.new.made (state_in (eval (names_of natives.now) H.table depth work (state_of self.old) budget given)).made }
     {
         self.budget = budget;
         match self.begin(natives, work, depth, steps) {
@@ -103,7 +109,8 @@ impl<H: Host> Engine<H> {
     /// Goes on with the answer to the question that is open, which is answered once, whatever comes
     /// of it. After `Spent`, as where the answer costs more than is left, and after `TooDeep` no
     /// question is open, and `abandon` comes before the next start. A run that has ended may not be
-    /// resumed. Steps are counted, and marks and base scalars stay, as at `start`.
+    /// resumed. Steps are counted, marks and base scalars stay, and the definitions that were made are a front
+    /// of those that the run makes, as at `start`.
     pub fn resume<L: Ledger>(
         &mut self,
         natives: &Natives,
@@ -118,6 +125,7 @@ impl<H: Host> Engine<H> {
         ensures steps { steps.old ≤ steps.new }
         ensures counts { steps.new + Writes self.old.made ≡ steps.old + Writes self.new.made }
         ensures lasts { Lasts self.new self.old }
+        ensures front { (question : Question) (charge : ℕ) (further : Given) → IsFront self.new.made (state_in (comes_to (names_of natives.now) H.table (Asks question) (with_more self.old charge) ((answer, charge) ∷ further))).made }
     {
         match self.answer(natives, answer, steps) {
             Ok(outcome) => outcome,

@@ -1,6 +1,6 @@
 //! Laws of what runs come to.
 
-ghost use Rattle.tcl_eval.specs.Laws.{TurnsSuffice, QuestionsCost, QuestionsAreFew, MadeGrows, MadeByCommands};
+ghost use Rattle.tcl_eval.specs.Laws.{TurnsSuffice, QuestionsCost, QuestionsAreFew, MadeGrows, MadeGrowsOn, MadeByCommands, FrontsWriteLess};
 
 use tcl_host::Host;
 
@@ -27,7 +27,17 @@ pub fn made_grows<H: Host>()
     ensures { MadeGrows H.table }
 {}
 
+/// The same from where an engine stands at a question, whatever answers it is given.
+pub fn made_grows_on<H: Host>()
+    ensures { MadeGrowsOn H.table }
+{}
+
 /// Each definition that a run adds is one that a command makes: `proc`, `rename`, or one of the host's.
 pub fn made_by_commands<H: Host>()
     ensures { MadeByCommands H.table }
+{}
+
+/// Definitions that stand in front of others write at most as many entries of the table.
+pub fn fronts_write_less()
+    ensures { FrontsWriteLess }
 {}

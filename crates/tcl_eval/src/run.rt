@@ -1,11 +1,15 @@
 //! A run, from one text that is run to the next.
 
-ghost use Rattle.std.specs.Prelude.{◌≡◌, ◌<◌, ◌≤◌, [], IfOk, OnOk, IsSome, None};
+ghost use Rattle.std.specs.Prelude.{◌≡◌, ◌<◌, ◌≤◌, [], ◌∷◌, IfOk, OnOk, OnErr, IsSome, None};
 ghost use Rattle.natives.specs.Names.{names_of};
 ghost use Rattle.outside.specs.declared.question.Answer.{Answer};
-ghost use Rattle.tcl_eval.specs.Eval.{nested, command, run_work};
+ghost use Rattle.outside.specs.declared.question.Question.{Question};
+ghost use Rattle.tcl_eval.specs.Eval.{nested, command, run_work, eval};
 ghost use Rattle.tcl_eval.specs.Stack.{step_next, ready_next, ready_free};
-ghost use Rattle.tcl_eval.specs.Engine.{Same, Counts, Opens, IsIdle, Leaves, Stands, AnsweredAt, Falls, state_of, acted_next, outcome_next, PaidFor, Moves, Fell, FellTo, FellFrom, Begins};
+ghost use Rattle.tcl_eval.specs.Engine.{Same, Counts, Opens, IsIdle, Leaves, Stands, AnsweredAt, Falls, state_of, acted_next, outcome_next, PaidFor, Moves, Fell, FellTo, FellFrom, Begins, gives, comes_to};
+ghost use Rattle.tcl_eval.specs.Laws.{state_in, IsFront};
+ghost use Rattle.tcl_eval.specs.State.{Given};
+ghost use Rattle.tcl_eval.specs.declared.outcome.Outcome.TheVariants.{Asks};
 
 use crate::act::{MOST_LEVELS, answer_cost};
 use crate::engine::Engine;
@@ -34,6 +38,7 @@ impl<H: Host> Engine<H> {
         ensures opens { IfOk result (λ acted. Opens acted self.new self.old) }
         ensures steps { steps.old ≤ steps.new }
         ensures counts { Counts steps.new steps.old self.new self.old }
+        ensures kept { OnErr result (self.new.made ≡ self.old.made) }
     {
         if !self.pay(command_cost(&words)) {
             return Ok(Acted::Spent);
@@ -55,6 +60,7 @@ impl<H: Host> Engine<H> {
         ensures opens { IfOk result (λ acted. Opens acted self.new self.old) }
         ensures steps { steps.old ≤ steps.new }
         ensures counts { Counts steps.new steps.old self.new self.old }
+        ensures kept { OnErr result (self.new.made ≡ self.old.made) }
     {
         match ready {
             Ready::Command { words, levels } => {
@@ -83,6 +89,7 @@ impl<H: Host> Engine<H> {
         ensures falls { IfOk result (λ outcome. FellTo outcome self.new self.old.budget) }
         ensures steps { steps.old ≤ steps.new }
         ensures counts { Counts steps.new steps.old self.new self.old }
+        ensures front { OnErr result ((given : Given) → IsFront self.new.made (state_in (gives (names_of natives.now) H.table (step_next (names_of natives.now) H.table step) self.old given)).made) }
     {
         'steps: loop {
             let ready = match self.settle(step)? {
@@ -116,6 +123,7 @@ impl<H: Host> Engine<H> {
         ensures falls { IfOk result (λ outcome. FellFrom acted outcome self.new self.old) }
         ensures steps { steps.old ≤ steps.new }
         ensures counts { Counts steps.new steps.old self.new self.old }
+        ensures front { OnErr result ((given : Given) → IsFront self.new.made (state_in (gives (names_of natives.now) H.table (acted_next (names_of natives.now) H.table acted self.old.question) self.old given)).made) }
     {
         match acted {
             Acted::Gives(value) => {
@@ -143,6 +151,7 @@ impl<H: Host> Engine<H> {
         ensures opens { IfOk result (λ acted. Opens acted self.new self.old) }
         ensures steps { steps.old ≤ steps.new }
         ensures counts { Counts steps.new steps.old self.new self.old }
+        ensures kept { OnErr result (self.new.made ≡ self.old.made) }
     {
         match work {
             Work::Script(text) => {
@@ -176,6 +185,7 @@ impl<H: Host> Engine<H> {
         ensures falls { IfOk result (λ outcome. FellTo outcome self.new self.old.budget) }
         ensures steps { steps.old ≤ steps.new }
         ensures counts { Counts steps.new steps.old self.new self.old }
+        ensures front { OnErr result ((given : Given) → IsFront self.new.made (state_in (eval (names_of natives.now) H.table depth work (state_of self.old) self.old.budget given)).made) }
     {
         let acted = self.first(natives, work, depth, steps)?;
         let outcome = self.run_on(natives, acted, steps)?;
@@ -195,6 +205,7 @@ impl<H: Host> Engine<H> {
         ensures falls { IfOk result (λ outcome. Falls H.table outcome self.new self.old answer) }
         ensures steps { steps.old ≤ steps.new }
         ensures counts { Counts steps.new steps.old self.new self.old }
+        ensures front { OnErr result ((question : Question) (further : Given) → IsFront self.new.made (state_in (comes_to (names_of natives.now) H.table (Asks question) self.old ((answer, 0) ∷ further))).made) }
     {
         let Some(open) = self.question.take() else {
             unreachable!()
