@@ -1,5 +1,5 @@
 -- Runs inside.
-use Rattle.std.proofs.Common.{◌≡◌, ℕ, ◌+◌, ◌<◌, List, sym, ap, ◌∙◌, arith, Option, Some, None}
+use Rattle.std.proofs.Common.{◌≡◌, ℕ, ◌+◌, ◌<◌, ◌≤◌, List, [], sym, subst, ap, ◌∙◌, arith, Option, Some, None}
 use Rattle.txt_core.specs.Number.{number}
 use Rattle.natives.specs.Words.{arg}
 use Rattle.outside.specs.declared.question.Answer.{Answer}
@@ -22,7 +22,10 @@ use Rattle.ictl.specs.declared.running.Stop.{Stop}
 use Rattle.ictl.specs.declared.defining.DefineRun.{DefineRun}
 use Rattle.ictl.specs.declared.defining.DefineStop.{DefineStop}
 use Rattle.ictl.specs.declared.defining.DefineStop.TheVariants as defines
+use Rattle.tcl_eval.specs.Laws.{state_in}
+use Rattle.ictl.specs.Within.{defined_own, RunWrites}
 use Rattle.ictl.proofs.Settles.{settle_same}
+use Rattle.ictl.proofs.Growing.{define_writes}
 
 module _ (names : List (List ℕ)) (blueprint : Edition) (moment : ℕ) where
   -- the state with which a definition run begins
@@ -71,3 +74,27 @@ stop_less (defines.Stands question) d bound less = by_value d.value
 stop_less (defines.Said answer) d bound less = tt
 stop_less defines.Gone d bound less = tt
 stop_less defines.Sunk d bound less = tt
+
+-- ---- where memory wants
+
+module _ (names : List (List ℕ)) (blueprint : Edition) (moment : ℕ) where
+  -- nothing was written at its beginning
+  pub none_begun : (engine : Engine HostState) (most : ℕ) → engine_state engine ≡ Fresh names blueprint → Writes engine.made ≤ most
+  none_begun engine most fresh = let none : Writes engine.made ≡ 0 = ap (λ (s : State HostState). Writes s.made) fresh in omega (arith, none)
+
+  -- and then no more than its script writes
+  pub begun_writes : (engine : Engine HostState) (host : HostState) (words : List (List ℕ)) (budget questions depth made : ℕ) (script : List ℕ)
+      → engine_state engine ≡ Fresh names blueprint → host ≡ defining moment engine.host.blueprint → Some depth ≡ depth_of (number (arg words 1)) → script ≡ arg words 0
+      → RunWrites made (eval names host_table depth (works.Script script) (at_global (engine_state (record engine { host = host }))) budget)
+      → made ≤ defined_own (inner_run names blueprint moment words budget questions [])
+  begun_writes engine host words budget questions depth made script fresh is some script_is h =
+      subst (λ (d : Option ℕ). made ≤ defined_own (at_depth names blueprint moment d (arg words 0) budget questions [])) some
+      (subst (λ (t : List ℕ). made ≤ defined_own (define_end (settle (no_inner names blueprint moment) questions 0 (eval names host_table depth (works.Script t) (define_state names blueprint moment) budget) []))) script_is
+      (define_writes (no_inner names blueprint moment) made questions 0 (eval names host_table depth (works.Script script) (define_state names blueprint moment) budget) []
+      (λ given. subst (λ (s : State HostState). made ≤ Writes (state_in (eval names host_table depth (works.Script script) (at_global s) budget given)).made) (begun_state names blueprint moment engine host fresh is) (h given))))
+
+  -- with what was written to make it
+  pub begun_most : (engine : Engine HostState) (first made last wrote build own : ℕ) → engine_state engine ≡ Fresh names blueprint → made ≡ first + build → last + Writes engine.made ≡ made + wrote → wrote ≤ own
+      → last ≤ first + (build + own)
+  begun_most engine first made last wrote build own fresh is counted most =
+      let none : Writes engine.made ≡ 0 = ap (λ (s : State HostState). Writes s.made) fresh in omega (arith, none, is, counted, most)

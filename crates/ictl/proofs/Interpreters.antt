@@ -219,8 +219,9 @@ both_end Spent = tt
 both_end TooDeep = tt
 
 -- a run whose response wasn't written whole has ended
-pub unwritten_over : (next : Next) (old new : Interp) → next ≡ Ended (both (ending_of old.task) answered) → new ≡ record old { task = Over } → StandsAt next new
-unwritten_over next old new is now = subst (λ (n : Next). StandsAt n new) (sym is) (both_end (ending_of old.task), ap (λ (i : Interp). i.task) now)
+pub unwritten_over : (next : Next) (old new : Interp) → next ≡ Ended (both (ending_of old.task) answered) → new ≡ record old { task = Over } → old.settling.inner ≡ None → StandsAt next new
+unwritten_over next old new is now none =
+    subst (λ (n : Next). StandsAt n new) (sym is) (both_end (ending_of old.task), ap (λ (i : Interp). i.task) now, ap (λ (i : Interp). i.settling.inner) now ∙ none)
 
 pub over_same : (new old : Interp) → new ≡ record old { task = Over } → IsSameRun new old
 over_same new old now = subst (λ (i : Interp). IsSameRun i old) (sym now) (record { visit = refl; moment = refl; spare = refl })
@@ -232,7 +233,7 @@ over_holds new old now = subst (λ (i : Interp). Holds i old) (sym now) (record 
 
 module _ (names : List (List ℕ)) where
   -- at its outset a script has written as much as before
-  outset_written : (old : Interp) (between : Settling) → interp_state (record old { settling = between }) ≡ outset (interp_state old) → between.inner ≡ old.settling.inner
+  pub outset_written : (old : Interp) (between : Settling) → interp_state (record old { settling = between }) ≡ outset (interp_state old) → between.inner ≡ old.settling.inner
       → interp_written names (record old { settling = between }) ≡ interp_written names old
   outset_written old between state inner =
       ap (λ (s : State HostState). Writes s.made + inner_written names old.blueprint.value between.inner) state
@@ -328,7 +329,7 @@ module _ (names : List (List ℕ)) where
       ∙ ap (λ (n : ℕ). ends (both (ending_of old.task) answered) (interp_state old) n further) (none_taken inside (steps + interp_written names old))))
 
   -- a script that stands at a question
-  script_asking : (question : Question) (task : Task) (i : Interp) (inside : ℕ) (further : List Answer) → IsScriptTask task → asking_gives names question task inside i further ≡ goes_to names (stops.Asks question) inside i further
+  pub script_asking : (question : Question) (task : Task) (i : Interp) (inside : ℕ) (further : List Answer) → IsScriptTask task → asking_gives names question task inside i further ≡ goes_to names (stops.Asks question) inside i further
   script_asking question New i inside further script = absurd script
   script_asking question (Preauth next) i inside further script = refl
   script_asking question Authorise i inside further script = refl

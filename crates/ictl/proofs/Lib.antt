@@ -6,6 +6,7 @@ mod Definings
 mod Ends
 mod Following
 mod Globals
+mod Growing
 mod Inners
 mod Interpreters
 mod Lasting
@@ -18,3 +19,4 @@ mod Silent
 mod Settles
 mod Settlings
 mod Updates
+mod Withins

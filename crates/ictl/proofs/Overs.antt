@@ -1,5 +1,5 @@
 -- Runs that have ended, and definition runs that stand for themselves.
-use Rattle.std.proofs.Common.{◌≡◌, ℕ, ◌<◌, List, ◌∷◌, refl, sym, subst, ap, ◌∙◌}
+use Rattle.std.proofs.Common.{◌≡◌, ℕ, ◌<◌, List, ◌∷◌, refl, sym, subst, ap, ◌∙◌, None}
 use Rattle.outside.specs.declared.question.Answer.{Answer}
 use Rattle.outside.specs.declared.question.Question.{Question}
 use Rattle.tcl_eval.specs.Engine.{Lasts}
@@ -9,7 +9,7 @@ use Rattle.ictl.specs.Standing.{define_gives, define_at}
 use Rattle.ictl.specs.Main.{ends, defined_end}
 use Rattle.ictl.specs.Steps.{defined_gives}
 use Rattle.ictl.specs.Interps.{interp_state, gives, asking_gives, Holds, IsSameRun}
-use Rattle.ictl.specs.Falls.{IsEnd, StandsAt, Falls, DefineFalls, define_number, number_of, task_number}
+use Rattle.ictl.specs.Falls.{IsEnd, GoesOut, Falls, DefineFalls, define_number, number_of, task_number}
 use Rattle.ictl.specs.declared.running.Running.{Running}
 use Rattle.ictl.specs.declared.defining.DefineRun.{DefineRun}
 use Rattle.ictl.specs.declared.defining.DefineStop.{DefineStop}
@@ -26,8 +26,8 @@ pub over_gives : (names : List (List ℕ)) (next : Next) (outcome : Outcome) (ol
 over_gives names next outcome old new inside further is now =
     ap (λ (n : Next). gives names n inside new further) is ∙ ap (λ (i : Interp). ends outcome (interp_state i) inside further) now
 
-pub over_stands : (next : Next) (outcome : Outcome) (old new : Interp) → next ≡ Ended outcome → new ≡ record old { task = Over } → IsEnd outcome → StandsAt next new
-over_stands next outcome old new is now end = subst (λ (n : Next). StandsAt n new) (sym is) (end, ap (λ (i : Interp). i.task) now)
+pub over_stands : (next : Next) (outcome : Outcome) (old new : Interp) → next ≡ Ended outcome → new ≡ record old { task = Over } → old.settling.inner ≡ None → IsEnd outcome → GoesOut next new
+over_stands next outcome old new is now none end = subst (λ (n : Next). GoesOut n new) (sym is) (end, ap (λ (i : Interp). i.task) now, ap (λ (i : Interp). i.settling.inner) now ∙ none)
 
 pub over_falls : (next : Next) (outcome : Outcome) (new : Interp) (before : ℕ) → next ≡ Ended outcome → Falls next new before
 over_falls next outcome new before is = subst (λ (n : Next). Falls n new before) (sym is) tt

@@ -35,12 +35,12 @@ module _ (names : List (List ℕ)) (question : Question) where
   task_asks (Define defining) i state within = refl
   task_asks Over i state within = refl
 
-  define_asks : (blueprint : Edition) (moment : ℕ) (run : Running) (defining : DefineRun) (value : Option (List ℕ)) → define_at names blueprint moment question run defining value [] ≡ stands question (state_of run)
+  pub define_asks : (blueprint : Edition) (moment : ℕ) (run : Running) (defining : DefineRun) (value : Option (List ℕ)) → define_at names blueprint moment question run defining value [] ≡ stands question (state_of run)
   define_asks blueprint moment run defining None = refl
   define_asks blueprint moment run defining (Some value) = refl
 
   -- the entries that stand for what runs inside, at a question
-  abbrev within_of : Interp → ℕ → Option InnerRun → ℕ
+  abbrev pub within_of : Interp → ℕ → Option InnerRun → ℕ
   within_of i inside None = inside
   within_of i inside (Some inner) = with_inside (build_steps names i.blueprint.value.defs) (account_of i.settling.run.engine.budget i.settling.questions inside) (state_of inner.run)
 
@@ -51,7 +51,7 @@ module _ (names : List (List ℕ)) (question : Question) where
       ap (λ (x : Defined). behind_inner (build_steps names i.blueprint.value.defs) x (interp_state i) (account_of i.settling.run.engine.budget i.settling.questions inside) (onward names i.blueprint.value i.moment question i.settling))
       (define_asks i.blueprint.value i.moment inner.run inner.defining inner.defining.value)
 
-  script_asks : (i : Interp) (inside : ℕ) → goes_to names (stops.Asks question) inside i [] ≡ asks question (interp_state i) (within_of i inside i.settling.inner)
+  pub script_asks : (i : Interp) (inside : ℕ) → goes_to names (stops.Asks question) inside i [] ≡ asks question (interp_state i) (within_of i inside i.settling.inner)
   script_asks i inside =
       ap (λ (x : Settled). task_end names i i.task x) (settling_asks i inside i.settling.inner)
       ∙ task_asks i.task i (interp_state i) (within_of i inside i.settling.inner)

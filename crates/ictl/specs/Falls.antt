@@ -96,7 +96,7 @@ StepAt (steps.Stops stop) s = SettlingAt stop s
 
 abbrev pub TaskAsks : Task → Settling → Type 0
 TaskAsks (PageAsked path budget) s = IsReady budget s
-TaskAsks (Define defining) s = DefineAsks s.run defining.questions defining.value
+TaskAsks (Define defining) s = DefineAsks s.run defining.questions defining.value × (s.inner ≡ None)
 TaskAsks New s = ⊥
 TaskAsks (Preauth next) s = SettlingAsks s
 TaskAsks Authorise s = SettlingAsks s
@@ -129,8 +129,15 @@ IsEnd outcomes.NoMemory = ⊥
 abbrev pub StandsAt : Next → Interp → Type 0
 StandsAt (Asks question) i = IsAsking i
 StandsAt (Write response) i = IsWriting i
-StandsAt (Ended outcome) i = IsEnd outcome × (i.task ≡ Over)
+StandsAt (Ended outcome) i = IsEnd outcome × (i.task ≡ Over) × (i.settling.inner ≡ None)
 StandsAt NoMemory i = Unit {0}
+
+-- the same where something goes out, which want of memory isn't
+abbrev pub GoesOut : Next → Interp → Type 0
+GoesOut (Asks question) i = IsAsking i
+GoesOut (Write response) i = IsWriting i
+GoesOut (Ended outcome) i = IsEnd outcome × (i.task ≡ Over) × (i.settling.inner ≡ None)
+GoesOut NoMemory i = ⊥
 
 -- in this task scripts run, with the runs inside that they ask for
 abbrev pub IsScriptTask : Task → Type 0
@@ -150,7 +157,7 @@ IsScriptTask Over = Unit {0}
 
 abbrev pub MoveStandsAt : Move → Interp → Type 0
 MoveStandsAt (moves.Goes stop) i = SettlingAt stop i.settling × IsScriptTask i.task
-MoveStandsAt (moves.Stops next) i = StandsAt next i
+MoveStandsAt (moves.Stops next) i = GoesOut next i
 
 -- ---- the number that falls
 

@@ -15,7 +15,7 @@ use Rattle.ictl.specs.Fresh.{fresh_but_marked, keeps_of}
 use Rattle.ictl.specs.Settle.{account_of, Settled}
 use Rattle.ictl.specs.Replies.{verdict, access}
 use Rattle.ictl.specs.Visits.{cleanups_of, no_visit}
-use Rattle.ictl.specs.Main.{Stretch, Progress, writes, ends, main_on, after_on, filter_end, access_end, procedure_end, page_end, trace_end, script_end, defined_end, page_asked, serve, filters_from, authorised, unauthorised, traces_from, cleanups_from}
+use Rattle.ictl.specs.Main.{Stretch, Progress, asks, writes, ends, main_on, after_on, filter_end, access_end, procedure_end, page_end, trace_end, script_end, defined_end, page_asked, serve, filters_from, authorised, unauthorised, traces_from, cleanups_from}
 use Rattle.ictl.specs.Standing.{state_of, define_at, settling_gives, written}
 use Rattle.ictl.specs.declared.running.Stop.{Stop}
 use Rattle.ictl.specs.declared.running.Stop.TheVariants as stops
@@ -119,6 +119,24 @@ taken names after before new old = (after + interp_written names old) - (before 
 -- No step is left out: each entry that was written in the table of the run itself was counted.
 abbrev pub Counts : List (List ℕ) → ℕ → ℕ → Interp → Interp → Type 0
 Counts names after before new old = before + interp_written names new ≤ after + interp_written names old
+
+-- The entries that a run, as far as it came, has written in its own command table.
+abbrev pub own_written : Progress → ℕ
+own_written (asks question state inside) = Writes state.made
+own_written (writes response ending state inside left) = Writes state.made
+own_written (ends outcome state inside left) = Writes state.made
+
+-- The same with those that the runs inside it wrote.
+abbrev pub all_written : Progress → ℕ
+all_written (asks question state inside) = Writes state.made + inside
+all_written (writes response ending state inside left) = Writes state.made + inside
+all_written (ends outcome state inside left) = Writes state.made + inside
+
+-- A call stays within what the run writes, also where memory wants: the steps that it counted, with the entries that were written
+-- before it, and the entries that stand in the run's own table behind it.
+pub record IsWithin (written before after : ℕ) (new : Interp) (run : Progress) : Type 0 where
+  pub all : after + written ≤ before + all_written run
+  pub own : Writes (interp_state new).made ≤ own_written run
 
 -- ---- what it stands for
 

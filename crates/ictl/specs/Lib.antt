@@ -11,3 +11,4 @@ pub mod Falls
 pub mod Laws
 -- What only proofs use.
 pub mod Steps
+pub mod Within

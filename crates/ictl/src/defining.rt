@@ -1,6 +1,6 @@
 //! Definition runs. The only error of each call is want of memory.
 
-ghost use Rattle.std.specs.Prelude.{◌≡◌, ◌<◌, ◌≤◌, ◌+◌, ◌∷◌, ℕ, List, None, IfOk};
+ghost use Rattle.std.specs.Prelude.{◌≡◌, ◌<◌, ◌≤◌, ◌+◌, ◌∷◌, [], ℕ, List, None, IfOk, OnErr};
 ghost use Rattle.cmd_table.specs.Commands.{Writes};
 ghost use Rattle.natives.specs.Names.{names_of};
 ghost use Rattle.outside.specs.declared.question.Answer.{Answer};
@@ -11,6 +11,7 @@ ghost use Rattle.ictl.specs.Defines.{published, publish, script_end, define_end,
 ghost use Rattle.tcl_eval.specs.Eval.{returned};
 ghost use Rattle.ictl.specs.Standing.{state_of, comes_to, define_at, define_gives};
 ghost use Rattle.tcl_eval.specs.Engine.{Lasts};
+ghost use Rattle.ictl.specs.Within.{defined_own};
 ghost use Rattle.ictl.specs.Falls.{Suffices, StopAsks, DefineAsks, DefineStopAsks, DefineFalls, define_number};
 
 use crate::ending::is_good;
@@ -106,6 +107,7 @@ impl DefineRun {
         ensures gives { IfOk result (λ stop. (blueprint : Published) (moment : ℕ) (question : Question) (further : List Answer) → define_gives (names_of natives.now) blueprint moment stop run.new self.new further ≡ define_at (names_of natives.now) blueprint moment question run.old self.old self.old.value (answer ∷ further)) }
         ensures lasts { Lasts run.new.engine run.old.engine }
         ensures counts { steps.new + Writes run.old.engine.made ≡ steps.old + Writes run.new.engine.made }
+        ensures most { OnErr result ((blueprint : Published) (moment : ℕ) (question : Question) → Writes run.new.engine.made ≤ defined_own (define_at (names_of natives.now) blueprint moment question run.old self.old self.old.value (answer ∷ []))) }
         ensures asks { IfOk result (λ stop. DefineStopAsks stop run.new self.new) }
         ensures falls { IfOk result (λ stop. DefineFalls stop self.new (define_number self.old.questions self.old.value)) }
     {

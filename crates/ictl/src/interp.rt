@@ -15,10 +15,10 @@ ghost use Rattle.url_tables.specs.Tables.{IsBuiltOf};
 ghost use Rattle.ictl.specs.Visits.{cleanups_of, visit_of};
 ghost use Rattle.ictl.specs.Steps.{cut_stop, cut_reply};
 ghost use Rattle.ictl.specs.Main.{Main, Script, Define, behind, both, answered};
-ghost use Rattle.ictl.specs.Interps.{IsSound, IsNew, Holds, IsSameRun, ending_of, interp_state, spare_of, put_on, taken, Counts, goes_to, gives, move_gives, UnlessNoMemory, Stands, GoesOn, StandsOn};
+ghost use Rattle.ictl.specs.Interps.{IsSound, IsNew, Holds, IsSameRun, ending_of, interp_state, interp_written, IsWithin, spare_of, put_on, taken, Counts, goes_to, gives, move_gives, UnlessNoMemory, Stands, GoesOn, StandsOn};
 ghost use Rattle.ictl.specs.Steps.{Lowers, scripts_left};
 ghost use Rattle.ictl.specs.declared.task.Task.{Task as Tasks};
-ghost use Rattle.ictl.specs.Falls.{IsAsking, IsWriting, StandsAt, MoveStandsAt, IsScriptTask, SettlingAt, number_of, first_number, Falls, MoveFalls, StopFalls, EndFalls};
+ghost use Rattle.ictl.specs.Falls.{IsAsking, IsWriting, StandsAt, GoesOut, MoveStandsAt, IsScriptTask, SettlingAt, number_of, first_number, Falls, MoveFalls, StopFalls, EndFalls};
 
 use crate::building::{Tables, copy_edition, define_all, engine_on, tables_of};
 use crate::ending::{Ending, both};
@@ -33,12 +33,12 @@ use http_req::Request;
 use http_resp::Response;
 use natives::Natives;
 use outside::Answer;
-use server_host::Edition;
+use server_host::{Edition, RunHost};
 use std::alloc::Global;
 use std::mem;
 use std::rc::Rc;
 use std::sync::ledger::Ledger;
-use tcl_eval::Outcome;
+use tcl_eval::{Outcome, made_grows};
 use txt_core::{NoMemory, Text, Words};
 use url_tables::Routes;
 
@@ -166,8 +166,8 @@ impl Interp {
     /// makes it as newly made.
     ///
     /// The steps are the entries that the run wrote in its own table, and those that its runs inside
-    /// wrote, from their making on.
-    /// Where memory wants, each entry of its own table is counted too.
+    /// wrote, from their making on. Where memory wants, each entry of its own table is counted too, and
+    /// no more than what the run writes.
     pub fn start_request<L: Ledger>(
         &mut self,
         natives: &Natives,
@@ -178,6 +178,7 @@ impl Interp {
         requires { IsNew (names_of natives.now) self.old }
         ensures stands { let names = names_of natives.now in Stands names (Main names self.old.blueprint.value request moment) result (taken names steps.new steps.old self.new self.old) self.new [] }
         ensures counts { Counts (names_of natives.now) steps.new steps.old self.new self.old }
+        ensures most { let names = names_of natives.now in IsWithin 0 steps.old steps.new self.new (Main names self.old.blueprint.value request moment []) }
         ensures visit { UnlessNoMemory result ((self.new.visit ≡ visit_of (names_of natives.now) self.old.blueprint.value request) × (self.new.moment ≡ moment)) }
         ensures holds { Holds self.new self.old }
         ensures sound { (names : List (List ℕ)) → IsSound names self.old → IsSound names self.new }
@@ -205,6 +206,7 @@ impl Interp {
         requires { IsNew (names_of natives.now) self.old }
         ensures stands { let names = names_of natives.now in Stands names (Script names self.old.blueprint.value script.now moment) result (taken names steps.new steps.old self.new self.old) self.new [] }
         ensures counts { Counts (names_of natives.now) steps.new steps.old self.new self.old }
+        ensures most { let names = names_of natives.now in IsWithin 0 steps.old steps.new self.new (Script names self.old.blueprint.value script.now moment []) }
         ensures holds { Holds self.new self.old }
         ensures sound { (names : List (List ℕ)) → IsSound names self.old → IsSound names self.new }
         ensures next { StandsAt result self.new }
@@ -234,6 +236,7 @@ impl Interp {
         requires { IsNew (names_of natives.now) self.old }
         ensures stands { let names = names_of natives.now in Stands names (Define names self.old.blueprint.value script.now moment) result 0 self.new [] }
         ensures steps { steps.new + Writes self.old.settling.run.engine.made ≡ steps.old + Writes self.new.settling.run.engine.made }
+        ensures most { let names = names_of natives.now in IsWithin 0 steps.old steps.new self.new (Define names self.old.blueprint.value script.now moment []) }
         ensures holds { Holds self.new self.old }
         ensures sound { (names : List (List ℕ)) → IsSound names self.old → IsSound names self.new }
         ensures next { StandsAt result self.new }
@@ -246,7 +249,8 @@ impl Interp {
     }
 
     /// Goes on with the answer to the question at which it stands. Where memory wants, the interpreter is
-    /// in any state, but its blueprint stays, and `reset` makes it as newly made.
+    /// in any state, but its blueprint stays, and `reset` makes it as newly made. The steps are as at
+    /// `start_request`.
     pub fn resume<L: Ledger>(
         &mut self,
         natives: &Natives,
@@ -257,6 +261,7 @@ impl Interp {
         ensures step { let names = names_of natives.now in GoesOn names result (taken names steps.new steps.old self.new self.old) self.new self.old answer }
         ensures stands { let names = names_of natives.now in StandsOn names result (taken names steps.new steps.old self.new self.old) self.new self.old answer }
         ensures counts { Counts (names_of natives.now) steps.new steps.old self.new self.old }
+        ensures most { let names = names_of natives.now in (question : Question) (inside : ℕ) → IsWithin (inside + interp_written names self.old) steps.old steps.new self.new (gives names (Next.Asks question) inside self.old (answer ∷ [])) }
         ensures same { IsSameRun self.new self.old }
         ensures holds { Holds self.new self.old }
         ensures sound { (names : List (List ℕ)) → IsSound names self.old → IsSound names self.new }
@@ -279,6 +284,7 @@ impl Interp {
         ensures stands { let names = names_of natives.now in (request : Request) → IsSound names self.old → self.old.visit ≡ visit_of names self.old.blueprint.value request → (inside : ℕ) → Stands names (behind names self.old.blueprint.value self.old.moment whole request (ending_of self.old.task) (interp_state self.old) inside) result (inside + taken names steps.new steps.old self.new self.old) self.new [] }
         ensures unwritten { whole ≡ false → (result ≡ Next.Ended (both (ending_of self.old.task) answered)) × (steps.new ≡ steps.old) }
         ensures counts { Counts (names_of natives.now) steps.new steps.old self.new self.old }
+        ensures most { let names = names_of natives.now in (request : Request) → IsSound names self.old → self.old.visit ≡ visit_of names self.old.blueprint.value request → (inside : ℕ) → IsWithin (inside + Writes (interp_state self.old).made) steps.old steps.new self.new (behind names self.old.blueprint.value self.old.moment whole request (ending_of self.old.task) (interp_state self.old) inside []) }
         ensures same { IsSameRun self.new self.old }
         ensures holds { Holds self.new self.old }
         ensures sound { (names : List (List ℕ)) → IsSound names self.old → IsSound names self.new }
@@ -435,11 +441,13 @@ impl Interp {
         requires { IsAsking self.old }
         ensures step { let names = names_of natives.now in IfOk result (λ next. (question : Question) (inside : ℕ) (further : List Answer) → gives names next (inside + taken names steps.new steps.old self.new self.old) self.new further ≡ gives names (Next.Asks question) inside self.old (answer ∷ further)) }
         ensures counts { Counts (names_of natives.now) steps.new steps.old self.new self.old }
+        ensures most { let names = names_of natives.now in OnErr result ((question : Question) (inside : ℕ) → IsWithin (inside + interp_written names self.old) steps.old steps.new self.new (gives names (Next.Asks question) inside self.old (answer ∷ []))) }
         ensures same { IsSameRun self.new self.old }
         ensures holds { Holds self.new self.old }
-        ensures next { IfOk result (λ next. StandsAt next self.new) }
+        ensures next { IfOk result (λ next. GoesOut next self.new) }
         ensures falls { IfOk result (λ next. Falls next self.new (number_of self.old)) }
     {
+        made_grows::<RunHost>();
         match self.task {
             Task::PageAsked { .. } => {
                 let step = self.enter_page(natives, answer, steps)?;
@@ -471,9 +479,10 @@ impl Interp {
         requires { MoveStandsAt step self.old }
         ensures gives { let names = names_of natives.now in IfOk result (λ next. (inside : ℕ) (further : List Answer) → gives names next (inside + taken names steps.new steps.old self.new self.old) self.new further ≡ move_gives names step inside self.old further) }
         ensures counts { Counts (names_of natives.now) steps.new steps.old self.new self.old }
+        ensures most { let names = names_of natives.now in OnErr result ((inside : ℕ) → IsWithin (inside + interp_written names self.old) steps.old steps.new self.new (move_gives names step inside self.old [])) }
         ensures same { IsSameRun self.new self.old }
         ensures holds { Holds self.new self.old }
-        ensures next { IfOk result (λ next. StandsAt next self.new) }
+        ensures next { IfOk result (λ next. GoesOut next self.new) }
         ensures falls { IfOk result (λ next. (before : ℕ) → MoveFalls step self.old before → Falls next self.new before) }
     {
         match step {
@@ -497,9 +506,10 @@ impl Interp {
         requires script { IsScriptTask self.old.task }
         ensures gives { let names = names_of natives.now in IfOk result (λ next. (inside : ℕ) (further : List Answer) → gives names next (inside + taken names steps.new steps.old self.new self.old) self.new further ≡ goes_to names stop inside self.old further) }
         ensures counts { Counts (names_of natives.now) steps.new steps.old self.new self.old }
+        ensures most { let names = names_of natives.now in OnErr result ((inside : ℕ) → IsWithin (inside + interp_written names self.old) steps.old steps.new self.new (goes_to names stop inside self.old [])) }
         ensures same { IsSameRun self.new self.old }
         ensures holds { Holds self.new self.old }
-        ensures next { IfOk result (λ next. StandsAt next self.new) }
+        ensures next { IfOk result (λ next. GoesOut next self.new) }
         ensures falls { IfOk result (λ next. (before : ℕ) → StopFalls stop self.old.task self.old.settling before → Falls next self.new before) }
     {
         'scripts: loop {
@@ -521,12 +531,14 @@ impl Interp {
         requires script { IsScriptTask self.old.task }
         ensures gives { let names = names_of natives.now in IfOk result (λ step. (inside : ℕ) (further : List Answer) → move_gives names step (inside + taken names steps.new steps.old self.new self.old) self.new further ≡ goes_to names stop inside self.old further) }
         ensures counts { Counts (names_of natives.now) steps.new steps.old self.new self.old }
+        ensures most { let names = names_of natives.now in OnErr result ((inside : ℕ) → IsWithin (inside + interp_written names self.old) steps.old steps.new self.new (goes_to names stop inside self.old [])) }
         ensures lowers { IfOk result (λ step. Lowers step self.new (scripts_left self.old.visit self.old.cleanups self.old.task)) }
         ensures same { IsSameRun self.new self.old }
         ensures holds { Holds self.new self.old }
         ensures next { IfOk result (λ step. MoveStandsAt step self.new) }
         ensures falls { IfOk result (λ step. (before : ℕ) → StopFalls stop self.old.task self.old.settling before → MoveFalls step self.new before) }
     {
+        made_grows::<RunHost>();
         match stop {
             Stop::Asks(question) => Ok(Move::Stops(Next::Asks(question))),
             Stop::Spent => self.cut(Ending::Spent),
@@ -550,6 +562,7 @@ impl Interp {
         requires { SettlingAt (Stop.Ended code value) self.old.settling }
         ensures gives { let names = names_of natives.now in IfOk result (λ step. (inside : ℕ) (further : List Answer) → move_gives names step (inside + taken names steps.new steps.old self.new self.old) self.new further ≡ goes_to names (Stop.Ended code value) inside self.old further) }
         ensures counts { Counts (names_of natives.now) steps.new steps.old self.new self.old }
+        ensures most { let names = names_of natives.now in OnErr result ((inside : ℕ) → IsWithin (inside + interp_written names self.old) steps.old steps.new self.new (goes_to names (Stop.Ended code value) inside self.old [])) }
         ensures lowers { IfOk result (λ step. Lowers step self.new (scripts_left self.old.visit self.old.cleanups self.old.task)) }
         ensures same { IsSameRun self.new self.old }
         ensures holds { Holds self.new self.old }

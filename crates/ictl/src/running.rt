@@ -12,6 +12,7 @@ ghost use Rattle.tcl_eval.specs.Engine.{at_global, IsOpenTo, Lasts};
 ghost use Rattle.ictl.specs.Fresh.{outset};
 ghost use Rattle.ictl.specs.Standing.{state_of, outcome_at, comes_to};
 ghost use Rattle.ictl.specs.Falls.{suffices, Suffices, StopAsks, askable};
+ghost use Rattle.ictl.specs.Within.{RunWrites};
 
 use cmd_table::Steps;
 use natives::Natives;
@@ -81,6 +82,7 @@ impl Running {
         ensures gives { IfOk result (λ stop. (given : Given) → eval (names_of natives.now) host_table depth work (at_global (state_of self.old)) budget given ≡ comes_to (names_of natives.now) stop self.new given) }
         ensures lasts { Lasts self.new.engine self.old.engine }
         ensures counts { steps.new + Writes self.old.engine.made ≡ steps.old + Writes self.new.engine.made }
+        ensures most { RunWrites (Writes self.new.engine.made) (eval (names_of natives.now) host_table depth work (at_global (state_of self.old)) budget) }
         ensures asks { IfOk result (λ stop. StopAsks stop self.new) }
         ensures suffices { IfOk result (λ stop. (questions : ℕ) → suffices budget questions → Suffices stop self.new questions) }
     {
@@ -101,6 +103,7 @@ impl Running {
         ensures gives { IfOk result (λ stop. (question : Question) (given : Given) → comes_to (names_of natives.now) stop self.new given ≡ comes_to (names_of natives.now) (Stop.Asks question) self.old ((answer, 0) ∷ given)) }
         ensures lasts { Lasts self.new.engine self.old.engine }
         ensures counts { steps.new + Writes self.old.engine.made ≡ steps.old + Writes self.new.engine.made }
+        ensures most { (question : Question) → RunWrites (Writes self.new.engine.made) (λ given. comes_to (names_of natives.now) (Stop.Asks question) self.old ((answer, 0) ∷ given)) }
         ensures asks { IfOk result (λ stop. StopAsks stop self.new) }
         ensures suffices { IfOk result (λ stop. (questions : ℕ) → askable self.old ≤ questions → Suffices stop self.new questions) }
     {
@@ -123,6 +126,7 @@ impl Running {
         ensures gives { IfOk result (λ stop. (question : Question) (given : Given) → comes_to (names_of natives.now) stop self.new given ≡ comes_to (names_of natives.now) (Stop.Asks question) self.old ((answer, used) ∷ given)) }
         ensures lasts { Lasts self.new.engine self.old.engine }
         ensures counts { steps.new + Writes self.old.engine.made ≡ steps.old + Writes self.new.engine.made }
+        ensures most { (question : Question) → RunWrites (Writes self.new.engine.made) (λ given. comes_to (names_of natives.now) (Stop.Asks question) self.old ((answer, used) ∷ given)) }
         ensures asks { IfOk result (λ stop. StopAsks stop self.new) }
         ensures suffices { IfOk result (λ stop. (questions : ℕ) → askable self.old ≤ questions → Suffices stop self.new questions) }
     {

@@ -1,6 +1,6 @@
 //! The run of a request up to its response.
 
-ghost use Rattle.std.specs.Prelude.{◌≡◌, ◌≤◌, ◌<◌, ◌+◌, ◌-◌, ◌*◌, ◌^◌, ◌∷◌, [], ℕ, List, IfOk, OnOk, drop, length, MatchOption};
+ghost use Rattle.std.specs.Prelude.{◌≡◌, ◌≤◌, ◌<◌, ◌+◌, ◌-◌, ◌*◌, ◌^◌, ◌∷◌, [], ℕ, List, IfOk, OnOk, OnErr, drop, length, MatchOption};
 ghost use Rattle.natives.specs.Names.{names_of};
 ghost use Rattle.outside.specs.declared.question.Answer.{Answer};
 ghost use Rattle.tcl_eval.specs.Engine.{at_global};
@@ -8,7 +8,7 @@ ghost use Rattle.ictl.specs.Fresh.{outset};
 ghost use Rattle.ictl.specs.Settle.{account_of};
 ghost use Rattle.ictl.specs.Replies.{given_or_failed, failed, procedure_reply, page_reply, verdict, access};
 ghost use Rattle.ictl.specs.Main.{runs, calls, filters_from, filter_end, access_end, authorised, unauthorised, serve, page_question, page_words};
-ghost use Rattle.ictl.specs.Interps.{Holds, IsSameRun, interp_state, taken, Counts, task_end, asking_gives, move_gives};
+ghost use Rattle.ictl.specs.Interps.{Holds, IsSameRun, interp_state, interp_written, IsWithin, taken, Counts, task_end, asking_gives, move_gives};
 ghost use Rattle.ictl.specs.Steps.{Lowers, scripts_left, asked_path, EntersNone, EntersBy};
 ghost use Rattle.ictl.specs.declared.task.Task.{Task as Tasks};
 ghost use Rattle.ictl.specs.Falls.{IsReady, MoveStandsAt, IsScriptTask, MoveFalls, EndFalls, per_question};
@@ -23,9 +23,10 @@ use cmd_table::Steps;
 use http_resp::{Response, plain};
 use natives::Natives;
 use outside::{Answer, Question, Service};
+use server_host::RunHost;
 use std::alloc::Global;
 use std::sync::ledger::Ledger;
-use tcl_eval::Work;
+use tcl_eval::{Work, made_grows};
 use tcl_host::{Host, HostReply};
 use txt_core::{NoMemory, Text, Words};
 use url_tables::WordsList;
@@ -126,12 +127,14 @@ impl Interp {
         requires script { IsScriptTask task }
         ensures gives { let names = names_of natives.now in IfOk result (λ step. (inside : ℕ) (further : List Answer) → move_gives names step (inside + taken names steps.new steps.old self.new self.old) self.new further ≡ task_end names self.old task (runs names self.old.blueprint.value self.old.moment work (at_global (interp_state self.old)) (account_of budget self.old.settling.questions inside) further)) }
         ensures counts { Counts (names_of natives.now) steps.new steps.old self.new self.old }
+        ensures most { let names = names_of natives.now in OnErr result ((inside : ℕ) → IsWithin (inside + interp_written names self.old) steps.old steps.new self.new (task_end names self.old task (runs names self.old.blueprint.value self.old.moment work (at_global (interp_state self.old)) (account_of budget self.old.settling.questions inside) []))) }
         ensures lowers { IfOk result (λ step. (before : ℕ) → scripts_left self.old.visit self.old.cleanups task < before → Lowers step self.new before) }
         ensures same { IsSameRun self.new self.old }
         ensures holds { Holds self.new self.old }
         ensures next { IfOk result (λ step. MoveStandsAt step self.new) }
         ensures falls { IfOk result (λ step. (before : ℕ) → per_question * self.old.settling.questions ≤ before → EndFalls task self.old.settling before → MoveFalls step self.new before) }
     {
+        made_grows::<RunHost>();
         let stop = self
             .settling
             .start(natives, &self.blueprint, self.moment, work, budget, steps)?;
@@ -153,6 +156,7 @@ impl Interp {
         requires script { IsScriptTask task }
         ensures gives { let names = names_of natives.now in IfOk result (λ step. (inside : ℕ) (further : List Answer) → move_gives names step (inside + taken names steps.new steps.old self.new self.old) self.new further ≡ task_end names self.old task (calls names self.old.blueprint.value self.old.moment words (interp_state self.old) (account_of budget self.old.settling.questions inside) further)) }
         ensures counts { Counts (names_of natives.now) steps.new steps.old self.new self.old }
+        ensures most { let names = names_of natives.now in OnErr result ((inside : ℕ) → IsWithin (inside + interp_written names self.old) steps.old steps.new self.new (task_end names self.old task (calls names self.old.blueprint.value self.old.moment words (interp_state self.old) (account_of budget self.old.settling.questions inside) []))) }
         ensures lowers { IfOk result (λ step. (before : ℕ) → scripts_left self.old.visit self.old.cleanups task < before → Lowers step self.new before) }
         ensures same { IsSameRun self.new self.old }
         ensures holds { Holds self.new self.old }
@@ -174,12 +178,14 @@ impl Interp {
         requires { IsReady budget self.old.settling }
         ensures gives { let names = names_of natives.now in IfOk result (λ step. (inside : ℕ) (further : List Answer) → move_gives names step (inside + taken names steps.new steps.old self.new self.old) self.new further ≡ filters_from names self.old.blueprint.value self.old.moment (drop next self.old.visit.preauth) (unauthorised names self.old.blueprint.value self.old.moment self.old.visit) (interp_state self.old) (account_of budget self.old.settling.questions inside) further) }
         ensures counts { Counts (names_of natives.now) steps.new steps.old self.new self.old }
+        ensures most { let names = names_of natives.now in OnErr result ((inside : ℕ) → IsWithin (inside + interp_written names self.old) steps.old steps.new self.new (filters_from names self.old.blueprint.value self.old.moment (drop next self.old.visit.preauth) (unauthorised names self.old.blueprint.value self.old.moment self.old.visit) (interp_state self.old) (account_of budget self.old.settling.questions inside) [])) }
         ensures lowers { IfOk result (λ step. Lowers step self.new ((length self.old.visit.preauth - next) + length self.old.visit.postauth + 3)) }
         ensures same { IsSameRun self.new self.old }
         ensures holds { Holds self.new self.old }
         ensures next { IfOk result (λ step. MoveStandsAt step self.new) }
         ensures falls { IfOk result (λ step. (before : ℕ) → per_question * self.old.settling.questions + 2 < before → MoveFalls step self.new before) }
     {
+        made_grows::<RunHost>();
         let found = words_at(self.alloc, &self.visit.preauth, next)?;
         match found {
             None => self.authorise(natives, budget, steps),
@@ -205,6 +211,7 @@ impl Interp {
         requires { IsReady self.old.settling.run.engine.budget self.old.settling }
         ensures gives { let names = names_of natives.now in IfOk result (λ step. (inside : ℕ) (further : List Answer) → move_gives names step (inside + taken names steps.new steps.old self.new self.old) self.new further ≡ filter_end (filters_from names self.old.blueprint.value self.old.moment (drop next self.old.visit.preauth) (unauthorised names self.old.blueprint.value self.old.moment self.old.visit)) (unauthorised names self.old.blueprint.value self.old.moment self.old.visit) (verdict code value) (interp_state self.old) (account_of self.old.settling.run.engine.budget self.old.settling.questions inside) further) }
         ensures counts { Counts (names_of natives.now) steps.new steps.old self.new self.old }
+        ensures most { let names = names_of natives.now in OnErr result ((inside : ℕ) → IsWithin (inside + interp_written names self.old) steps.old steps.new self.new (filter_end (filters_from names self.old.blueprint.value self.old.moment (drop next self.old.visit.preauth) (unauthorised names self.old.blueprint.value self.old.moment self.old.visit)) (unauthorised names self.old.blueprint.value self.old.moment self.old.visit) (verdict code value) (interp_state self.old) (account_of self.old.settling.run.engine.budget self.old.settling.questions inside) [])) }
         ensures lowers { IfOk result (λ step. Lowers step self.new ((length self.old.visit.preauth - next) + length self.old.visit.postauth + 3)) }
         ensures same { IsSameRun self.new self.old }
         ensures holds { Holds self.new self.old }
@@ -231,12 +238,14 @@ impl Interp {
         requires { IsReady budget self.old.settling }
         ensures gives { let names = names_of natives.now in IfOk result (λ step. (inside : ℕ) (further : List Answer) → move_gives names step (inside + taken names steps.new steps.old self.new self.old) self.new further ≡ unauthorised names self.old.blueprint.value self.old.moment self.old.visit (interp_state self.old) (account_of budget self.old.settling.questions inside) further) }
         ensures counts { Counts (names_of natives.now) steps.new steps.old self.new self.old }
+        ensures most { let names = names_of natives.now in OnErr result ((inside : ℕ) → IsWithin (inside + interp_written names self.old) steps.old steps.new self.new (unauthorised names self.old.blueprint.value self.old.moment self.old.visit (interp_state self.old) (account_of budget self.old.settling.questions inside) [])) }
         ensures lowers { IfOk result (λ step. Lowers step self.new (length self.old.visit.postauth + 3)) }
         ensures same { IsSameRun self.new self.old }
         ensures holds { Holds self.new self.old }
         ensures next { IfOk result (λ step. MoveStandsAt step self.new) }
         ensures falls { IfOk result (λ step. (before : ℕ) → per_question * self.old.settling.questions + 2 < before → MoveFalls step self.new before) }
     {
+        made_grows::<RunHost>();
         let call = copy_call(self.alloc, &self.visit.authorisation)?;
         match call {
             None => self.postauth(natives, 0, budget, steps),
@@ -255,6 +264,7 @@ impl Interp {
         requires { IsReady self.old.settling.run.engine.budget self.old.settling }
         ensures gives { let names = names_of natives.now in IfOk result (λ step. (inside : ℕ) (further : List Answer) → move_gives names step (inside + taken names steps.new steps.old self.new self.old) self.new further ≡ access_end (authorised names self.old.blueprint.value self.old.moment self.old.visit) (access code value) (interp_state self.old) (account_of self.old.settling.run.engine.budget self.old.settling.questions inside) further) }
         ensures counts { Counts (names_of natives.now) steps.new steps.old self.new self.old }
+        ensures most { let names = names_of natives.now in OnErr result ((inside : ℕ) → IsWithin (inside + interp_written names self.old) steps.old steps.new self.new (access_end (authorised names self.old.blueprint.value self.old.moment self.old.visit) (access code value) (interp_state self.old) (account_of self.old.settling.run.engine.budget self.old.settling.questions inside) [])) }
         ensures lowers { IfOk result (λ step. Lowers step self.new (length self.old.visit.postauth + 2)) }
         ensures same { IsSameRun self.new self.old }
         ensures holds { Holds self.new self.old }
@@ -288,12 +298,14 @@ impl Interp {
         requires { IsReady budget self.old.settling }
         ensures gives { let names = names_of natives.now in IfOk result (λ step. (inside : ℕ) (further : List Answer) → move_gives names step (inside + taken names steps.new steps.old self.new self.old) self.new further ≡ filters_from names self.old.blueprint.value self.old.moment (drop next self.old.visit.postauth) (serve names self.old.blueprint.value self.old.moment self.old.visit.serving) (interp_state self.old) (account_of budget self.old.settling.questions inside) further) }
         ensures counts { Counts (names_of natives.now) steps.new steps.old self.new self.old }
+        ensures most { let names = names_of natives.now in OnErr result ((inside : ℕ) → IsWithin (inside + interp_written names self.old) steps.old steps.new self.new (filters_from names self.old.blueprint.value self.old.moment (drop next self.old.visit.postauth) (serve names self.old.blueprint.value self.old.moment self.old.visit.serving) (interp_state self.old) (account_of budget self.old.settling.questions inside) [])) }
         ensures lowers { IfOk result (λ step. Lowers step self.new ((length self.old.visit.postauth - next) + 1)) }
         ensures same { IsSameRun self.new self.old }
         ensures holds { Holds self.new self.old }
         ensures next { IfOk result (λ step. MoveStandsAt step self.new) }
         ensures falls { IfOk result (λ step. (before : ℕ) → per_question * self.old.settling.questions + 2 < before → MoveFalls step self.new before) }
     {
+        made_grows::<RunHost>();
         let found = words_at(self.alloc, &self.visit.postauth, next)?;
         match found {
             None => self.serve(natives, budget, steps),
@@ -319,6 +331,7 @@ impl Interp {
         requires { IsReady self.old.settling.run.engine.budget self.old.settling }
         ensures gives { let names = names_of natives.now in IfOk result (λ step. (inside : ℕ) (further : List Answer) → move_gives names step (inside + taken names steps.new steps.old self.new self.old) self.new further ≡ filter_end (filters_from names self.old.blueprint.value self.old.moment (drop next self.old.visit.postauth) (serve names self.old.blueprint.value self.old.moment self.old.visit.serving)) (serve names self.old.blueprint.value self.old.moment self.old.visit.serving) (verdict code value) (interp_state self.old) (account_of self.old.settling.run.engine.budget self.old.settling.questions inside) further) }
         ensures counts { Counts (names_of natives.now) steps.new steps.old self.new self.old }
+        ensures most { let names = names_of natives.now in OnErr result ((inside : ℕ) → IsWithin (inside + interp_written names self.old) steps.old steps.new self.new (filter_end (filters_from names self.old.blueprint.value self.old.moment (drop next self.old.visit.postauth) (serve names self.old.blueprint.value self.old.moment self.old.visit.serving)) (serve names self.old.blueprint.value self.old.moment self.old.visit.serving) (verdict code value) (interp_state self.old) (account_of self.old.settling.run.engine.budget self.old.settling.questions inside) [])) }
         ensures lowers { IfOk result (λ step. Lowers step self.new ((length self.old.visit.postauth - next) + 1)) }
         ensures same { IsSameRun self.new self.old }
         ensures holds { Holds self.new self.old }
@@ -345,12 +358,14 @@ impl Interp {
         requires { IsReady budget self.old.settling }
         ensures gives { let names = names_of natives.now in IfOk result (λ step. (inside : ℕ) (further : List Answer) → move_gives names step (inside + taken names steps.new steps.old self.new self.old) self.new further ≡ serve names self.old.blueprint.value self.old.moment self.old.visit.serving (interp_state self.old) (account_of budget self.old.settling.questions inside) further) }
         ensures counts { Counts (names_of natives.now) steps.new steps.old self.new self.old }
+        ensures most { let names = names_of natives.now in OnErr result ((inside : ℕ) → IsWithin (inside + interp_written names self.old) steps.old steps.new self.new (serve names self.old.blueprint.value self.old.moment self.old.visit.serving (interp_state self.old) (account_of budget self.old.settling.questions inside) [])) }
         ensures lowers { IfOk result (λ step. Lowers step self.new (1)) }
         ensures same { IsSameRun self.new self.old }
         ensures holds { Holds self.new self.old }
         ensures next { IfOk result (λ step. MoveStandsAt step self.new) }
         ensures falls { IfOk result (λ step. (before : ℕ) → per_question * self.old.settling.questions + 2 < before → MoveFalls step self.new before) }
     {
+        made_grows::<RunHost>();
         let serving = copy_serving(self.alloc, &self.visit.serving)?;
         match serving {
             Serving::Procedure(words) => {
@@ -374,12 +389,14 @@ impl Interp {
         requires { (path : List ℕ) × (budget : ℕ) × (self.old.task ≡ Task.PageAsked path budget) × IsReady budget self.old.settling }
         ensures gives { let names = names_of natives.now in IfOk result (λ step. (inside : ℕ) (further : List Answer) → move_gives names step (inside + taken names steps.new steps.old self.new self.old) self.new further ≡ asking_gives names (page_question (asked_path self.old.task)) self.old.task inside self.old (answer ∷ further)) }
         ensures counts { Counts (names_of natives.now) steps.new steps.old self.new self.old }
+        ensures most { let names = names_of natives.now in OnErr result ((inside : ℕ) → IsWithin (inside + interp_written names self.old) steps.old steps.new self.new (asking_gives names (page_question (asked_path self.old.task)) self.old.task inside self.old (answer ∷ []))) }
         ensures lowers { IfOk result (λ step. Lowers step self.new (1)) }
         ensures same { IsSameRun self.new self.old }
         ensures holds { Holds self.new self.old }
         ensures next { IfOk result (λ step. MoveStandsAt step self.new) }
         ensures falls { IfOk result (λ step. (before : ℕ) → per_question * self.old.settling.questions ≤ before → MoveFalls step self.new before) }
     {
+        made_grows::<RunHost>();
         let (words, budget) = page_words(self.alloc, &self.task)?;
         let host = self.settling.run.engine.host_mut();
         let reply = host.answered(&words, &answer);

@@ -1,6 +1,6 @@
 //! A script with its runs inside. The only error of each call is want of memory.
 
-ghost use Rattle.std.specs.Prelude.{◌≡◌, ◌<◌, ◌≤◌, ◌+◌, ◌-◌, ◌*◌, ◌∷◌, ℕ, List, Some, None, IfOk};
+ghost use Rattle.std.specs.Prelude.{◌≡◌, ◌<◌, ◌≤◌, ◌+◌, ◌-◌, ◌*◌, ◌∷◌, [], ℕ, List, Some, None, IfOk, OnErr};
 ghost use Rattle.natives.specs.Names.{names_of};
 ghost use Rattle.outside.specs.declared.question.Answer.{Answer};
 ghost use Rattle.outside.specs.declared.question.Question.{Question};
@@ -14,6 +14,7 @@ ghost use Rattle.ictl.specs.Defines.{inner_runs, inner_run};
 ghost use Rattle.ictl.specs.Main.{first_depth};
 ghost use Rattle.ictl.specs.Standing.{state_of, comes_to, define_gives, onward, settling_at, settling_gives, written, inner_written};
 ghost use Rattle.ictl.specs.Steps.{step_gives, Stays, GoesLower};
+ghost use Rattle.ictl.specs.Within.{SettledWithin};
 ghost use Rattle.ictl.specs.Falls.{IsReady, Suffices, StopAsks, DefineStopAsks, DefineFalls, askable, SettlingAsks, SettlingAt, StepAt, per_question, settling_number, SettlingFalls, StepFalls};
 
 use crate::defining::DefineStop;
@@ -22,12 +23,12 @@ use crate::running::{Running, Stop};
 use cmd_table::Steps;
 use natives::Natives;
 use outside::{Answer, Question, Service};
-use server_host::Edition;
+use server_host::{Edition, RunHost};
 use std::alloc::Global;
 use std::mem;
 use std::rc::Rc;
 use std::sync::ledger::Ledger;
-use tcl_eval::Work;
+use tcl_eval::{Work, made_grows_on};
 use txt_core::NoMemory;
 
 /// Where the first script or call of a run stands.
@@ -68,6 +69,7 @@ impl Settling {
         requires { IsReady budget self.old }
         ensures gives { let names = names_of natives.now in let published = blueprint.now.value in IfOk result (λ stop. (inside : ℕ) (further : List Answer) → settling_gives names published moment stop self.new (inside + ((steps.new + written names published self.old) - (steps.old + written names published self.new))) further ≡ settle (inner_runs names published moment) self.old.questions inside (eval names host_table first_depth work (at_global (state_of self.old.run)) budget) further) }
         ensures counts { let names = names_of natives.now in let published = blueprint.now.value in steps.old + written names published self.new ≤ steps.new + written names published self.old }
+        ensures most { let names = names_of natives.now in let published = blueprint.now.value in OnErr result ((inside : ℕ) → SettledWithin (inside + written names published self.old) steps.old steps.new self.new (settle (inner_runs names published moment) self.old.questions inside (eval names host_table first_depth work (at_global (state_of self.old.run)) budget) [])) }
         ensures lasts { Lasts self.new.run.engine self.old.run.engine }
         ensures at { IfOk result (λ stop. SettlingAt stop self.new) }
         ensures lower { self.new.questions ≤ self.old.questions }
@@ -90,11 +92,13 @@ impl Settling {
         requires { SettlingAsks self.old }
         ensures gives { let names = names_of natives.now in let published = blueprint.now.value in IfOk result (λ stop. (question : Question) (inside : ℕ) (further : List Answer) → settling_gives names published moment stop self.new (inside + ((steps.new + written names published self.old) - (steps.old + written names published self.new))) further ≡ settling_at names published moment question self.old self.old.inner inside (answer ∷ further)) }
         ensures counts { let names = names_of natives.now in let published = blueprint.now.value in steps.old + written names published self.new ≤ steps.new + written names published self.old }
+        ensures most { let names = names_of natives.now in let published = blueprint.now.value in OnErr result ((question : Question) (inside : ℕ) → SettledWithin (inside + written names published self.old) steps.old steps.new self.new (settling_at names published moment question self.old self.old.inner inside (answer ∷ []))) }
         ensures lasts { Lasts self.new.run.engine self.old.run.engine }
         ensures at { IfOk result (λ stop. SettlingAt stop self.new) }
         ensures lower { self.new.questions ≤ self.old.questions }
         ensures falls { IfOk result (λ stop. SettlingFalls stop self.new (settling_number self.old)) }
     {
+        made_grows_on::<RunHost>();
         match self.inner.take() {
             None => {
                 let came = self.run.resume(natives, answer, steps)?;
@@ -133,6 +137,7 @@ impl Settling {
         requires suffices { Suffices stop self.old.run self.old.questions }
         ensures gives { let names = names_of natives.now in let published = blueprint.now.value in IfOk result (λ last. (inside : ℕ) (further : List Answer) → settling_gives names published moment last self.new (inside + ((steps.new + written names published self.old) - (steps.old + written names published self.new))) further ≡ settle (inner_runs names published moment) self.old.questions inside (comes_to names stop self.old.run) further) }
         ensures counts { let names = names_of natives.now in let published = blueprint.now.value in steps.old + written names published self.new ≤ steps.new + written names published self.old }
+        ensures most { let names = names_of natives.now in let published = blueprint.now.value in OnErr result ((inside : ℕ) → SettledWithin (inside + written names published self.old) steps.old steps.new self.new (settle (inner_runs names published moment) self.old.questions inside (comes_to names stop self.old.run) [])) }
         ensures lasts { Lasts self.new.run.engine self.old.run.engine }
         ensures at { IfOk result (λ last. SettlingAt last self.new) }
         ensures lower { self.new.questions ≤ self.old.questions }
@@ -161,6 +166,7 @@ impl Settling {
         requires suffices { Suffices stop self.old.run self.old.questions }
         ensures gives { let names = names_of natives.now in let published = blueprint.now.value in IfOk result (λ step. (inside : ℕ) (further : List Answer) → step_gives names published moment step self.new (inside + ((steps.new + written names published self.old) - (steps.old + written names published self.new))) further ≡ settle (inner_runs names published moment) self.old.questions inside (comes_to names stop self.old.run) further) }
         ensures counts { let names = names_of natives.now in let published = blueprint.now.value in steps.old + written names published self.new ≤ steps.new + written names published self.old }
+        ensures most { let names = names_of natives.now in let published = blueprint.now.value in OnErr result ((inside : ℕ) → SettledWithin (inside + written names published self.old) steps.old steps.new self.new (settle (inner_runs names published moment) self.old.questions inside (comes_to names stop self.old.run) [])) }
         ensures goes { IfOk result (λ step. GoesLower step self.new self.old) }
         ensures lower { self.new.questions ≤ self.old.questions }
         ensures lasts { Lasts self.new.run.engine self.old.run.engine }
@@ -198,12 +204,14 @@ impl Settling {
         requires suffices { askable self.old.run ≤ self.old.questions }
         ensures gives { let names = names_of natives.now in let published = blueprint.now.value in IfOk result (λ step. (asked : Question) (inside : ℕ) (further : List Answer) → step_gives names published moment step self.new (inside + ((steps.new + written names published self.old) - (steps.old + written names published self.new))) further ≡ behind_inner (build_steps names published.defs) (inner_run names published moment question.words self.old.run.engine.budget self.old.questions further) (state_of self.old.run) (account_of self.old.run.engine.budget self.old.questions inside) (onward names published moment asked self.old)) }
         ensures counts { let names = names_of natives.now in let published = blueprint.now.value in steps.old + written names published self.new ≤ steps.new + written names published self.old }
+        ensures most { let names = names_of natives.now in let published = blueprint.now.value in OnErr result ((asked : Question) (inside : ℕ) → SettledWithin (inside + written names published self.old) steps.old steps.new self.new (behind_inner (build_steps names published.defs) (inner_run names published moment question.words self.old.run.engine.budget self.old.questions []) (state_of self.old.run) (account_of self.old.run.engine.budget self.old.questions inside) (onward names published moment asked self.old))) }
         ensures stays { IfOk result (λ step. Stays step self.new self.old) }
         ensures same { self.new.questions ≡ self.old.questions }
         ensures lasts { Lasts self.new.run.engine self.old.run.engine }
         ensures at { IfOk result (λ step. StepAt step self.new) }
         ensures falls { IfOk result (λ step. (before : ℕ) → per_question * (self.old.questions + 1) ≤ before → StepFalls step self.new before) }
     {
+        made_grows_on::<RunHost>();
         let (inner, stop) = InnerRun::begin(
             self.alloc,
             natives,
@@ -234,6 +242,7 @@ impl Settling {
         requires asks { DefineStopAsks stop inner.run inner.defining }
         ensures gives { let names = names_of natives.now in let published = blueprint.now.value in IfOk result (λ step. (question : Question) (inside : ℕ) (further : List Answer) → step_gives names published moment step self.new (inside + ((steps.new + (written names published self.old + inner_written names published (Some inner))) - (steps.old + written names published self.new))) further ≡ behind_inner (build_steps names published.defs) (define_gives names published moment stop inner.run inner.defining further) (state_of self.old.run) (account_of self.old.run.engine.budget self.old.questions inside) (onward names published moment question self.old)) }
         ensures counts { let names = names_of natives.now in let published = blueprint.now.value in steps.old + written names published self.new ≤ steps.new + (written names published self.old + inner_written names published (Some inner)) }
+        ensures most { let names = names_of natives.now in let published = blueprint.now.value in OnErr result ((question : Question) (inside : ℕ) → SettledWithin (inside + (written names published self.old + inner_written names published (Some inner))) steps.old steps.new self.new (behind_inner (build_steps names published.defs) (define_gives names published moment stop inner.run inner.defining []) (state_of self.old.run) (account_of self.old.run.engine.budget self.old.questions inside) (onward names published moment question self.old))) }
         ensures stays { IfOk result (λ step. Stays step self.new self.old) }
         ensures same { self.new.questions ≡ self.old.questions }
         ensures lasts { Lasts self.new.run.engine self.old.run.engine }

@@ -1,6 +1,6 @@
 //! The run of a request behind its response, and the runs without a connection.
 
-ghost use Rattle.std.specs.Prelude.{◌≡◌, ◌≤◌, ◌<◌, ◌+◌, ◌-◌, ◌*◌, ◌^◌, ◌++◌, ◌∷◌, [], ℕ, List, None, true, IfOk, drop, length, MatchOption};
+ghost use Rattle.std.specs.Prelude.{◌≡◌, ◌≤◌, ◌<◌, ◌+◌, ◌-◌, ◌*◌, ◌^◌, ◌++◌, ◌∷◌, [], ℕ, List, None, true, IfOk, OnErr, drop, length, MatchOption};
 ghost use Rattle.natives.specs.Names.{names_of};
 ghost use Rattle.outside.specs.declared.question.Answer.{Answer};
 ghost use Rattle.outside.specs.declared.question.Question.{Question};
@@ -10,12 +10,12 @@ ghost use Rattle.ictl.specs.Fresh.{script_state};
 ghost use Rattle.ictl.specs.Settle.{account_of};
 ghost use Rattle.ictl.specs.Replies.{verdict};
 ghost use Rattle.ictl.specs.Visits.{visit_of};
-ghost use Rattle.ictl.specs.Main.{run_questions, Main, Script, Define, behind, both, answered, outcome_of, traces_from, cleanups_from, trace_end};
-ghost use Rattle.ictl.specs.Interps.{IsSound, IsNew, Holds, IsSameRun, ending_of, interp_state, spare_of, taken, Counts, move_gives, gives};
+ghost use Rattle.ictl.specs.Main.{run_questions, Main, Script, Define, behind, both, answered, outcome_of, traces_from, cleanups_from, trace_end, first_depth};
+ghost use Rattle.ictl.specs.Interps.{IsSound, IsNew, Holds, IsSameRun, ending_of, interp_state, interp_written, IsWithin, spare_of, taken, Counts, move_gives, gives};
 ghost use Rattle.ictl.specs.Steps.{Lowers, defined_gives};
 ghost use Rattle.ictl.specs.declared.defining.DefineRun.{DefineRun as Defining};
 ghost use Rattle.ictl.specs.declared.task.Task.{Task as Tasks};
-ghost use Rattle.ictl.specs.Falls.{IsReady, DefineStopAsks, DefineFalls, IsAsking, IsWriting, StandsAt, MoveStandsAt, Falls, MoveFalls, number_of, first_number, per_question};
+ghost use Rattle.ictl.specs.Falls.{IsReady, DefineStopAsks, DefineFalls, IsAsking, IsWriting, GoesOut, MoveStandsAt, Falls, MoveFalls, number_of, first_number, per_question};
 
 use crate::defining::{DefineRun, DefineStop};
 use crate::ending::{Ending, Verdict, answered, both, verdict_of};
@@ -29,10 +29,11 @@ use cmd_table::Steps;
 use http_req::Request;
 use natives::Natives;
 use outside::Answer;
+use server_host::RunHost;
 use std::alloc::Global;
 use std::mem;
 use std::sync::ledger::Ledger;
-use tcl_eval::{Outcome, Work};
+use tcl_eval::{Outcome, Work, made_grows};
 use tcl_host::{ERROR, OK};
 use txt_core::{NoMemory, Text, Words};
 
@@ -78,6 +79,14 @@ fn outcome_of(alloc: Global, answer: Answer) -> Outcome
     }
 }
 
+/// The depth at which the script of a run stands. As a call, it keeps proofs from going into what comes
+/// of a script at this one depth.
+fn depth_of_runs() -> u32
+    ensures { result ≡ first_depth }
+{
+    FIRST_DEPTH
+}
+
 impl Interp {
     /// Begins the run of a request.
     #[tactic(auto, using(crate::proofs::Interpreters::holds_on))]
@@ -91,10 +100,11 @@ impl Interp {
         requires { IsNew (names_of natives.now) self.old }
         ensures stands { let names = names_of natives.now in IfOk result (λ next. (further : List Answer) → Main names self.old.blueprint.value request moment further ≡ gives names next (taken names steps.new steps.old self.new self.old) self.new further) }
         ensures counts { Counts (names_of natives.now) steps.new steps.old self.new self.old }
+        ensures most { let names = names_of natives.now in OnErr result (IsWithin 0 steps.old steps.new self.new (Main names self.old.blueprint.value request moment [])) }
         ensures visit { IfOk result (λ _. (self.new.visit ≡ visit_of (names_of natives.now) self.old.blueprint.value request) × (self.new.moment ≡ moment)) }
         ensures spare { spare_of self.new ≡ spare_of self.old }
         ensures holds { Holds self.new self.old }
-        ensures next { IfOk result (λ next. StandsAt next self.new) }
+        ensures next { IfOk result (λ next. GoesOut next self.new) }
         ensures falls { IfOk result (λ next. Falls next self.new first_number) }
     {
         let Ok(visit) = self.visit_of(&request) else {
@@ -132,9 +142,10 @@ impl Interp {
         requires { IsNew (names_of natives.now) self.old }
         ensures stands { let names = names_of natives.now in IfOk result (λ next. (further : List Answer) → Script names self.old.blueprint.value script.now moment further ≡ gives names next (taken names steps.new steps.old self.new self.old) self.new further) }
         ensures counts { Counts (names_of natives.now) steps.new steps.old self.new self.old }
+        ensures most { let names = names_of natives.now in OnErr result (IsWithin 0 steps.old steps.new self.new (Script names self.old.blueprint.value script.now moment [])) }
         ensures spare { spare_of self.new ≡ spare_of self.old }
         ensures holds { Holds self.new self.old }
-        ensures next { IfOk result (λ next. StandsAt next self.new) }
+        ensures next { IfOk result (λ next. GoesOut next self.new) }
         ensures falls { IfOk result (λ next. Falls next self.new first_number) }
     {
         let script = script.copy(self.alloc)?;
@@ -158,9 +169,10 @@ impl Interp {
         requires inner { self.old.settling.inner ≡ None }
         ensures stands { let names = names_of natives.now in IfOk result (λ next. (further : List Answer) → Script names self.old.blueprint.value script self.old.moment further ≡ gives names next (taken names steps.new steps.old self.new self.old) self.new further) }
         ensures counts { Counts (names_of natives.now) steps.new steps.old self.new self.old }
+        ensures most { let names = names_of natives.now in OnErr result (IsWithin 0 steps.old steps.new self.new (Script names self.old.blueprint.value script self.old.moment [])) }
         ensures same { IsSameRun self.new self.old }
         ensures holds { Holds self.new self.old }
-        ensures next { IfOk result (λ next. StandsAt next self.new) }
+        ensures next { IfOk result (λ next. GoesOut next self.new) }
         ensures falls { IfOk result (λ next. Falls next self.new first_number) }
     {
         self.settling.run.set_out();
@@ -187,9 +199,10 @@ impl Interp {
         requires { IsNew (names_of natives.now) self.old }
         ensures stands { let names = names_of natives.now in IfOk result (λ next. (further : List Answer) → Define names self.old.blueprint.value script.now moment further ≡ gives names next 0 self.new further) }
         ensures steps { steps.new + Writes self.old.settling.run.engine.made ≡ steps.old + Writes self.new.settling.run.engine.made }
+        ensures most { let names = names_of natives.now in OnErr result (IsWithin 0 steps.old steps.new self.new (Define names self.old.blueprint.value script.now moment [])) }
         ensures spare { spare_of self.new ≡ spare_of self.old }
         ensures holds { Holds self.new self.old }
-        ensures next { IfOk result (λ next. StandsAt next self.new) }
+        ensures next { IfOk result (λ next. GoesOut next self.new) }
         ensures falls { IfOk result (λ next. Falls next self.new first_number) }
     {
         let script = script.copy(self.alloc)?;
@@ -199,14 +212,9 @@ impl Interp {
             .host_mut()
             .begin_definitions(moment)?;
         self.moment = moment;
+        let depth = depth_of_runs();
         let run = &mut self.settling.run;
-        let came = run.start(
-            natives,
-            Work::Script(script),
-            RUN_BUDGET,
-            FIRST_DEPTH,
-            steps,
-        )?;
+        let came = run.start(natives, Work::Script(script), RUN_BUDGET, depth, steps)?;
         let mut defining = DefineRun::new(RUN_QUESTIONS);
         let last = defining.stop(self.alloc, run, came)?;
         Ok(self.defined(defining, last))
@@ -224,10 +232,11 @@ impl Interp {
         requires define { (defining : Defining) × (self.old.task ≡ Task.Define defining) }
         ensures gives { let names = names_of natives.now in IfOk result (λ next. (question : Question) (inside : ℕ) (further : List Answer) → gives names next inside self.new further ≡ gives names (Next.Asks question) inside self.old (answer ∷ further)) }
         ensures steps { steps.new + Writes self.old.settling.run.engine.made ≡ steps.old + Writes self.new.settling.run.engine.made }
+        ensures most { let names = names_of natives.now in OnErr result ((question : Question) (inside : ℕ) → IsWithin (inside + interp_written names self.old) steps.old steps.new self.new (gives names (Next.Asks question) inside self.old (answer ∷ []))) }
         ensures inner { self.new.settling.inner ≡ self.old.settling.inner }
         ensures same { IsSameRun self.new self.old }
         ensures holds { Holds self.new self.old }
-        ensures next { IfOk result (λ next. StandsAt next self.new) }
+        ensures next { IfOk result (λ next. GoesOut next self.new) }
         ensures falls { IfOk result (λ next. Falls next self.new (number_of self.old)) }
     {
         let task = mem::replace(&mut self.task, Task::Over);
@@ -241,9 +250,10 @@ impl Interp {
 
     /// What comes of a definition run that came to this.
     fn defined(&mut self, defining: DefineRun, stop: DefineStop) -> Next
-        requires { DefineStopAsks stop self.old.settling.run defining }
+        requires asks { DefineStopAsks stop self.old.settling.run defining }
+        requires inner { self.old.settling.inner ≡ None }
         ensures gives { (names : List (List ℕ)) (inside : ℕ) (further : List Answer) → gives names result inside self.new further ≡ defined_gives names stop defining inside self.old further }
-        ensures next { StandsAt result self.new }
+        ensures next { GoesOut result self.new }
         ensures task { (task : Tasks) × (self.new ≡ record self.old { task = task }) }
         ensures falls { (before : ℕ) → DefineFalls stop defining before → Falls result self.new before }
     {
@@ -290,9 +300,10 @@ impl Interp {
         requires { IsWriting self.old }
         ensures stands { let names = names_of natives.now in IfOk result (λ next. (request : Request) → IsSound names self.old → self.old.visit ≡ visit_of names self.old.blueprint.value request → (inside : ℕ) (further : List Answer) → behind names self.old.blueprint.value self.old.moment true request (ending_of self.old.task) (interp_state self.old) inside further ≡ gives names next (inside + taken names steps.new steps.old self.new self.old) self.new further) }
         ensures counts { Counts (names_of natives.now) steps.new steps.old self.new self.old }
+        ensures most { let names = names_of natives.now in OnErr result ((request : Request) → IsSound names self.old → self.old.visit ≡ visit_of names self.old.blueprint.value request → (inside : ℕ) → IsWithin (inside + Writes (interp_state self.old).made) steps.old steps.new self.new (behind names self.old.blueprint.value self.old.moment true request (ending_of self.old.task) (interp_state self.old) inside [])) }
         ensures same { IsSameRun self.new self.old }
         ensures holds { Holds self.new self.old }
-        ensures next { IfOk result (λ next. StandsAt next self.new) }
+        ensures next { IfOk result (λ next. GoesOut next self.new) }
         ensures falls { IfOk result (λ next. Falls next self.new first_number) }
     {
         let ending = ending_now(&self.task);
@@ -314,12 +325,14 @@ impl Interp {
         requires { IsReady budget self.old.settling }
         ensures gives { let names = names_of natives.now in IfOk result (λ step. (inside : ℕ) (further : List Answer) → move_gives names step (inside + taken names steps.new steps.old self.new self.old) self.new further ≡ traces_from names self.old.blueprint.value self.old.moment (drop next self.old.visit.trace) self.old.cleanups ending (interp_state self.old) (account_of budget self.old.settling.questions inside) further) }
         ensures counts { Counts (names_of natives.now) steps.new steps.old self.new self.old }
+        ensures most { let names = names_of natives.now in OnErr result ((inside : ℕ) → IsWithin (inside + interp_written names self.old) steps.old steps.new self.new (traces_from names self.old.blueprint.value self.old.moment (drop next self.old.visit.trace) self.old.cleanups ending (interp_state self.old) (account_of budget self.old.settling.questions inside) [])) }
         ensures lowers { IfOk result (λ step. Lowers step self.new ((length self.old.visit.trace - next) + length self.old.cleanups + 1)) }
         ensures same { IsSameRun self.new self.old }
         ensures holds { Holds self.new self.old }
         ensures next { IfOk result (λ step. MoveStandsAt step self.new) }
         ensures falls { IfOk result (λ step. (before : ℕ) → per_question * self.old.settling.questions + 2 < before → MoveFalls step self.new before) }
     {
+        made_grows::<RunHost>();
         let found = words_at(self.alloc, &self.visit.trace, next)?;
         match found {
             None => self.clean_up(natives, 0, ending, budget, steps),
@@ -346,6 +359,7 @@ impl Interp {
         requires { IsReady self.old.settling.run.engine.budget self.old.settling }
         ensures gives { let names = names_of natives.now in IfOk result (λ step. (inside : ℕ) (further : List Answer) → move_gives names step (inside + taken names steps.new steps.old self.new self.old) self.new further ≡ trace_end (traces_from names self.old.blueprint.value self.old.moment (drop next self.old.visit.trace) self.old.cleanups ending) (cleanups_from names self.old.blueprint.value self.old.moment self.old.cleanups ending) (verdict code value) (interp_state self.old) (account_of self.old.settling.run.engine.budget self.old.settling.questions inside) further) }
         ensures counts { Counts (names_of natives.now) steps.new steps.old self.new self.old }
+        ensures most { let names = names_of natives.now in OnErr result ((inside : ℕ) → IsWithin (inside + interp_written names self.old) steps.old steps.new self.new (trace_end (traces_from names self.old.blueprint.value self.old.moment (drop next self.old.visit.trace) self.old.cleanups ending) (cleanups_from names self.old.blueprint.value self.old.moment self.old.cleanups ending) (verdict code value) (interp_state self.old) (account_of self.old.settling.run.engine.budget self.old.settling.questions inside) [])) }
         ensures lowers { IfOk result (λ step. Lowers step self.new ((length self.old.visit.trace - next) + length self.old.cleanups + 1)) }
         ensures same { IsSameRun self.new self.old }
         ensures holds { Holds self.new self.old }
@@ -375,12 +389,14 @@ impl Interp {
         requires { IsReady budget self.old.settling }
         ensures gives { let names = names_of natives.now in IfOk result (λ step. (inside : ℕ) (further : List Answer) → move_gives names step (inside + taken names steps.new steps.old self.new self.old) self.new further ≡ cleanups_from names self.old.blueprint.value self.old.moment (drop next self.old.cleanups) ending (interp_state self.old) (account_of budget self.old.settling.questions inside) further) }
         ensures counts { Counts (names_of natives.now) steps.new steps.old self.new self.old }
+        ensures most { let names = names_of natives.now in OnErr result ((inside : ℕ) → IsWithin (inside + interp_written names self.old) steps.old steps.new self.new (cleanups_from names self.old.blueprint.value self.old.moment (drop next self.old.cleanups) ending (interp_state self.old) (account_of budget self.old.settling.questions inside) [])) }
         ensures lowers { IfOk result (λ step. Lowers step self.new (length self.old.cleanups - next)) }
         ensures same { IsSameRun self.new self.old }
         ensures holds { Holds self.new self.old }
         ensures next { IfOk result (λ step. MoveStandsAt step self.new) }
         ensures falls { IfOk result (λ step. (before : ℕ) → per_question * self.old.settling.questions + 2 < before → MoveFalls step self.new before) }
     {
+        made_grows::<RunHost>();
         let found = text_at(self.alloc, &self.cleanups, next)?;
         match found {
             None => Ok(self.end(both(ending, answered(self.alloc)))),

@@ -1,13 +1,17 @@
-use Rattle.std.proofs.Common.{ℕ, ◌+◌, ◌∷◌, List, Option, sym, subst, ap, ◌∙◌, arith}
+use Rattle.std.proofs.Common.{ℕ, ◌+◌, ◌≤◌, [], ◌∷◌, List, Option, sym, subst, ap, ◌∙◌, arith}
 use Rattle.natives.specs.Names.{names_of}
 use Rattle.outside.specs.declared.question.Answer.{Answer}
+use Rattle.cmd_table.specs.Commands.{Writes}
+use Rattle.ictl.specs.Within.{defined_own}
 use Rattle.ictl.specs.Settle.{said}
 use Rattle.ictl.specs.Defines.{define_end, no_inner}
 use Rattle.ictl.specs.Standing.{state_of, comes_to, define_at}
 use Rattle.ictl.specs.Falls.{DefineFalls, define_number}
 use Rattle.ictl.specs.declared.running.Stop.TheVariants.{Asks}
+use Rattle.ictl.proofs.Growing.{define_writes}
 use Rattle.ictl.proofs.Settles.{settle_same}
 use Rattle.ictl.proofs.Definings.{asks_none}
+use Rattle.ictl.proofs.Withins.{wants}
 use Rattle.ictl.proofs.defining.DefineRun.answer.Goals as goal
 
 pub resume-requires : goal.resume-requires
@@ -39,3 +43,17 @@ returns-in-Some-clause-gives g c = λ bp m question further.
     let d = c.args.self.now in
     ap (λ (a : Answer). said a c.args.run.now.engine.budget (state_of c.args.run.now) further) c.published.ensures
     ∙ ap (λ (v : Option (List ℕ)). define_at names bp m question c.args.run.now d v (c.args.answer ∷ further)) (sym c.in-Some.is ∙ c.take.ensures.value)
+
+pub returns-in_err-came-in-None-clause-most : goal.returns-in_err-came-in-None-clause-most
+returns-in_err-came-in-None-clause-most g c = wants c.from_residual.result _ (λ bp m question.
+    let names = names_of c.args.natives.now in
+    let d = c.args.self.now in
+    subst (λ (v : Option (List ℕ)). Writes c.resume.new.self.engine.made ≤ defined_own (define_at names bp m question c.args.run.now d v (c.args.answer ∷ []))) (sym c.in-None.is ∙ c.take.ensures.value)
+    (define_writes (no_inner names bp m) (Writes c.resume.new.self.engine.made) d.questions 0 (λ given. comes_to names (Asks question) c.args.run.now ((c.args.answer, 0) ∷ given)) [] (c.resume.ensures.most question)))
+
+pub returns-in_err-stop-in-None-clause-most : goal.returns-in_err-stop-in-None-clause-most
+returns-in_err-stop-in-None-clause-most g c = wants c.from_residual-in_err-stop-in-None.result _ (λ bp m question.
+    let names = names_of c.args.natives.now in
+    let d = c.args.self.now in
+    subst (λ (v : Option (List ℕ)). Writes c.resume.new.self.engine.made ≤ defined_own (define_at names bp m question c.args.run.now d v (c.args.answer ∷ []))) (sym c.in-None.is ∙ c.take.ensures.value)
+    (define_writes (no_inner names bp m) (Writes c.resume.new.self.engine.made) d.questions 0 (λ given. comes_to names (Asks question) c.args.run.now ((c.args.answer, 0) ∷ given)) [] (c.resume.ensures.most question)))

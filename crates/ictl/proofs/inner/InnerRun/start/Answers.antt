@@ -3,7 +3,9 @@ use Rattle.txt_core.specs.Number.{number}
 use Rattle.natives.specs.Names.{names_of}
 use Rattle.server_host.specs.Hosts.{HostState, defining}
 use Rattle.ictl.specs.Defines.{depth_of}
-use Rattle.ictl.proofs.Inners.{sunk_begun, begun}
+use Rattle.cmd_table.specs.Commands.{Writes}
+use Rattle.ictl.proofs.Inners.{sunk_begun, begun, none_begun, begun_writes}
+use Rattle.ictl.proofs.Withins.{wants}
 use Rattle.ictl.proofs.inner.InnerRun.start.Goals as goal
 
 pub stop-requires-clause-value : goal.stop-requires-clause-value
@@ -41,3 +43,27 @@ returns-in_default-clause-gives g c = λ bp fresh further.
     sunk_begun (names_of c.args.natives.now) bp c.args.moment s.run.engine c.begin_definitions.new.self c.args.words.now c.args.budget s.defining.questions further
     fresh (c.in_ok-begin_definitions.ensures.ok ∙ ap (λ (h : HostState). defining c.args.moment h.blueprint) c.host_mut.ensures.value)
     (c.in_default.ensures.depth ∙ ap (λ (t : List ℕ). depth_of (number t)) c.word_at-level.ensures)
+
+pub returns-in_err-begin_definitions-clause-most : goal.returns-in_err-begin_definitions-clause-most
+returns-in_err-begin_definitions-clause-most g c = wants c.from_residual.result _ (λ bp fresh. none_begun (names_of c.args.natives.now) bp c.args.moment c.args.self.now.run.engine _ fresh)
+
+pub returns-in_err-script-clause-most : goal.returns-in_err-script-clause-most
+returns-in_err-script-clause-most g c = wants c.from_residual-in_err-script.result _ (λ bp fresh. none_begun (names_of c.args.natives.now) bp c.args.moment c.args.self.now.run.engine _ fresh)
+
+pub returns-in_err-came-clause-most : goal.returns-in_err-came-clause-most
+returns-in_err-came-clause-most g c = wants c.from_residual-in_err-came.result _ (λ bp fresh.
+    let s = c.args.self.now in
+    begun_writes (names_of c.args.natives.now) bp c.args.moment s.run.engine c.begin_definitions.new.self c.args.words.now c.args.budget s.defining.questions c.in-Some.depth (Writes c.start.new.self.engine.made) c.in_ok-script.script
+    fresh (c.in_ok-begin_definitions.ensures.ok ∙ ap (λ (h : HostState). defining c.args.moment h.blueprint) c.host_mut.ensures.value)
+    (c.in-Some.ensures.depth ∙ ap (λ (t : List ℕ). depth_of (number t)) c.word_at-level.ensures)
+    (c.in_ok-script.ensures ∙ c.word_at-body.ensures)
+    c.start.ensures.most)
+
+pub returns-in_err-stop-clause-most : goal.returns-in_err-stop-clause-most
+returns-in_err-stop-clause-most g c = wants c.from_residual-in_err-stop.result _ (λ bp fresh.
+    let s = c.args.self.now in
+    begun_writes (names_of c.args.natives.now) bp c.args.moment s.run.engine c.begin_definitions.new.self c.args.words.now c.args.budget s.defining.questions c.in-Some.depth (Writes c.start.new.self.engine.made) c.in_ok-script.script
+    fresh (c.in_ok-begin_definitions.ensures.ok ∙ ap (λ (h : HostState). defining c.args.moment h.blueprint) c.host_mut.ensures.value)
+    (c.in-Some.ensures.depth ∙ ap (λ (t : List ℕ). depth_of (number t)) c.word_at-level.ensures)
+    (c.in_ok-script.ensures ∙ c.word_at-body.ensures)
+    c.start.ensures.most)

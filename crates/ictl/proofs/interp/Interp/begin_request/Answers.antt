@@ -1,4 +1,4 @@
-use Rattle.std.proofs.Common.{sym, ap, ◌∙◌, arith}
+use Rattle.std.proofs.Common.{sym, ap, ◌∙◌, arith, ◌+◌, [], subst}
 use Rattle.natives.specs.Names.{names_of}
 use Rattle.server_host.specs.declared.edition.Edition.{Edition}
 use Rattle.server_host.specs.Hosts.{HostState, serving}
@@ -6,6 +6,8 @@ use Rattle.ictl.specs.Falls.{first_number}
 use Rattle.ictl.specs.declared.interp.Interp.{Interp}
 use Rattle.ictl.proofs.Interpreters.{moved_on, from_none}
 use Rattle.ictl.proofs.Beginnings.{begun_state, request_begins}
+use Rattle.ictl.specs.Interps.{IsWithin, interp_written}
+use Rattle.ictl.proofs.Withins.{begun_none, new_writes, within_from, moved_within, wants}
 use Rattle.ictl.proofs.interp.Interp.begin_request.Goals as goal
 
 pub preauth-requires : goal.preauth-requires
@@ -45,3 +47,41 @@ returns-clause-visit g c =
           ∙ c.replace.ensures.after ∙ c.in-Ok.ensures names c.requires,
       c.moves.ensures.same.moment ∙ c.preauth.ensures.same.moment,
     )
+
+pub returns-in_default-clause-most : goal.returns-in_default-clause-most
+returns-in_default-clause-most g c = begun_none _ c.args.steps.now _ (new_writes (names_of c.args.natives.now) c.args.self.now c.requires)
+
+pub returns-in_err-serve-clause-most : goal.returns-in_err-serve-clause-most
+returns-in_err-serve-clause-most g c =
+    wants c.from_residual.result _ (begun_none _ c.args.steps.now _ (new_writes (names_of c.args.natives.now) c.args.self.now c.requires))
+
+pub returns-in_err-step-clause-most : goal.returns-in_err-step-clause-most
+returns-in_err-step-clause-most g c =
+    wants c.from_residual-in_err-step.result _ (let names = names_of c.args.natives.now in
+    let old = c.args.self.now in
+    let bp = old.blueprint.value in
+    let visit = c.replace.ensures.after ∙ c.in-Ok.ensures names c.requires in
+    let state = begun_state names old c.serve.new.self (λ (b : Edition). serving c.args.request c.args.moment b) c.requires.1 (c.in_ok-serve.ensures.ok ∙ ap (λ (h : HostState). serving c.args.request c.args.moment h.blueprint) c.host_mut.ensures.value) in
+    let between : Interp = record old {
+      settling = record old.settling { run = record { engine = record old.settling.run.engine { host = c.serve.new.self } }; questions = 1800000 };
+      moment = c.args.moment;
+      visit = c.replace.new.dest;
+    } in
+    within_from 0 (0 + interp_written names between) c.args.steps.now c.args.steps.now c.preauth.new.steps c.preauth.new.self _ (omega arith)
+    (subst (IsWithin (0 + interp_written names between) c.args.steps.now c.preauth.new.steps c.preauth.new.self) (request_begins names bp c.args.request c.args.moment c.replace.new.dest _ [] visit state) (c.in_err-step.ensures.most 0)))
+
+pub returns-in_err-next-clause-most : goal.returns-in_err-next-clause-most
+returns-in_err-next-clause-most g c =
+    wants c.from_residual-in_err-next.result _ (let names = names_of c.args.natives.now in
+    let old = c.args.self.now in
+    let bp = old.blueprint.value in
+    let visit = c.replace.ensures.after ∙ c.in-Ok.ensures names c.requires in
+    let state = begun_state names old c.serve.new.self (λ (b : Edition). serving c.args.request c.args.moment b) c.requires.1 (c.in_ok-serve.ensures.ok ∙ ap (λ (h : HostState). serving c.args.request c.args.moment h.blueprint) c.host_mut.ensures.value) in
+    let between : Interp = record old {
+      settling = record old.settling { run = record { engine = record old.settling.run.engine { host = c.serve.new.self } }; questions = 1800000 };
+      moment = c.args.moment;
+      visit = c.replace.new.dest;
+    } in
+    within_from 0 (0 + interp_written names between) c.args.steps.now c.args.steps.now c.moves.new.steps c.moves.new.self _ (omega arith)
+    (moved_within names c.in_ok-step.step between c.preauth.new.self c.moves.new.self 0 c.args.steps.now c.preauth.new.steps c.moves.new.steps _ c.preauth.ensures.counts
+    (c.in_ok-step.ensures.gives 0 [] ∙ request_begins names bp c.args.request c.args.moment c.replace.new.dest _ [] visit state) (λ n. c.in_err-next.ensures.most n)))

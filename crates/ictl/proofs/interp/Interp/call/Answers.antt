@@ -2,6 +2,7 @@ use Rattle.std.proofs.Common.{refl, arith}
 use Rattle.natives.specs.Names.{names_of}
 use Rattle.tcl_eval.specs.declared.outcome.Work.TheVariants.{Call}
 use Rattle.ictl.proofs.Interpreters.{ok_same, holds_on, ends_less, from_outset, outset_counts}
+use Rattle.ictl.proofs.Withins.{err_same, outset_within}
 use Rattle.ictl.proofs.interp.Interp.call.Goals as goal
 
 pub returns-clause-gives : goal.returns-clause-gives
@@ -26,3 +27,11 @@ returns-clause-holds g c =
 pub returns-clause-falls : goal.returns-clause-falls
 returns-clause-falls g c =
     ok_same c.run.result _ _ (λ step h before less. h before (omega (arith, less)) (ends_less c.args.task (record c.args.self.now.settling { run = c.set_out.new.self }) before less)) c.run.ensures.falls
+
+pub returns-clause-most : goal.returns-clause-most
+returns-clause-most g c =
+    let names = names_of c.args.natives.now in
+    let old = c.args.self.now in
+    err_same c.run.result _ _
+    (λ h inside. outset_within names (Call c.args.words) c.args.task old c.run.new.self (record old.settling { run = c.set_out.new.self }) c.args.budget inside c.args.steps.now c.run.new.steps c.set_out.ensures.state refl refl (h inside))
+    c.run.ensures.most

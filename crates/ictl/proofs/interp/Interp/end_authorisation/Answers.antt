@@ -1,11 +1,12 @@
-use Rattle.std.proofs.Common.{ℕ, sym, ap, ◌∙◌, arith}
+use Rattle.std.proofs.Common.{ℕ, sym, ap, ◌∙◌, arith, ◌+◌, [], refl, subst}
 use Rattle.natives.specs.Names.{names_of}
 use Rattle.ictl.specs.declared.ending.Access.{Access}
 use Rattle.http_resp.specs.declared.response.Response.{Response}
 use Rattle.ictl.specs.Main.{authorised, access_end, responds}
 use Rattle.ictl.specs.Settle.{account_of}
-use Rattle.ictl.specs.Interps.{interp_state}
+use Rattle.ictl.specs.Interps.{interp_state, IsWithin, interp_written}
 use Rattle.ictl.proofs.Interpreters.{lowers_more, ok_both, ok_same, responded, rest_counts, stops_lower, write_falls, write_stands}
+use Rattle.ictl.proofs.Withins.{err_same, none_within, rest_within, wants, wrote_here}
 use Rattle.ictl.proofs.interp.Interp.end_authorisation.Goals as goal
 
 pub returns-in-Allowed-clause-gives : goal.returns-in-Allowed-clause-gives
@@ -84,3 +85,51 @@ returns-in-Forbidden-clause-next g c = write_stands c.respond-in-Forbidden.resul
 
 pub returns-clause-counts : goal.returns-clause-counts
 returns-clause-counts g c = rest_counts (names_of c.args.natives.now) c.args.self.now c.fail.new.self c.args.steps.now c.fail.ensures.rest
+
+pub returns-in-Allowed-clause-most : goal.returns-in-Allowed-clause-most
+returns-in-Allowed-clause-most g c =
+    let names = names_of c.args.natives.now in
+    let old = c.args.self.now in
+    let bp = old.blueprint.value in
+    let m = old.moment in
+    let q = old.settling.questions in
+    let b = old.settling.run.engine.budget in
+    err_same c.postauth.result _ _
+    (λ h inside. subst (IsWithin (inside + interp_written names old) c.args.steps.now c.postauth.new.steps c.postauth.new.self) (ap (λ (n : ℕ). (authorised names bp m old.visit) (interp_state old) (account_of n q inside) []) c.left-budget.ensures ∙ ap (λ (v : Access). access_end (authorised names bp m old.visit) v (interp_state old) (account_of b q inside) []) (sym c.in-Allowed.is ∙ c.access_of-said.ensures)) (h inside))
+    c.postauth.ensures.most
+
+pub returns-clause-most : goal.returns-clause-most
+returns-clause-most g c =
+    let names = names_of c.args.natives.now in
+    let old = c.args.self.now in
+    let bp = old.blueprint.value in
+    let m = old.moment in
+    let q = old.settling.questions in
+    let b = old.settling.run.engine.budget in
+    wants c.fail.result _ (λ inside. subst (IsWithin (inside + interp_written names old) c.args.steps.now c.args.steps.now c.fail.new.self)
+    (ap (λ (v : Access). access_end (authorised names bp m old.visit) v (interp_state old) (account_of b q inside) []) (sym c.in-Failed.is ∙ c.access_of-said.ensures))
+    (rest_within names old c.fail.new.self inside c.args.steps.now _ c.requires.1 c.fail.ensures.rest (wrote_here _ _ (interp_state old) inside [])))
+
+pub returns-in_err-response-in-Unauthorized-clause-most : goal.returns-in_err-response-in-Unauthorized-clause-most
+returns-in_err-response-in-Unauthorized-clause-most g c = wants c.from_residual.result _ (λ inside.
+    let names = names_of c.args.natives.now in
+    let old = c.args.self.now in
+    let bp = old.blueprint.value in
+    let m = old.moment in
+    let q = old.settling.questions in
+    let b = old.settling.run.engine.budget in
+    subst (IsWithin (inside + interp_written names old) c.args.steps.now c.args.steps.now old)
+    (ap (λ (v : Access). access_end (authorised names bp m old.visit) v (interp_state old) (account_of b q inside) []) (sym c.in-Unauthorized.is ∙ c.access_of-said.ensures))
+    (none_within names old old inside c.args.steps.now _ c.requires.1 refl (wrote_here _ _ (interp_state old) inside [])))
+
+pub returns-in_err-response-in-Forbidden-clause-most : goal.returns-in_err-response-in-Forbidden-clause-most
+returns-in_err-response-in-Forbidden-clause-most g c = wants c.from_residual-in_err-response-in-Forbidden.result _ (λ inside.
+    let names = names_of c.args.natives.now in
+    let old = c.args.self.now in
+    let bp = old.blueprint.value in
+    let m = old.moment in
+    let q = old.settling.questions in
+    let b = old.settling.run.engine.budget in
+    subst (IsWithin (inside + interp_written names old) c.args.steps.now c.args.steps.now old)
+    (ap (λ (v : Access). access_end (authorised names bp m old.visit) v (interp_state old) (account_of b q inside) []) (sym c.in-Forbidden.is ∙ c.access_of-said.ensures))
+    (none_within names old old inside c.args.steps.now _ c.requires.1 refl (wrote_here _ _ (interp_state old) inside [])))

@@ -1,11 +1,12 @@
-use Rattle.std.proofs.Common.{◌≡◌, ℕ, List, Option, sym, ap, ◌∙◌, refl, arith}
+use Rattle.std.proofs.Common.{◌≡◌, ℕ, List, Option, sym, ap, ◌∙◌, refl, arith, ◌+◌, [], subst}
 use Rattle.natives.specs.Names.{names_of}
 use Rattle.ictl.specs.declared.ending.Verdict.{Verdict}
 use Rattle.std.proofs.Common.{drop}
 use Rattle.ictl.specs.Main.{filters_from, unauthorised, filter_end}
 use Rattle.ictl.specs.Settle.{account_of}
-use Rattle.ictl.specs.Interps.{interp_state}
+use Rattle.ictl.specs.Interps.{interp_state, IsWithin, interp_written}
 use Rattle.ictl.proofs.Interpreters.{lowers_more, ok_both, ok_same, responded, rest_counts, stops_lower, write_falls, write_stands}
+use Rattle.ictl.proofs.Withins.{err_same, rest_within, wants, wrote_here}
 use Rattle.ictl.proofs.interp.Interp.end_preauth.Goals as goal
 
 pub returns-in-Goes-clause-gives : goal.returns-in-Goes-clause-gives
@@ -74,3 +75,51 @@ returns-in-Returns-clause-counts g c = rest_counts (names_of c.args.natives.now)
 
 pub returns-clause-counts : goal.returns-clause-counts
 returns-clause-counts g c = rest_counts (names_of c.args.natives.now) c.args.self.now c.fail.new.self c.args.steps.now c.fail.ensures.rest
+
+pub returns-in-Goes-clause-most : goal.returns-in-Goes-clause-most
+returns-in-Goes-clause-most g c =
+    let names = names_of c.args.natives.now in
+    let old = c.args.self.now in
+    let bp = old.blueprint.value in
+    let m = old.moment in
+    let q = old.settling.questions in
+    let b = old.settling.run.engine.budget in
+    err_same c.preauth.result _ _
+    (λ h inside. subst (IsWithin (inside + interp_written names old) c.args.steps.now c.preauth.new.steps c.preauth.new.self) (ap (λ (n : ℕ). (filters_from names bp m (drop c.args.next old.visit.preauth) (unauthorised names bp m old.visit)) (interp_state old) (account_of n q inside) []) c.left-budget.ensures ∙ ap (λ (v : Verdict). filter_end (filters_from names bp m (drop c.args.next old.visit.preauth) (unauthorised names bp m old.visit)) (unauthorised names bp m old.visit) v (interp_state old) (account_of b q inside) []) (sym c.in-Goes.is ∙ c.verdict_of-said.ensures)) (h inside))
+    c.preauth.ensures.most
+
+pub returns-in-Breaks-clause-most : goal.returns-in-Breaks-clause-most
+returns-in-Breaks-clause-most g c =
+    let names = names_of c.args.natives.now in
+    let old = c.args.self.now in
+    let bp = old.blueprint.value in
+    let m = old.moment in
+    let q = old.settling.questions in
+    let b = old.settling.run.engine.budget in
+    err_same c.authorise.result _ _
+    (λ h inside. subst (IsWithin (inside + interp_written names old) c.args.steps.now c.authorise.new.steps c.authorise.new.self) (ap (λ (n : ℕ). (unauthorised names bp m old.visit) (interp_state old) (account_of n q inside) []) c.left-budget.ensures ∙ ap (λ (v : Verdict). filter_end (filters_from names bp m (drop c.args.next old.visit.preauth) (unauthorised names bp m old.visit)) (unauthorised names bp m old.visit) v (interp_state old) (account_of b q inside) []) (sym c.in-Breaks.is ∙ c.verdict_of-said.ensures)) (h inside))
+    c.authorise.ensures.most
+
+pub returns-in-Returns-clause-most : goal.returns-in-Returns-clause-most
+returns-in-Returns-clause-most g c =
+    let names = names_of c.args.natives.now in
+    let old = c.args.self.now in
+    let bp = old.blueprint.value in
+    let m = old.moment in
+    let q = old.settling.questions in
+    let b = old.settling.run.engine.budget in
+    wants c.respond_given.result _ (λ inside. subst (IsWithin (inside + interp_written names old) c.args.steps.now c.args.steps.now c.respond_given.new.self)
+    (ap (λ (v : Verdict). filter_end (filters_from names bp m (drop c.args.next old.visit.preauth) (unauthorised names bp m old.visit)) (unauthorised names bp m old.visit) v (interp_state old) (account_of b q inside) []) (sym c.in-Returns.is ∙ c.verdict_of-said.ensures))
+    (rest_within names old c.respond_given.new.self inside c.args.steps.now _ c.requires.1 c.respond_given.ensures.rest (wrote_here _ _ (interp_state old) inside [])))
+
+pub returns-clause-most : goal.returns-clause-most
+returns-clause-most g c =
+    let names = names_of c.args.natives.now in
+    let old = c.args.self.now in
+    let bp = old.blueprint.value in
+    let m = old.moment in
+    let q = old.settling.questions in
+    let b = old.settling.run.engine.budget in
+    wants c.fail.result _ (λ inside. subst (IsWithin (inside + interp_written names old) c.args.steps.now c.args.steps.now c.fail.new.self)
+    (ap (λ (v : Verdict). filter_end (filters_from names bp m (drop c.args.next old.visit.preauth) (unauthorised names bp m old.visit)) (unauthorised names bp m old.visit) v (interp_state old) (account_of b q inside) []) (sym c.in-Fails.is ∙ c.verdict_of-said.ensures))
+    (rest_within names old c.fail.new.self inside c.args.steps.now _ c.requires.1 c.fail.ensures.rest (wrote_here _ _ (interp_state old) inside [])))

@@ -1,14 +1,15 @@
-use Rattle.std.proofs.Common.{◌≡◌, ℕ, List, drop, sym, subst, ap, ◌∙◌, arith}
+use Rattle.std.proofs.Common.{◌≡◌, ℕ, List, drop, sym, subst, ap, ◌∙◌, arith, ◌+◌, []}
 use Rattle.natives.specs.Names.{names_of}
 use Rattle.ictl.specs.Settle.{account_of}
 use Rattle.ictl.specs.Main.{cleanups_from}
-use Rattle.ictl.specs.Interps.{interp_state}
+use Rattle.ictl.specs.Interps.{interp_state, IsWithin, interp_written}
 use Rattle.ictl.specs.Steps.{Lowers, scripts_left}
 use Rattle.ictl.specs.Falls.{EndFalls}
 use Rattle.ictl.specs.declared.running.Stop.TheVariants as stops
 use Rattle.ictl.specs.declared.task.Task.{Task}
 use Rattle.ictl.specs.declared.task.Task.TheVariants.{Preauth, Authorise, Postauth, Page, Trace, Cleanup, Script}
 use Rattle.ictl.proofs.Interpreters.{ended_over, in_task, lowers_more, ok_both, ok_same, responded, rest_counts, rest_ends, stops_lower, write_falls, write_stands}
+use Rattle.ictl.proofs.Withins.{err_same, rest_within, wants, wrote_here}
 use Rattle.ictl.proofs.interp.Interp.ended.Goals as goal
 
 pub returns-in-Preauth-clause-gives : goal.returns-in-Preauth-clause-gives
@@ -137,3 +138,65 @@ returns-in-Page-clause-counts g c = rest_counts (names_of c.args.natives.now) c.
 
 pub returns-in_default-clause-counts : goal.returns-in_default-clause-counts
 returns-in_default-clause-counts g c = rest_counts (names_of c.args.natives.now) c.args.self.now c.end_procedure.new.self c.args.steps.now c.end_procedure.ensures.rest
+
+pub returns-in-Preauth-clause-most : goal.returns-in-Preauth-clause-most
+returns-in-Preauth-clause-most g c =
+    let names = names_of c.args.natives.now in
+    let old = c.args.self.now in
+    err_same c.end_preauth.result _ _
+    (λ h inside. subst (IsWithin (inside + interp_written names old) c.args.steps.now c.end_preauth.new.steps c.end_preauth.new.self) (in_task names (stops.Ended c.args.code c.args.value) (Preauth c.in-Preauth.next) old inside [] c.in-Preauth.is) (h inside))
+    c.end_preauth.ensures.most
+
+pub returns-in-Authorise-clause-most : goal.returns-in-Authorise-clause-most
+returns-in-Authorise-clause-most g c =
+    let names = names_of c.args.natives.now in
+    let old = c.args.self.now in
+    err_same c.end_authorisation.result _ _
+    (λ h inside. subst (IsWithin (inside + interp_written names old) c.args.steps.now c.end_authorisation.new.steps c.end_authorisation.new.self) (in_task names (stops.Ended c.args.code c.args.value) (Authorise) old inside [] c.in-Authorise.is) (h inside))
+    c.end_authorisation.ensures.most
+
+pub returns-in-Postauth-clause-most : goal.returns-in-Postauth-clause-most
+returns-in-Postauth-clause-most g c =
+    let names = names_of c.args.natives.now in
+    let old = c.args.self.now in
+    err_same c.end_postauth.result _ _
+    (λ h inside. subst (IsWithin (inside + interp_written names old) c.args.steps.now c.end_postauth.new.steps c.end_postauth.new.self) (in_task names (stops.Ended c.args.code c.args.value) (Postauth c.in-Postauth.next) old inside [] c.in-Postauth.is) (h inside))
+    c.end_postauth.ensures.most
+
+pub returns-in-Trace-clause-most : goal.returns-in-Trace-clause-most
+returns-in-Trace-clause-most g c =
+    let names = names_of c.args.natives.now in
+    let old = c.args.self.now in
+    err_same c.end_trace.result _ _
+    (λ h inside. subst (IsWithin (inside + interp_written names old) c.args.steps.now c.end_trace.new.steps c.end_trace.new.self) (in_task names (stops.Ended c.args.code c.args.value) (Trace c.in-Trace.next c.in-Trace.ending) old inside [] c.in-Trace.is) (h inside))
+    c.end_trace.ensures.most
+
+pub returns-in-Cleanup-clause-most : goal.returns-in-Cleanup-clause-most
+returns-in-Cleanup-clause-most g c =
+    let names = names_of c.args.natives.now in
+    let old = c.args.self.now in
+    err_same c.clean_up.result _ _
+    (λ h inside. subst (IsWithin (inside + interp_written names old) c.args.steps.now c.clean_up.new.steps c.clean_up.new.self) (ap (λ (b : ℕ). cleanups_from names old.blueprint.value old.moment (drop c.in-Cleanup.next old.cleanups) c.in-Cleanup.ending (interp_state old) (account_of b old.settling.questions inside) []) c.left-budget.ensures ∙ in_task names (stops.Ended c.args.code c.args.value) (Cleanup c.in-Cleanup.next c.in-Cleanup.ending) old inside [] c.in-Cleanup.is) (h inside))
+    c.clean_up.ensures.most
+
+pub returns-in-Page-clause-most : goal.returns-in-Page-clause-most
+returns-in-Page-clause-most g c =
+    let names = names_of c.args.natives.now in
+    let old = c.args.self.now in
+    let bp = old.blueprint.value in
+    let m = old.moment in
+    let q = old.settling.questions in
+    wants c.end_page.result _ (λ inside. subst (IsWithin (inside + interp_written names old) c.args.steps.now c.args.steps.now c.end_page.new.self)
+    (in_task names (stops.Ended c.args.code c.args.value) Page old inside [] c.in-Page.is)
+    (rest_within names old c.end_page.new.self inside c.args.steps.now _ c.requires.1 c.end_page.ensures.rest (wrote_here _ _ (interp_state old) inside [])))
+
+pub returns-in_default-clause-most : goal.returns-in_default-clause-most
+returns-in_default-clause-most g c =
+    let names = names_of c.args.natives.now in
+    let old = c.args.self.now in
+    let bp = old.blueprint.value in
+    let m = old.moment in
+    let q = old.settling.questions in
+    wants c.end_procedure.result _ (λ inside. subst (IsWithin (inside + interp_written names old) c.args.steps.now c.args.steps.now c.end_procedure.new.self)
+    (sym (rest_ends names c.args.code c.args.value old.task old inside [] c.in_default.not-Preauth c.in_default.not-Authorise c.in_default.not-Postauth c.in_default.not-Page c.in_default.not-Trace c.in_default.not-Cleanup c.in_default.not-Script))
+    (rest_within names old c.end_procedure.new.self inside c.args.steps.now _ c.requires.1 c.end_procedure.ensures.rest (wrote_here _ _ (interp_state old) inside [])))

@@ -1,8 +1,9 @@
-use Rattle.std.proofs.Common.{ℕ, sym, ap, ◌∙◌}
+use Rattle.std.proofs.Common.{ℕ, sym, ap, ◌∙◌, ◌+◌, [], subst}
 use Rattle.natives.specs.Names.{names_of}
-use Rattle.ictl.specs.Interps.{gives, move_gives}
+use Rattle.ictl.specs.Interps.{gives, move_gives, IsWithin, interp_written}
 use Rattle.ictl.specs.declared.task.Move.{Move}
 use Rattle.ictl.proofs.Settlings.{none_taken}
+use Rattle.ictl.proofs.Withins.{wants}
 use Rattle.ictl.proofs.interp.Interp.moves.Goals as goal
 
 pub go_on-requires-clause-at : goal.go_on-requires-clause-at
@@ -28,3 +29,9 @@ returns-in_ok-next-in-Goes-clause-gives g c = λ inside further.
     let names = names_of c.args.natives.now in
     c.in_ok-next-in-Goes.ensures.gives inside further
     ∙ ap (λ (m : Move). move_gives names m inside c.args.self.now further) (sym c.in-Goes.is)
+
+pub returns-in_err-next-in-Goes-clause-most : goal.returns-in_err-next-in-Goes-clause-most
+returns-in_err-next-in-Goes-clause-most g c = wants c.from_residual.result _ (λ inside.
+    let names = names_of c.args.natives.now in
+    let old = c.args.self.now in
+    subst (IsWithin (inside + interp_written names old) c.args.steps.now c.go_on.new.steps c.go_on.new.self) (ap (λ (m : Move). move_gives names m inside old []) (sym c.in-Goes.is)) (c.in_err-next-in-Goes.ensures.most inside))

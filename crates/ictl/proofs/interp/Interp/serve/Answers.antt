@@ -1,11 +1,16 @@
-use Rattle.std.proofs.Common.{arith, sym, ap, ◌∙◌}
+use Rattle.std.proofs.Common.{arith, sym, ap, ◌∙◌, ◌+◌, [], refl, subst}
 use Rattle.natives.specs.Names.{names_of}
 use Rattle.http_resp.specs.declared.response.Response.{Response}
 use Rattle.ictl.specs.Settle.{account_of}
 use Rattle.ictl.specs.Main.{serve, responds}
-use Rattle.ictl.specs.Interps.{interp_state}
+use Rattle.ictl.specs.Interps.{interp_state, IsWithin, interp_written}
 use Rattle.ictl.specs.declared.visit.Serving.{Serving}
 use Rattle.ictl.proofs.Interpreters.{asked_page, ok_both, ok_same, responded, stops_lower, write_falls, write_stands}
+use Rattle.server_host.specs.Hosts.{HostState}
+use Rattle.tcl_eval.specs.State.{State}
+use Rattle.cmd_table.specs.Commands.{Writes}
+use Rattle.ictl.proofs.Withins.{err_same, none_within, wants}
+use Rattle.ictl.proofs.Growing.{served_grows}
 use Rattle.ictl.proofs.interp.Interp.serve.Goals as goal
 
 pub returns-in-Procedure-clause-gives : goal.returns-in-Procedure-clause-gives
@@ -60,3 +65,43 @@ returns-in-Procedure-clause-lowers g c = ok_same c.call.result _ _ (λ step h. h
 
 pub returns-in-Page-clause-lowers : goal.returns-in-Page-clause-lowers
 returns-in-Page-clause-lowers g c = ok_same c.ask_page.result _ _ (λ step is. stops_lower step _ c.ask_page.new.self _ is) c.ask_page.ensures.asks
+
+pub returns-in-Procedure-clause-most : goal.returns-in-Procedure-clause-most
+returns-in-Procedure-clause-most g c =
+    let names = names_of c.args.natives.now in
+    let old = c.args.self.now in
+    let bp = old.blueprint.value in
+    let m = old.moment in
+    let q = old.settling.questions in
+    err_same c.call.result _ _
+    (λ h inside. subst (IsWithin (inside + interp_written names old) c.args.steps.now c.call.new.steps c.call.new.self) (ap (λ (s : Serving). serve names bp m s (interp_state old) (account_of c.args.budget q inside) []) (sym c.in-Procedure.is ∙ c.in_ok-serving.ensures)) (h inside))
+    c.call.ensures.most
+
+pub returns-in_err-serving-clause-most : goal.returns-in_err-serving-clause-most
+returns-in_err-serving-clause-most g c = wants c.from_residual.result _ (λ inside.
+    let names = names_of c.args.natives.now in
+    let old = c.args.self.now in
+    let bp = old.blueprint.value in
+    let m = old.moment in
+    let q = old.settling.questions in
+    none_within names old old inside c.args.steps.now _ c.requires.1 refl (served_grows c.made_grows.ensures names old (interp_state old) (account_of c.args.budget q inside) []))
+
+pub returns-in_err-response-in-Nothing-clause-most : goal.returns-in_err-response-in-Nothing-clause-most
+returns-in_err-response-in-Nothing-clause-most g c = wants c.from_residual-in_err-response-in-Nothing.result _ (λ inside.
+    let names = names_of c.args.natives.now in
+    let old = c.args.self.now in
+    let bp = old.blueprint.value in
+    let m = old.moment in
+    let q = old.settling.questions in
+    none_within names old old inside c.args.steps.now _ c.requires.1 refl (served_grows c.made_grows.ensures names old (interp_state old) (account_of c.args.budget q inside) []))
+
+pub returns-in-Page-clause-most : goal.returns-in-Page-clause-most
+returns-in-Page-clause-most g c =
+    let names = names_of c.args.natives.now in
+    let old = c.args.self.now in
+    let bp = old.blueprint.value in
+    let m = old.moment in
+    let q = old.settling.questions in
+    wants c.ask_page.result _ (λ inside.
+    none_within names old c.ask_page.new.self inside c.args.steps.now _ c.requires.1 (ap (λ (s : State HostState). Writes s.made) c.ask_page.ensures.state)
+    (served_grows c.made_grows.ensures names old (interp_state old) (account_of c.args.budget q inside) []))

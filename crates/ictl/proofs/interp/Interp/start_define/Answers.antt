@@ -1,13 +1,14 @@
-use Rattle.std.proofs.Common.{◌≡◌, ◌≤◌, ◌+◌, ℕ, List, sym, subst, refl, arith}
+use Rattle.std.proofs.Common.{◌≡◌, ◌≤◌, ◌+◌, ℕ, List, sym, subst, refl, arith, [], ap, ◌∙◌}
 use Rattle.natives.specs.Names.{names_of}
 use Rattle.outside.specs.declared.question.Answer.{Answer}
 use Rattle.server_host.specs.declared.edition.Edition.{Edition}
 use Rattle.cmd_table.specs.Commands.{Writes}
 use Rattle.ictl.specs.Main.{Define}
-use Rattle.ictl.specs.Interps.{UnlessNoMemory, gives, taken, interp_written, IsNew, Holds, IsSound}
+use Rattle.ictl.specs.Interps.{UnlessNoMemory, gives, taken, interp_written, IsNew, Holds, IsSound, IsWithin, interp_state}
 use Rattle.ictl.specs.declared.interp.Interp.{Interp}
-use Rattle.ictl.proofs.Interpreters.{answered_so, answered_or}
+use Rattle.ictl.proofs.Interpreters.{answered_so, answered_or, ok_both}
 use Rattle.ictl.proofs.Resets.{defined_from, spared_new, holds_from, sound_from, holds_same}
+use Rattle.ictl.proofs.Withins.{begun_none, defined_within, either, new_writes, out_stands}
 use Rattle.ictl.proofs.interp.Interp.start_define.Goals as goal
 
 pub begin_define-requires : goal.begin_define-requires
@@ -32,7 +33,7 @@ returns-in-Ok-clause-sound g c = λ names sound.
     sound_from names c.begin_define.new.self c.take_spare.new.self c.args.self.now c.take_spare.ensures.rest (rw c.in-Ok.is at c.take_spare.ensures.ok) c.begin_define.ensures.spare c.begin_define.ensures.holds sound
 
 pub returns-in-Ok-clause-next : goal.returns-in-Ok-clause-next
-returns-in-Ok-clause-next g c = answered_or c.begin_define.result c.next_of.result _ tt c.next_of.ensures c.begin_define.ensures.next
+returns-in-Ok-clause-next g c = out_stands c.begin_define.result c.next_of.result c.begin_define.new.self c.next_of.ensures c.begin_define.ensures.next
 
 pub returns-in-Ok-clause-falls : goal.returns-in-Ok-clause-falls
 returns-in-Ok-clause-falls g c = answered_or c.begin_define.result c.next_of.result _ tt c.next_of.ensures c.begin_define.ensures.falls
@@ -46,3 +47,15 @@ returns-in-Err-clause-sound g c = λ names sound. subst (IsSound names) (sym (rw
 pub returns-in-Err-clause-steps : goal.returns-in-Err-clause-steps
 returns-in-Err-clause-steps g c =
     subst (λ (i : Interp). c.args.steps.now + Writes c.args.self.now.settling.run.engine.made ≡ c.args.steps.now + Writes i.settling.run.engine.made) (sym (rw c.in-Err.is at c.take_spare.ensures.err)) refl
+
+pub returns-in-Ok-clause-most : goal.returns-in-Ok-clause-most
+returns-in-Ok-clause-most g c =
+    let names = names_of c.args.natives.now in
+    subst (λ (i : Interp). IsWithin 0 c.args.steps.now c.begin_define.new.steps c.begin_define.new.self (Define names i.blueprint.value c.args.script.now c.args.moment [])) c.take_spare.ensures.rest
+    (either c.begin_define.result _ c.begin_define.ensures.most
+    (ok_both c.begin_define.result _ _ _ (λ next is out. defined_within names next c.take_spare.new.self c.begin_define.new.self c.args.steps.now c.begin_define.new.steps _ c.begin_define.ensures.steps out (is [])) c.begin_define.ensures.stands c.begin_define.ensures.next))
+
+pub returns-in-Err-clause-most : goal.returns-in-Err-clause-most
+returns-in-Err-clause-most g c =
+    begun_none c.take_spare.new.self c.args.steps.now _
+    (ap (λ (i : Interp). Writes (interp_state i).made) (rw c.in-Err.is at c.take_spare.ensures.err) ∙ new_writes (names_of c.args.natives.now) c.args.self.now c.requires)

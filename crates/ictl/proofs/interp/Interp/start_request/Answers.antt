@@ -1,12 +1,14 @@
-use Rattle.std.proofs.Common.{◌≡◌, ◌≤◌, ◌+◌, ℕ, List, sym, subst, refl, arith}
+use Rattle.std.proofs.Common.{◌≡◌, ◌≤◌, ◌+◌, ℕ, List, sym, subst, refl, arith, [], ap, ◌∙◌}
 use Rattle.natives.specs.Names.{names_of}
 use Rattle.outside.specs.declared.question.Answer.{Answer}
 use Rattle.ictl.specs.Visits.{visit_of}
 use Rattle.ictl.specs.Main.{Main}
-use Rattle.ictl.specs.Interps.{UnlessNoMemory, gives, taken, interp_written, IsNew, Holds, IsSound}
+use Rattle.ictl.specs.Interps.{UnlessNoMemory, gives, taken, interp_written, IsNew, Holds, IsSound, IsWithin, interp_state}
 use Rattle.ictl.specs.declared.interp.Interp.{Interp}
-use Rattle.ictl.proofs.Interpreters.{answered_so, answered_or}
+use Rattle.ictl.proofs.Interpreters.{answered_so, answered_or, ok_both}
 use Rattle.ictl.proofs.Resets.{spared_new, holds_from, sound_from, holds_same}
+use Rattle.cmd_table.specs.Commands.{Writes}
+use Rattle.ictl.proofs.Withins.{began_within, begun_none, either, new_writes, out_stands}
 use Rattle.ictl.proofs.interp.Interp.start_request.Goals as goal
 
 pub begin_request-requires : goal.begin_request-requires
@@ -42,7 +44,7 @@ returns-in-Ok-clause-sound g c = λ names sound.
     sound_from names c.begin_request.new.self c.take_spare.new.self c.args.self.now c.take_spare.ensures.rest (rw c.in-Ok.is at c.take_spare.ensures.ok) c.begin_request.ensures.spare c.begin_request.ensures.holds sound
 
 pub returns-in-Ok-clause-next : goal.returns-in-Ok-clause-next
-returns-in-Ok-clause-next g c = answered_or c.begin_request.result c.next_of.result _ tt c.next_of.ensures c.begin_request.ensures.next
+returns-in-Ok-clause-next g c = out_stands c.begin_request.result c.next_of.result c.begin_request.new.self c.next_of.ensures c.begin_request.ensures.next
 
 pub returns-in-Ok-clause-falls : goal.returns-in-Ok-clause-falls
 returns-in-Ok-clause-falls g c = answered_or c.begin_request.result c.next_of.result _ tt c.next_of.ensures c.begin_request.ensures.falls
@@ -57,3 +59,15 @@ pub returns-in-Err-clause-counts : goal.returns-in-Err-clause-counts
 returns-in-Err-clause-counts g c =
     let names = names_of c.args.natives.now in
     subst (λ (i : Interp). c.args.steps.now + interp_written names i ≤ c.args.steps.now + interp_written names c.args.self.now) (sym (rw c.in-Err.is at c.take_spare.ensures.err)) (omega arith)
+
+pub returns-in-Ok-clause-most : goal.returns-in-Ok-clause-most
+returns-in-Ok-clause-most g c =
+    let names = names_of c.args.natives.now in
+    subst (λ (i : Interp). IsWithin 0 c.args.steps.now c.begin_request.new.steps c.begin_request.new.self (Main names i.blueprint.value c.args.request c.args.moment [])) c.take_spare.ensures.rest
+    (either c.begin_request.result _ c.begin_request.ensures.most
+    (ok_both c.begin_request.result _ _ _ (λ next is out. began_within names next c.take_spare.new.self c.begin_request.new.self c.args.steps.now c.begin_request.new.steps _ c.begin_request.ensures.counts out (is [])) c.begin_request.ensures.stands c.begin_request.ensures.next))
+
+pub returns-in-Err-clause-most : goal.returns-in-Err-clause-most
+returns-in-Err-clause-most g c =
+    begun_none c.take_spare.new.self c.args.steps.now _
+    (ap (λ (i : Interp). Writes (interp_state i).made) (rw c.in-Err.is at c.take_spare.ensures.err) ∙ new_writes (names_of c.args.natives.now) c.args.self.now c.requires)

@@ -1,11 +1,12 @@
-use Rattle.std.proofs.Common.{sym, ap, ◌∙◌}
+use Rattle.std.proofs.Common.{sym, ap, ◌∙◌, ◌+◌, [], subst}
 use Rattle.natives.specs.Names.{names_of}
-use Rattle.ictl.specs.Interps.{goes_to}
+use Rattle.ictl.specs.Interps.{goes_to, IsWithin, interp_written}
 use Rattle.ictl.specs.Steps.{cut_stop}
 use Rattle.ictl.specs.declared.running.Stop.{Stop}
 use Rattle.ictl.specs.declared.ending.Ending.TheVariants as endings
 use Rattle.ictl.proofs.Cuts.{cut_gives}
 use Rattle.ictl.proofs.Interpreters.{ok_same, script_asks, script_stands, script_falls}
+use Rattle.ictl.proofs.Withins.{deep_written, rest_within, spent_written, wants}
 use Rattle.ictl.proofs.interp.Interp.stopped.Goals as goal
 
 pub returns-in_ok-step-in-Ended-clause-next : goal.returns-in_ok-step-in-Ended-clause-next
@@ -40,3 +41,28 @@ returns-in-TooDeep-clause-gives g c =
     let names = names_of c.args.natives.now in
     ok_same c.cut-in-TooDeep.result _ _ (λ step h inside further. cut_gives names c.args.stop (cut_stop endings.TooDeep) c.args.self.now c.cut-in-TooDeep.new.self step inside c.args.steps.now further c.cut-in-TooDeep.ensures.rest c.in-TooDeep.is h)
     (c.cut-in-TooDeep.ensures.gives names)
+
+pub returns-in_err-step-in-Ended-clause-most : goal.returns-in_err-step-in-Ended-clause-most
+returns-in_err-step-in-Ended-clause-most g c = wants c.from_residual.result _ (λ inside.
+    let names = names_of c.args.natives.now in
+    let old = c.args.self.now in
+    subst (IsWithin (inside + interp_written names old) c.args.steps.now c.ended.new.steps c.ended.new.self)
+    (sym (ap (λ (t : Stop). goes_to names t inside old []) c.in-Ended.is)) (c.in_err-step-in-Ended.ensures.most inside))
+
+pub returns-in-Spent-clause-most : goal.returns-in-Spent-clause-most
+returns-in-Spent-clause-most g c =
+    let names = names_of c.args.natives.now in
+    let old = c.args.self.now in
+    let none = rw c.in-Spent.is at c.requires.at in
+    wants c.cut.result _ (λ inside. subst (IsWithin (inside + interp_written names old) c.args.steps.now c.args.steps.now c.cut.new.self)
+    (sym (ap (λ (t : Stop). goes_to names t inside old []) c.in-Spent.is))
+    (rest_within names old c.cut.new.self inside c.args.steps.now _ none c.cut.ensures.rest (spent_written c.made_grows.ensures names old inside)))
+
+pub returns-in-TooDeep-clause-most : goal.returns-in-TooDeep-clause-most
+returns-in-TooDeep-clause-most g c =
+    let names = names_of c.args.natives.now in
+    let old = c.args.self.now in
+    let none = rw c.in-TooDeep.is at c.requires.at in
+    wants c.cut-in-TooDeep.result _ (λ inside. subst (IsWithin (inside + interp_written names old) c.args.steps.now c.args.steps.now c.cut-in-TooDeep.new.self)
+    (sym (ap (λ (t : Stop). goes_to names t inside old []) c.in-TooDeep.is))
+    (rest_within names old c.cut-in-TooDeep.new.self inside c.args.steps.now _ none c.cut-in-TooDeep.ensures.rest (deep_written c.made_grows.ensures names old inside)))

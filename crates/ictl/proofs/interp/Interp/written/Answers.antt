@@ -1,12 +1,17 @@
-use Rattle.std.proofs.Common.{◌≡◌, ℕ, ◌+◌, List, Bool, true, false, Result, refl, sym, subst, ap, ◌∙◌}
+use Rattle.std.proofs.Common.{◌≡◌, ℕ, ◌+◌, List, Bool, true, false, Result, refl, sym, subst, ap, ◌∙◌, Option, [], arith}
 use Rattle.natives.specs.Names.{names_of}
 use Rattle.outside.specs.declared.question.Answer.{Answer}
-use Rattle.ictl.specs.Main.{behind}
-use Rattle.ictl.specs.Interps.{UnlessNoMemory, gives, taken, ending_of, interp_state}
+use Rattle.ictl.specs.Main.{behind, answered, both, ends}
+use Rattle.ictl.specs.Interps.{UnlessNoMemory, gives, taken, ending_of, interp_state, IsWithin, interp_written}
 use Rattle.ictl.specs.Falls.{Falls, first_number}
 use Rattle.ictl.specs.declared.next.Next.{Next}
-use Rattle.ictl.proofs.Interpreters.{answered_so, answered_or, ok_same, unwritten_stands, unwritten_over, over_same, over_holds}
+use Rattle.ictl.proofs.Interpreters.{answered_so, answered_or, ok_same, unwritten_stands, unwritten_over, over_same, over_holds, ok_both}
 use Rattle.ictl.proofs.Resets.{sound_on, writing_runs}
+use Rattle.ictl.specs.declared.inner.InnerRun.{InnerRun}
+use Rattle.ictl.specs.declared.interp.Interp.{Interp}
+use Rattle.cmd_table.specs.Commands.{Writes}
+use Rattle.ictl.proofs.Withins.{either, err_same, out_within, within_from, out_stands}
+use Rattle.ictl.specs.Standing.{inner_written}
 use Rattle.ictl.proofs.interp.Interp.written.Goals as goal
 
 pub returns-then-whole-clause-stands : goal.returns-then-whole-clause-stands
@@ -24,7 +29,7 @@ pub returns-then-whole-clause-sound : goal.returns-then-whole-clause-sound
 returns-then-whole-clause-sound g c = λ names sound. sound_on names c.go_behind.new.self c.args.self.now (writing_runs c.args.self.now c.requires) c.go_behind.ensures.same c.go_behind.ensures.holds sound
 
 pub returns-then-whole-clause-next : goal.returns-then-whole-clause-next
-returns-then-whole-clause-next g c = answered_or c.go_behind.result c.next_of.result _ tt c.next_of.ensures c.go_behind.ensures.next
+returns-then-whole-clause-next g c = out_stands c.go_behind.result c.next_of.result c.go_behind.new.self c.next_of.ensures c.go_behind.ensures.next
 
 pub returns-then-whole-clause-falls : goal.returns-then-whole-clause-falls
 returns-then-whole-clause-falls g c = answered_or c.go_behind.result c.next_of.result _ tt c.next_of.ensures c.go_behind.ensures.falls
@@ -51,7 +56,27 @@ returns-else-whole-clause-sound g c = λ names sound.
     sound_on names c.end_unwritten.new.self c.args.self.now (writing_runs c.args.self.now c.requires) (over_same c.end_unwritten.new.self c.args.self.now c.end_unwritten.ensures.task) (over_holds c.end_unwritten.new.self c.args.self.now c.end_unwritten.ensures.task) sound
 
 pub returns-else-whole-clause-next : goal.returns-else-whole-clause-next
-returns-else-whole-clause-next g c = unwritten_over c.end_unwritten.result c.args.self.now c.end_unwritten.new.self c.end_unwritten.ensures.ends c.end_unwritten.ensures.task
+returns-else-whole-clause-next g c = unwritten_over c.end_unwritten.result c.args.self.now c.end_unwritten.new.self c.end_unwritten.ensures.ends c.end_unwritten.ensures.task c.requires.0
 
 pub returns-else-whole-clause-falls : goal.returns-else-whole-clause-falls
 returns-else-whole-clause-falls g c = subst (λ (n : Next). Falls n c.end_unwritten.new.self first_number) (sym c.end_unwritten.ensures.ends) tt
+
+pub returns-then-whole-clause-most : goal.returns-then-whole-clause-most
+returns-then-whole-clause-most g c = λ request sound visit inside.
+    let names = names_of c.args.natives.now in
+    let old = c.args.self.now in
+    let new = c.go_behind.new.self in
+    let none : inner_written names old.blueprint.value old.settling.inner ≡ 0 = ap (λ (i : Option InnerRun). inner_written names old.blueprint.value i) c.requires.0 in
+    subst (λ (b : Bool). IsWithin (inside + Writes (interp_state old).made) c.args.steps.now c.go_behind.new.steps new (behind names old.blueprint.value old.moment b request (ending_of old.task) (interp_state old) inside [])) (sym c.if-whole.true)
+    (either c.go_behind.result _ (err_same c.go_behind.result _ _ (λ h. h request sound visit inside) c.go_behind.ensures.most)
+    (ok_both c.go_behind.result _ _ _
+    (λ next stands out. within_from (inside + Writes (interp_state old).made) (inside + interp_written names old) c.args.steps.now c.args.steps.now c.go_behind.new.steps new _ (omega (arith, none))
+    (out_within names next old new inside c.args.steps.now c.go_behind.new.steps _ c.go_behind.ensures.counts out (sym (stands request sound visit inside []))))
+    c.go_behind.ensures.stands c.go_behind.ensures.next))
+
+pub returns-else-whole-clause-most : goal.returns-else-whole-clause-most
+returns-else-whole-clause-most g c = λ request sound visit inside.
+    let names = names_of c.args.natives.now in
+    let old = c.args.self.now in
+    subst (λ (b : Bool). IsWithin (inside + Writes (interp_state old).made) c.args.steps.now c.args.steps.now c.end_unwritten.new.self (behind names old.blueprint.value old.moment b request (ending_of old.task) (interp_state old) inside [])) (sym c.if-whole.false)
+    (subst (λ (i : Interp). IsWithin (inside + Writes (interp_state old).made) c.args.steps.now c.args.steps.now i (ends (both (ending_of old.task) answered) (interp_state old) inside [])) (sym c.end_unwritten.ensures.task) (record { all = omega arith; own = omega arith }))

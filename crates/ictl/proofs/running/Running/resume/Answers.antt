@@ -1,5 +1,6 @@
 use Rattle.natives.specs.Names.{names_of}
 use Rattle.ictl.proofs.Runs.{went_on, uncharged, asks_at, went_on_suffices}
+use Rattle.ictl.proofs.Withins.{went_writes}
 use Rattle.ictl.proofs.running.Running.resume.Goals as goal
 
 pub returns-clause-gives : goal.returns-clause-gives
@@ -14,3 +15,11 @@ returns-clause-asks g c =
 pub returns-clause-suffices : goal.returns-clause-suffices
 returns-clause-suffices g c =
     went_on_suffices c.resume-outcome.result c.in_ok-stop.stop (record { engine = c.resume-outcome.new.self }) c.args.self.now c.args.answer c.in_ok-stop.ensures c.resume-outcome.ensures.falls
+
+pub returns-clause-most : goal.returns-clause-most
+returns-clause-most g c =
+    went_writes (names_of c.args.natives.now) c.resume-outcome.new.self c.args.self.now.engine c.args.self.now c.args.answer 0 (uncharged c.args.self.now.engine) c.resume-outcome.ensures.front
+
+pub returns-in_err-stop-clause-most : goal.returns-in_err-stop-clause-most
+returns-in_err-stop-clause-most g c =
+    went_writes (names_of c.args.natives.now) c.resume-outcome.new.self c.args.self.now.engine c.args.self.now c.args.answer 0 (uncharged c.args.self.now.engine) c.resume-outcome.ensures.front

@@ -3,6 +3,7 @@ use Rattle.natives.specs.Names.{names_of}
 use Rattle.ictl.specs.Standing.{settling_gives, written, inner_written}
 use Rattle.ictl.specs.declared.inner.InnerRun.{InnerRun}
 use Rattle.ictl.specs.declared.running.Stop.TheVariants as stops
+use Rattle.ictl.proofs.Withins.{said_within, wants}
 use Rattle.ictl.proofs.Settlings.{stands_behind, gone_behind, sunk_behind, said_behind}
 use Rattle.ictl.proofs.settling.Settling.behind.Goals as goal
 
@@ -32,3 +33,11 @@ returns-in_ok-came-in-Said-clause-gives g c = λ question inside further.
     c.in-Said.is c.requires.inner c.requires.inner refl
     (c.saturating_sub-used.ensures ∙ ap (λ (n : ℕ). n - c.left-in-Said.result) c.left.ensures ∙ ap (λ (n : ℕ). s.run.engine.budget - n) c.left-in-Said.ensures)
     c.resume_charged.ensures.counts c.in_ok-came-in-Said.ensures.gives
+
+pub returns-in_err-came-in-Said-clause-most : goal.returns-in_err-came-in-Said-clause-most
+returns-in_err-came-in-Said-clause-most g c = wants c.from_residual.result _ (λ question inside.
+    let s = c.args.self.now in
+    said_within (names_of c.args.natives.now) c.args.blueprint.now.value c.args.moment question c.in-Said.answer c.saturating_sub-used.result c.args.stop c.args.inner
+    (record s { run = c.resume_charged.new.self }) s inside c.args.steps.now c.resume_charged.new.steps c.in-Said.is c.requires.inner
+    (c.saturating_sub-used.ensures ∙ ap (λ (n : ℕ). n - c.left-in-Said.result) c.left.ensures ∙ ap (λ (n : ℕ). s.run.engine.budget - n) c.left-in-Said.ensures)
+    c.resume_charged.ensures.counts (c.resume_charged.ensures.most question))

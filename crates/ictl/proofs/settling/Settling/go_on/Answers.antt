@@ -1,6 +1,8 @@
-use Rattle.std.proofs.Common.{arith}
+use Rattle.std.proofs.Common.{◌+◌, ◌-◌, ◌≤◌, [], subst, arith}
 use Rattle.natives.specs.Names.{names_of}
 use Rattle.ictl.specs.Standing.{written}
+use Rattle.ictl.specs.Within.{SettledWithin}
+use Rattle.ictl.proofs.Withins.{settled_from, wants}
 use Rattle.ictl.proofs.Lasting.{lasts_on, lasts_same}
 use Rattle.ictl.proofs.Settlings.{both_counted, goes_none, goes_twice, then_on}
 use Rattle.ictl.proofs.settling.Settling.go_on.Goals as goal
@@ -52,3 +54,14 @@ returns-in-Stops-clause-gives g c = λ inside further.
     let st = rw c.in-Stops.is at c.in_ok-step.ensures.gives in
     then_on names bp c.args.moment c.runs.stop c.in-Stops.last s c.runs.self c.step.new.self inside c.args.steps.now c.runs.steps c.step.new.steps further _
     c.runs.invariant.counts c.step.ensures.counts (c.runs.invariant.gives inside further) (λ n. st n further)
+
+pub returns-in_err-step-clause-most : goal.returns-in_err-step-clause-most
+returns-in_err-step-clause-most g c = wants c.from_residual.result _ (λ inside.
+    let names = names_of c.args.natives.now in
+    let bp = c.args.blueprint.now.value in
+    let s = c.args.self.now in
+    let i = c.runs.invariant in
+    let n = inside + ((c.runs.steps + written names bp s) - (c.args.steps.now + written names bp c.runs.self)) in
+    let counts : c.args.steps.now + written names bp c.runs.self ≤ c.runs.steps + written names bp s = i.counts in
+    settled_from (inside + written names bp s) (n + written names bp c.runs.self) c.args.steps.now c.runs.steps c.step.new.steps c.step.new.self _ (omega (arith, counts))
+    (subst (SettledWithin (n + written names bp c.runs.self) c.runs.steps c.step.new.steps c.step.new.self) (i.gives inside []) (c.in_err-step.ensures.most n)))
