@@ -1,0 +1,122 @@
+use Rattle.std.proofs.Common.{◌≡◌, ◌∙◌, ◌+◌, ◌*◌, ◌≤◌, ◌∷◌, ◌++◌, ℕ, List, Option, [], refl, sym, ap, subst, arith}
+use Rattle.cmd_table.specs.Commands.{Writes}
+use Rattle.natives.specs.Names.{names_of}
+use Rattle.server_host.specs.declared.edition.Edition.{Edition}
+use Rattle.ictl.specs.Falls.{StandsAt}
+use Rattle.ictl.specs.Interps.{taken, interp_state, interp_written, IsWithin}
+use Rattle.ictl.specs.Main.{Define, Script}
+use Rattle.ictl.specs.declared.interp.Interp.{Interp}
+use Rattle.ictl.specs.declared.next.Next.{Next}
+use Rattle.worker.specs.Asking.{Hears}
+use Rattle.worker.specs.Clean.{edition_in, standing_in}
+use Rattle.worker.specs.Cost.{renewal}
+use Rattle.worker.specs.Turns.{OnBlueprint}
+use Rattle.worker.specs.Runs.{edition_of}
+use Rattle.worker.specs.Working.{eval_end}
+use Rattle.worker.proofs.Turning.{gains_more, keeps_names, keeps_units}
+use Rattle.worker.proofs.Hearing.{hears_of}
+use Rattle.worker.proofs.Looking.{renewable}
+use Rattle.worker.proofs.OneItem.{ticked, ran_clean, unbegun_clean, standing_again}
+use Rattle.worker.proofs.Paying.{new_alone, new_made, own_within, ended_alone, paid_define, paid_once, paid_all}
+use Rattle.worker.proofs.Scripting.{evaluates_by, evaluates_none, runs_due_by, runs_none}
+use Rattle.worker.proofs.Within.{cost_within, within_all, define_within}
+use Rattle.worker.proofs.eval.do_eval.Goals as goal
+
+pub renew-requires : goal.renew-requires
+renew-requires g c =
+    let t = c.look-turn.ensures.looks in
+    (t.entry.before, renewable (names_of c.args.natives.now) c.args.passes.now c.look-turn.new.passes c.args.worker.now c.look-turn.result.turn c.look-turn.result.look t c.requires.cells.1 c.requires.clean)
+
+pub begin-first-requires : goal.begin-first-requires
+begin-first-requires g c =
+    let t = c.look-turn.ensures.looks in
+    (c.in-Ok.ensures.of t.entry.before (renewable (names_of c.args.natives.now) c.args.passes.now c.look-turn.new.passes c.args.worker.now c.look-turn.result.turn c.look-turn.result.look t c.requires.cells.1 c.requires.clean)).0
+
+pub returns-clause-evaluates : goal.returns-clause-evaluates
+returns-clause-evaluates g c =
+    let names = names_of c.args.natives.now in
+    let held = g.P.Pages.held c.args.pages.now in
+    let t = c.look-turn.ensures.looks in
+    let r = renewable names c.args.passes.now c.look-turn.new.passes c.args.worker.now c.look-turn.result.turn c.look-turn.result.look t c.requires.cells.1 c.requires.clean in
+    let of = c.in-Ok.ensures.of t.entry.before r in
+    let i0 = c.in-Ok.interp in
+    let i1 = c.begin-first.new.interp in
+    let i2 = c.answer_all-last.new.interp in
+    let s0 = c.renew.new.steps in
+    let s1 = c.begin-first.new.steps in
+    let s2 = c.answer_all-last.new.steps in
+    let inside0 : ℕ = 0 in
+    let inside = inside0 + taken names s2 s1 i2 i1 in
+    let sound = c.answer_all-last.ensures.sound names (c.begin-first.ensures.sound names of.0.0) in
+    let edition : edition_in i2 ≡ edition_of t.entry.before = c.answer_all-last.ensures.blueprint ∙ (c.begin-first.ensures.blueprint ∙ of.1) in
+    let h = hears_of names c.args.moment (λ further. Define names (edition_in i0) c.args.script.now c.args.moment further) c.begin-first.result inside0 i1 c.look-turn.new.passes held (g.P.Pages.faults c.args.pages.now) c.new-heard.result.published c.new-heard.result.answers
+    c.answer_all-last.result inside i2 c.answer_all-last.new.passes (g.P.Pages.faults c.answer_all-last.new.pages) c.answer_all-last.new.heard.published c.answer_all-last.new.heard.answers
+    c.begin-first.ensures.stands.stands c.answer_all-last.ensures.stands (c.answer_all-last.ensures.hears inside0) in
+    evaluates_by names held c.args.script.now c.args.moment _ c.new-heard.result.answers _ _ _ c.look-turn.result.look c.look-turn.new.passes c.answer_all-last.result inside i2 c.reset.new.self.settling.run.engine.host.marked c.new-heard.result.published c.answer_all-last.new.heard.published
+    t c.in-Ok.ensures.told c.look-turn.ensures.epoch
+    (subst (λ (e : Edition). Hears names c.args.moment (λ further. Define names e c.args.script.now c.args.moment further) c.look-turn.new.passes held (g.P.Pages.faults c.args.pages.now) c.new-heard.result.published c.new-heard.result.answers
+    c.answer_all-last.result inside i2 c.answer_all-last.new.passes (g.P.Pages.faults c.answer_all-last.new.pages) c.answer_all-last.new.heard.published c.answer_all-last.new.heard.answers) of.1 h)
+    c.new-heard.ensures.answers c.new-heard.ensures.published c.answer_all-last.ensures.stands (c.end_of.ensures ∙ ap (λ (n : ℕ). eval_end c.answer_all-last.result n) c.unwrap_or.ensures) c.reset.ensures.marked
+    (ap (λ (o : Option Interp). standing_in o) c.keep.ensures.interp ∙ standing_again c.reset.new.self (edition_in i2) (edition_of t.entry.before) c.reset.new.self.settling.run.engine.host.marked c.reset.ensures.blueprint edition refl)
+    (λ outcome end. paid_all _ s0 s2 c.reset.new.steps _ (Writes (interp_state i2).made) _ (c.in-Ok.ensures.steps t.entry.before r)
+    (paid_define s0 s1 s2 _ _ (interp_written names i1) (interp_written names i2) _ (new_made names i0 of.0) c.begin-first.ensures.steps (own_within names i1) (ended_alone names outcome i2 (subst (λ (n : Next). StandsAt n i2) end c.answer_all-last.ensures.stands)) c.answer_all-last.ensures.counts)
+    (c.reset.ensures.steps names sound))
+    (λ none. paid_all _ s0 s2 c.reset.new.steps _ (Writes (interp_state i2).made) _ (c.in-Ok.ensures.steps t.entry.before r)
+    (cost_within i2 _ s0 s2 (subst (λ (e : Edition). IsWithin 0 s0 s2 i2 (Define names e c.args.script.now c.args.moment c.answer_all-last.new.heard.answers)) of.1
+    (within_all names (λ further. Define names (edition_in i0) c.args.script.now c.args.moment further) c.new-heard.result.answers _ _ i2 c.answer_all-last.new.heard.answers 0 s0 s2
+    (c.answer_all-last.ensures.within (λ further. Define names (edition_in i0) c.args.script.now c.args.moment further) inside0 0 s0 c.begin-first.ensures.stands
+    (define_within s0 s1 _ _ (interp_written names i1) c.begin-first.ensures.steps (own_within names i1)) c.begin-first.ensures.most) c.new-heard.ensures.answers)))
+    (c.reset.ensures.steps names sound))
+
+pub returns-in_default-clause-evaluates : goal.returns-in_default-clause-evaluates
+returns-in_default-clause-evaluates g c =
+    let names = names_of c.args.natives.now in
+    let t = c.look-turn.ensures.looks in
+    let r = renewable names c.args.passes.now c.look-turn.new.passes c.args.worker.now c.look-turn.result.turn c.look-turn.result.look t c.requires.cells.1 c.requires.clean in
+    evaluates_none names _ c.args.script.now c.args.moment _ _ _ _ c.look-turn.result.look c.args.worker.now.interp c.renew.new.worker.interp t c.look-turn.ensures.epoch c.new.ensures refl c.in_default.ensures.err refl refl refl
+    (c.renew.ensures.most t.entry.before r) c.in_default.ensures.refused
+
+pub returns-clause-clean : goal.returns-clause-clean
+returns-clause-clean g c =
+    let names = names_of c.args.natives.now in
+    let held = g.P.Pages.held c.args.pages.now in
+    let t = c.look-turn.ensures.looks in
+    let r = renewable names c.args.passes.now c.look-turn.new.passes c.args.worker.now c.look-turn.result.turn c.look-turn.result.look t c.requires.cells.1 c.requires.clean in
+    let of = c.in-Ok.ensures.of t.entry.before r in
+    let i0 = c.in-Ok.interp in
+    let i1 = c.begin-first.new.interp in
+    let i2 = c.answer_all-last.new.interp in
+    let s0 = c.renew.new.steps in
+    let s1 = c.begin-first.new.steps in
+    let s2 = c.answer_all-last.new.steps in
+    let inside0 : ℕ = 0 in
+    let inside = inside0 + taken names s2 s1 i2 i1 in
+    let sound = c.answer_all-last.ensures.sound names (c.begin-first.ensures.sound names of.0.0) in
+    let edition : edition_in i2 ≡ edition_of t.entry.before = c.answer_all-last.ensures.blueprint ∙ (c.begin-first.ensures.blueprint ∙ of.1) in
+    let h = c.answer_all-last.ensures.hears inside0 in
+    rw c.keep.ensures.interp (ran_clean names c.args.passes.now c.look-turn.new.passes c.answer_all-last.new.passes c.look-turn.result.turn _ c.look-turn.result.look t (h.turns ++ h.more) i0 c.reset.new.self
+    h.gains of.1 (c.reset.ensures.blueprint ∙ (c.answer_all-last.ensures.blueprint ∙ c.begin-first.ensures.blueprint)) (c.reset.ensures.is_new names sound))
+
+pub returns-clause-cells : goal.returns-clause-cells
+returns-clause-cells g c =
+    let names = names_of c.args.natives.now in
+    let t = c.look-turn.ensures.looks in
+    let h = c.answer_all-last.ensures.hears 0 in
+    (c.answer_all-last.ensures.cells, keeps_names names c.look-turn.new.passes c.answer_all-last.new.passes (h.turns ++ h.more) h.gains (keeps_names names c.args.passes.now c.look-turn.new.passes (OnBlueprint t.entry ∷ []) t.gains.1 c.requires.cells.1))
+
+pub returns-clause-units : goal.returns-clause-units
+returns-clause-units g c =
+    let t = c.look-turn.ensures.looks in
+    let h = c.answer_all-last.ensures.hears 0 in
+    keeps_units c.args.passes.now c.answer_all-last.new.passes ((OnBlueprint t.entry ∷ []) ++ (h.turns ++ h.more)) (gains_more c.args.passes.now c.look-turn.new.passes c.answer_all-last.new.passes (OnBlueprint t.entry ∷ []) (h.turns ++ h.more) t.gains.1 h.gains)
+
+-- no run was begun
+pub returns-in_default-clause-clean : goal.returns-in_default-clause-clean
+returns-in_default-clause-clean g c =
+    unbegun_clean (names_of c.args.natives.now) c.args.passes.now c.look-turn.new.passes c.look-turn.result.turn _ c.look-turn.result.look c.look-turn.ensures.looks c.args.worker.now c.renew.new.worker c.requires.clean c.in_default.ensures.err
+
+pub returns-in_default-clause-cells : goal.returns-in_default-clause-cells
+returns-in_default-clause-cells g c = (c.look-turn.ensures.cells, keeps_names (names_of c.args.natives.now) c.args.passes.now c.look-turn.new.passes (OnBlueprint c.look-turn.ensures.looks.entry ∷ []) c.look-turn.ensures.looks.gains.1 c.requires.cells.1)
+
+pub returns-in_default-clause-units : goal.returns-in_default-clause-units
+returns-in_default-clause-units g c = keeps_units c.args.passes.now c.look-turn.new.passes (OnBlueprint c.look-turn.ensures.looks.entry ∷ []) c.look-turn.ensures.looks.gains.1

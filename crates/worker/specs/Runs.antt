@@ -1,0 +1,89 @@
+-- Runs on a blueprint as it was found, each with one list of answers, and what is read off them.
+use Rattle.std.specs.Prelude.{ℕ, Bool, true, false, List}
+use Rattle.outside.specs.declared.question.Answer.{Answer}
+use Rattle.http_req.specs.declared.request.Request.{Request}
+use Rattle.http_resp.specs.declared.response.Response.{Response}
+use Rattle.http_resp.specs.ResponseBytes.{response_bytes}
+use Rattle.server_host.specs.declared.edition.Edition.{Edition}
+use Rattle.server_host.specs.Hosts.{HostState}
+use Rattle.blueprint.specs.States as blueprints
+use Rattle.blueprint.specs.States.{definitions}
+use Rattle.tcl_eval.specs.State.{State}
+use Rattle.tcl_eval.specs.declared.outcome.Outcome.{Outcome}
+use Rattle.tcl_eval.specs.declared.outcome.Outcome.TheVariants as outcomes
+use Rattle.ictl.specs.Main.{Progress, asks, writes, ends, Main, Script, Define, behind}
+use Rattle.serving.specs.Connections.{is_head_only}
+use Rattle.worker.specs.declared.served.ServedOutcome.{ServedOutcome}
+use Rattle.worker.specs.declared.served.ServedOutcome.TheVariants.{Answered, Spent, TooDeep, NoMemory}
+
+-- a state of the blueprint as an interpreter knows it: its epoch and its definitions
+abbrev pub edition_of : blueprints.State → Edition
+edition_of state = record { epoch = state.epoch; defs = definitions state }
+
+-- ---- requests
+
+-- where the response stands ready, the run goes on as behind one that was written, whole or not
+abbrev pub behind_response : List (List ℕ) → Edition → Request → ℕ → Bool → Progress → Progress
+behind_response names edition request moment whole (asks question state inside) = asks question state inside
+behind_response names edition request moment whole (writes response ending state inside left) =
+    behind names edition moment whole request ending state inside left
+behind_response names edition request moment whole (ends outcome state inside left) = ends outcome state inside left
+
+-- The run of a request to its end: up to its response on a fresh interpreter of the blueprint, and then behind it.
+abbrev pub whole_run : List (List ℕ) → blueprints.State → Request → ℕ → Bool → List Answer → Progress
+whole_run names blueprint request moment whole answers =
+    behind_response names (edition_of blueprint) request moment whole (Main names (edition_of blueprint) request moment answers)
+
+-- How the run of a request went. Finished: the response was written whole, and what comes behind it was run to its end. CutShort: the
+-- sink failed in the response, and nothing was run behind it. WantsBefore and WantsBehind: memory wanted, before the response was
+-- written whole or behind that.
+pub data Course : Type 0 where
+  Finished : Course
+  CutShort : Course
+  WantsBefore : Course
+  WantsBehind : Course
+
+-- The run that is told of, by how it went: where memory wanted it goes with the answers as far as they reach.
+abbrev pub run_in : Course → List (List ℕ) → blueprints.State → Request → ℕ → List Answer → Progress
+run_in Finished names blueprint request moment answers = whole_run names blueprint request moment true answers
+run_in CutShort names blueprint request moment answers = whole_run names blueprint request moment false answers
+run_in WantsBefore names blueprint request moment answers = Main names (edition_of blueprint) request moment answers
+run_in WantsBehind names blueprint request moment answers = whole_run names blueprint request moment true answers
+
+-- the bytes of a response to a request
+abbrev pub bytes_for : Request → Response → ℕ → Bool → List ℕ
+bytes_for request response moment close = response_bytes response moment (is_head_only request) close
+
+-- ---- scripts
+
+-- a scheduled script, and a script that makes definitions
+abbrev pub script_run : List (List ℕ) → blueprints.State → List ℕ → ℕ → List Answer → Progress
+script_run names blueprint script moment answers = Script names (edition_of blueprint) script moment answers
+
+abbrev pub define_run : List (List ℕ) → blueprints.State → List ℕ → ℕ → List Answer → Progress
+define_run names blueprint script moment answers = Define names (edition_of blueprint) script moment answers
+
+-- ---- what is read off a run
+
+abbrev pub state_of : Progress → State HostState
+state_of (asks question state inside) = state
+state_of (writes response ending state inside left) = state
+state_of (ends outcome state inside left) = state
+
+-- how many entries of their command tables the runs inside have written
+abbrev pub inside_of : Progress → ℕ
+inside_of (asks question state inside) = inside
+inside_of (writes response ending state inside left) = inside
+inside_of (ends outcome state inside left) = inside
+
+-- the run ends with the mark set: its interpreter is to be built anew
+abbrev pub is_marked : Progress → Bool
+is_marked progress = (state_of progress).host.marked
+
+-- how a request ended, by the outcome of its run
+abbrev pub outcome_of : Outcome → ServedOutcome
+outcome_of (outcomes.Done code result) = Answered
+outcome_of (outcomes.Asks question) = NoMemory
+outcome_of outcomes.Spent = Spent
+outcome_of outcomes.TooDeep = TooDeep
+outcome_of outcomes.NoMemory = NoMemory

@@ -1,0 +1,212 @@
+//! One request, from its look to its interpreter's end.
+
+ghost use Rattle.std.specs.Prelude.{◌≡◌, ◌+◌, [], List, ℕ, Some, min, IfOk, IfErr, OnErr};
+ghost use Rattle.natives.specs.Names.{names_of};
+ghost use Rattle.blueprint.specs.States.{State as SeenState};
+ghost use Rattle.serving.specs.Connections.{asks_close, is_head_only};
+ghost use Rattle.shared_state.specs.Cells.{AreOf, Serve};
+ghost use Rattle.ictl.specs.Interps.{IsNew, IsSound};
+ghost use Rattle.worker.specs.Lists.{listed};
+ghost use Rattle.worker.specs.Clean.{IsClean, edition_in};
+ghost use Rattle.worker.specs.Runs.{edition_of};
+ghost use Rattle.worker.specs.Sessions.{at, answered_by};
+ghost use Rattle.worker.specs.Working.{RunsRequest, RequestSteps, RunsItem, BeginsNone, SentCauses, SinkCauses};
+
+use crate::heard::Heard;
+use crate::look::{Looked, look, renew};
+use crate::reply::{
+    Done, Manner, bytes_sent, count_all, end_behind, end_in_want, outcome_of, tell_want, write,
+};
+use crate::run::answer_all;
+use crate::served::{End, Served, ServedList};
+use crate::worker::Worker;
+use cmd_table::Steps;
+use http_req::Request;
+use http_resp::{Sent, Wrote};
+use ictl::{Interp, Next};
+use natives::Natives;
+use outside::{Clock, Gate, Pages, Sink};
+use serving::{asks_close, is_head_only};
+use shared_state::{Passes, Shared};
+use std::alloc::Global;
+use std::sync::Wait;
+use std::sync::ledger::Ledger;
+use txt_core::moment_of;
+
+/// Runs a request on an interpreter that is as newly made, writes its response, and runs what comes
+/// behind it. Where memory wants before the response is written, the named reply takes its place; where
+/// the sink fails, nothing runs behind.
+fn run_request<R: Wait, K: Sink, P: Pages, L: Ledger>(
+    rt: &R,
+    alloc: Global,
+    natives: &Natives,
+    shared: &Shared,
+    passes: &mut Passes,
+    interp: &mut Interp,
+    request: Request,
+    moment: u64,
+    manner: Manner,
+    heard: &mut Heard,
+    sink: &mut K,
+    pages: &mut P,
+    steps: &mut Steps<L>,
+) -> Done
+    requires cells { AreOf shared.now passes.old }
+    requires fresh { IsNew (names_of natives.now) interp.old }
+    requires manner { (manner.asks ≡ asks_close request) × (manner.head_only ≡ is_head_only request) }
+    requires none { heard.old.answers ≡ [] }
+    ensures cells { AreOf shared.now passes.new }
+    ensures blueprint { edition_in interp.new ≡ edition_in interp.old }
+    ensures sound { (names : List (List ℕ)) → IsSound names interp.old → IsSound names interp.new }
+    ensures ran { (state : SeenState) (before : ℕ) → edition_in interp.old ≡ edition_of state → manner.answered ≡ min before 18446744073709551615 → RunsRequest (names_of natives.now) (P.held pages.old) state request moment manner.requests before result.sent passes.old passes.new (K.taken sink.old) (K.taken sink.new) (P.faults pages.old) (P.faults pages.new) steps.old steps.new heard.new.answers result.outcome interp.new }
+    ensures causes { SentCauses result.sent (K.faults sink.old) (K.faults sink.new) }
+    ensures held { P.held pages.new ≡ P.held pages.old }
+{
+    let first = interp.start_request(natives, request, moment, steps);
+    let main = answer_all(
+        rt, alloc, natives, shared, passes, pages, interp, moment, first, heard, steps,
+    );
+    let Next::Write(response) = main else {
+        return tell_want(moment, sink);
+    };
+    match write(alloc, &response, moment, manner, &heard.answers, sink) {
+        Wrote::Whole { bytes } => {
+            let behind = interp.written(natives, true, steps);
+            let last = answer_all(
+                rt, alloc, natives, shared, passes, pages, interp, moment, behind, heard, steps,
+            );
+            Done {
+                outcome: outcome_of(last),
+                sent: Sent::Whole { bytes },
+            }
+        }
+        Wrote::WriteFault { sent } => Done {
+            outcome: outcome_of(interp.written(natives, false, steps)),
+            sent: Sent::WriteFault { sent },
+        },
+        Wrote::NoMemory => tell_want(moment, sink),
+    }
+}
+
+/// Memory wanted before a run was begun, at this moment.
+#[derive(Clone, Copy)]
+struct Unbegun {
+    moment: u64,
+}
+
+/// Looks at the blueprint, reads the clock, makes the interpreter one of that blueprint, and runs a
+/// request on it, which is as newly made afterwards. Tells what was served, and what came of writing its
+/// reply.
+fn run_item<R: Wait, K: Sink, P: Pages, C: Clock, L: Ledger>(
+    rt: &R,
+    alloc: Global,
+    natives: &Natives,
+    shared: &Shared,
+    worker: &mut Worker,
+    passes: &mut Passes,
+    request: Request,
+    manner: Manner,
+    sink: &mut K,
+    pages: &mut P,
+    clock: &mut C,
+    steps: &mut Steps<L>,
+) -> Result<(Served, Sent), Unbegun>
+    requires cells { Serve (names_of natives.now) shared.now passes.old }
+    requires clean { IsClean (names_of natives.now) passes.old worker.old }
+    requires manner { (manner.asks ≡ asks_close request) × (manner.head_only ≡ is_head_only request) }
+    ensures cells { Serve (names_of natives.now) shared.now passes.new }
+    ensures clean { IsClean (names_of natives.now) passes.new worker.new }
+    ensures number { worker.new.number ≡ worker.old.number }
+    ensures item { (count before : ℕ) → manner.requests ≡ count + 1 → manner.answered ≡ min before 18446744073709551615 → IfOk result (λ r. RunsItem (names_of natives.now) (P.held pages.old) count before request r.1 (at passes.old worker.old (C.held clock.old) (K.taken sink.old) (P.faults pages.old) steps.old) r.0 (at passes.new worker.new (C.held clock.new) (K.taken sink.new) (P.faults pages.new) steps.new)) }
+    ensures unbegun { IfErr result (λ u. BeginsNone (names_of natives.now) u.moment (at passes.old worker.old (C.held clock.old) (K.taken sink.old) (P.faults pages.old) steps.old) (at passes.new worker.new (C.held clock.new) (K.taken sink.new) (P.faults pages.new) steps.new)) }
+    ensures causes { IfOk result (λ r. SentCauses r.1 (K.faults sink.old) (K.faults sink.new)) }
+    ensures untouched { OnErr result (K.faults sink.new ≡ K.faults sink.old) }
+    ensures held { P.held pages.new ≡ P.held pages.old }
+{
+    let Looked { turn, epoch, look } = look(rt, shared, passes, worker);
+    let moment = moment_of(clock.moment());
+    let Ok(mut interp) = renew(alloc, natives, worker, look, steps) else {
+        return Err(Unbegun { moment });
+    };
+    let mut heard = Heard::new(alloc);
+    let done = run_request(
+        rt,
+        alloc,
+        natives,
+        shared,
+        passes,
+        &mut interp,
+        request,
+        moment,
+        manner,
+        &mut heard,
+        sink,
+        pages,
+        steps,
+    );
+    interp.reset(steps);
+    worker.keep(interp);
+    let served = Served {
+        turn,
+        epoch,
+        moment,
+        answers: heard.answers,
+        outcome: done.outcome,
+        wrote: bytes_sent(done.sent),
+    };
+    Ok((served, done.sent))
+}
+
+/// Serves a request that was read: passes the gate, looks at the blueprint, reads the clock, makes the
+/// interpreter one of that blueprint, and runs it. The interpreter is as newly made afterwards. Gives the
+/// session's end, if this is it.
+pub(crate) fn serve_request<R: Wait, K: Sink, P: Pages, C: Clock, G: Gate, L: Ledger>(
+    rt: &R,
+    alloc: Global,
+    natives: &Natives,
+    shared: &Shared,
+    worker: &mut Worker,
+    passes: &mut Passes,
+    request: Request,
+    sink: &mut K,
+    pages: &mut P,
+    clock: &mut C,
+    gate: &G,
+    served: &mut ServedList,
+    answered: &mut u64,
+    steps: &mut Steps<L>,
+) -> Option<End>
+    requires cells { Serve (names_of natives.now) shared.now passes.old }
+    requires clean { IsClean (names_of natives.now) passes.old worker.old }
+    requires counts { answered.old ≡ min (answered_by (listed served.old)) 18446744073709551615 }
+    ensures cells { Serve (names_of natives.now) shared.now passes.new }
+    ensures clean { IsClean (names_of natives.now) passes.new worker.new }
+    ensures counts { answered.new ≡ min (answered_by (listed served.new)) 18446744073709551615 }
+    ensures number { worker.new.number ≡ worker.old.number }
+    ensures steps { RequestSteps (names_of natives.now) (P.held pages.old) request (at passes.old worker.old (C.held clock.old) (K.taken sink.old) (P.faults pages.old) steps.old) (listed served.old) result (listed served.new) (at passes.new worker.new (C.held clock.new) (K.taken sink.new) (P.faults pages.new) steps.new) }
+    ensures causes { SinkCauses result (K.faults sink.old) (K.faults sink.new) }
+    ensures held { P.held pages.new ≡ P.held pages.old }
+{
+    if served.reserve(1).is_err() {
+        return Some(end_in_want(moment_of(clock.moment()), sink));
+    }
+    let place = served.len() as u64;
+    let manner = Manner {
+        asks: asks_close(&request),
+        head_only: is_head_only(&request),
+        requests: place + 1,
+        answered: *answered,
+    };
+    gate.enter(rt, worker.number, place);
+    match run_item(
+        rt, alloc, natives, shared, worker, passes, request, manner, sink, pages, clock, steps,
+    ) {
+        Err(unbegun) => Some(end_in_want(unbegun.moment, sink)),
+        Ok((item, sent)) => {
+            let end = end_behind(item.outcome, sent, manner, &item.answers);
+            *answered = count_all(manner.answered, &item.answers);
+            served.push_reserved(item);
+            end
+        }
+    }
+}

@@ -1,0 +1,34 @@
+//! Workers.
+
+ghost use Rattle.std.specs.Prelude.{◌≡◌, Some, None};
+
+use ictl::Interp;
+use std::mem;
+
+/// A worker: its number, and the interpreter that it uses again and again, once there is one.
+#[derive(Drop)]
+pub struct Worker {
+    pub(crate) number: u16,
+    pub(crate) interp: Option<Interp>,
+}
+
+impl Worker {
+    /// A worker of this number, without an interpreter yet.
+    pub fn new(number: u16) -> Worker
+        ensures number { result.number ≡ number }
+        ensures clean { result.interp ≡ None }
+    {
+        Worker {
+            number,
+            interp: None,
+        }
+    }
+
+    /// Keeps this interpreter for the next run, and lets go of one that was kept.
+    pub(crate) fn keep(&mut self, interp: Interp)
+        ensures number { self.new.number ≡ self.old.number }
+        ensures interp { self.new.interp ≡ Some interp }
+    {
+        drop(mem::replace(&mut self.interp, Some(interp)));
+    }
+}
