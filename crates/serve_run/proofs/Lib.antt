@@ -1,0 +1,5 @@
+pub mod Alone
+pub mod Earlier
+pub mod Starts
+pub mod Units
+pub mod Begins
