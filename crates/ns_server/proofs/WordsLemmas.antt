@@ -1,5 +1,6 @@
 -- Lists of one word, and of two.
-use Rattle.std.proofs.Common.{◌≡◌, ◌≤◌, ◌<◌, ℕ, List, [], ◌∷◌, length, slice_index_or, slice_set, drop, Bool, IsTrue, refl, sym, ap, ◌∙◌, arith}
+use Rattle.std.proofs.Common.{◌≡◌, ◌≤◌, ◌<◌, ℕ, List, [], ◌∷◌, length, slice_index_or, slice_set, drop, Bool, IsTrue, Option, None, Some, refl, sym, ap, ◌∙◌, arith}
+use Rattle.std.specs.Prelude.{slice_get}
 use Rattle.std.specs.Bool.{Decides}
 
 -- A list of exactly one word.
@@ -25,3 +26,11 @@ one_word_is words word wanted test one decides =
 pub others_stay : {A : Type 0} (xs : List A) (x : A) → drop 1 (slice_set xs 0 x) ≡ drop 1 xs
 others_stay [] x = refl
 others_stay (y ∷ xs) x = refl
+
+-- A test of the first word is a test of the list.
+pub first_word_is : (words : List (List ℕ)) (word wanted : List ℕ) (test : Bool) → slice_get words 0 ≡ Some word → Decides test (word ≡ wanted)
+    → (IsTrue test → (rest : List (List ℕ)) × (words ≡ wanted ∷ rest)) × ((rest : List (List ℕ)) × (words ≡ wanted ∷ rest) → IsTrue test)
+first_word_is [] word wanted test is decides = absurd (cc)
+first_word_is (first ∷ rest) word wanted test is decides =
+    let same : first ≡ word = cc in
+    ((λ yes. (rest, ap (λ w. w ∷ rest) (same ∙ decides.0 yes))), (λ r. decides.1 (let both : first ∷ rest ≡ wanted ∷ r.0 = r.1 in cc)))

@@ -1,5 +1,5 @@
 -- What a run of the program does.
-use Rattle.std.specs.Prelude.{◌≡◌, ℕ, ◌<◌, ◌≤◌, List, [], length, take, Option}
+use Rattle.std.specs.Prelude.{◌≡◌, ℕ, ◌<◌, ◌≤◌, List, [], ◌∷◌, length, take, codes, Option}
 use Rattle.outside.specs.Faults.{Rose}
 use Rattle.outside.specs.Sending.{Sends}
 use Rattle.outside.specs.Writing.{Gains}
@@ -10,6 +10,7 @@ use Rattle.rehearse.specs.Files.{Holds, whole}
 use Rattle.rehearse.specs.Lines.{Line}
 use Rattle.rehearse.specs.Rehearsing.{Outside, Rehearses}
 use Rattle.rehearse.specs.Summary.{summary, tally_of}
+use Rattle.serve_run.specs.Serving.{Around, Serves}
 use Rattle.ns_server.specs.declared.status.Status.{Status}
 use Rattle.ns_server.specs.declared.status.Status.TheVariants.{Done, BadEvent, BadWords, ReadFault, WriteFault, NoMemory}
 use Rattle.ns_server.specs.Loads.{load_events}
@@ -114,3 +115,18 @@ pub record Ends (natives : List (List ℕ)) (words : List (List ℕ)) (before : 
   pub answer_is : answer ≡ number_of status
   pub means : Means natives status words before after
   pub tells : Tells before (line_of status) after
+
+-- ---- all commands
+
+-- the first word asks for the server, and the others are its options
+abbrev pub AsksServer : List (List ℕ) → Type 0
+AsksServer words = (options : List (List ℕ)) × (words ≡ codes "serve" ∷ options)
+
+-- What a run of the program does, where the natives have these names. It serves, and neither reads the input nor writes the output; or it
+-- does another command, and leaves the net, the pages and the clock as they are.
+pub data Runs (natives words : List (List ℕ)) (before : Streams) (around : Around) (answer : ℕ) (after : Streams) (around_after : Around) : Type 0 where
+  serves : AsksServer words
+      → Serves natives words around answer around_after before.errors before.error_faults after.errors after.error_faults
+      → outside_of after ≡ outside_of before → Runs natives words before around answer after around_after
+  ends : ¬ (AsksServer words) → Ends natives words before answer after → around_after ≡ around
+      → Runs natives words before around answer after around_after

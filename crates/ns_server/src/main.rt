@@ -1,12 +1,13 @@
 //! The program `ns_server`: `ns_server rehearse` plays the file of events on standard input and writes the
 //! listing of what came of them to standard output; `ns_server load N` plays a file of N requests that it
-//! makes itself, and tells what was counted.
+//! makes itself, and tells what was counted; `ns_server serve` with options serves connections.
 #![tactic(auto)]
 
 ghost use Rattle.std.specs.Prelude.{◌≡◌, ◌<◌, ◌+◌, ◌∷◌, ◌++◌, [], false, take, OnOk};
 ghost use Rattle.natives.specs.Names.{name_of, names_of, has_name};
 ghost use Rattle.ns_server.specs.Natives.{native_names};
-ghost use Rattle.ns_server.specs.Running.{Ends};
+ghost use Rattle.outside.specs.Nets.{IsNew};
+ghost use Rattle.ns_server.specs.Running.{Runs};
 
 /// Makes the command of a name and adds it to natives, which have those of the places before.
 macro_rules! add_native {
@@ -47,6 +48,7 @@ macro_rules! add_natives {
 }
 
 mod command_line;
+mod machine;
 mod program;
 mod status;
 mod streams;
@@ -54,17 +56,23 @@ mod streams;
 mod tests;
 
 use crate::command_line::command_words;
-use crate::program::{report, run};
+use crate::machine::Machine;
+use crate::program::{SERVE, asks_server, report, run};
 use crate::status::Status;
 use crate::streams::{ReaderSource, WriterSink};
 use cmd_table::Steps;
+use log::{Log, info};
 use natives::{Native, Natives};
-use outside::{Sink, Source};
+use outside::{Clock, Net, OpenGate, Pages, Sink, Source};
+use serve_options::asked_for;
 use std::alloc::Global;
 use std::marker::Brand;
+use std::net::{TcpListener, TcpStream};
 use std::process::ExitCode;
+use std::sync::Wait;
 use std::sync::ledger::{Blank, Ledger};
-use txt_core::{Text, Words};
+use std::thread::Threads;
+use txt_core::{NoMemory, Text, Words};
 
 /// Adds the native whose name stands at this place to those before it.
 fn add_next(natives: &mut Natives, place: usize, native: Native) -> Result<(), Native>
@@ -78,26 +86,128 @@ fn add_next(natives: &mut Natives, place: usize, native: Native) -> Result<(), N
 
 /// Runs the program with new counters, and with every command that looks at its words alone as a native, and
 /// gives the number of the status with which it ends.
-fn run_counted<S: Source, K: Sink, E: Sink, L: Ledger>(
+fn run_counted<
+    S: Source,
+    K: Sink,
+    E: Sink,
+    N: Net,
+    P: Pages + Send + Drop,
+    C: Clock + Send + Drop,
+    L: Ledger,
+    R: Threads
+        + Wait
+        + Sync
+        + std::rt::Clock
+        + std::net::Net<Listener = TcpListener, Stream = TcpStream>,
+>(
+    rt: &R,
     alloc: Global,
     natives: &Natives,
     words: &Words,
     input: &mut S,
     output: &mut K,
     errors: &mut E,
+    net: &mut N,
+    pages: &mut P,
+    clock: &mut C,
     blank: Blank,
 ) -> u8
     requires name { blank.name ≡ L.name }
     requires parts { blank.parts ≡ L.parts }
     requires some { 0 < blank.parts }
     requires natives { names_of natives.now ≡ native_names }
-    ensures { Ends native_names words.now
+    requires new { IsNew (N.state net.old) }
+    ensures { Runs native_names words.now
         (record { input = S.rest input.old; read_faults = S.faults input.old; output = K.taken output.old; write_faults = K.faults output.old; errors = E.taken errors.old; error_faults = E.faults errors.old })
+        (record { net = N.state net.old; pages = P.held pages.old; page_faults = P.faults pages.old; clock = C.held clock.old })
         result
-        (record { input = S.rest input.new; read_faults = S.faults input.new; output = K.taken output.new; write_faults = K.faults output.new; errors = E.taken errors.new; error_faults = E.faults errors.new }) }
+        (record { input = S.rest input.new; read_faults = S.faults input.new; output = K.taken output.new; write_faults = K.faults output.new; errors = E.taken errors.new; error_faults = E.faults errors.new })
+        (record { net = N.state net.new; pages = P.held pages.new; page_faults = P.faults pages.new; clock = C.held clock.new }) }
 {
     let mut steps = [Steps::<L>::new(blank)];
-    run(alloc, natives, words, input, output, errors, &mut steps)
+    run(
+        rt, alloc, natives, words, input, output, errors, net, pages, clock, &OpenGate, &mut steps,
+    )
+}
+
+/// Runs the program on a machine whose net is new, and notes the end of a server.
+fn run_on<
+    S: Source,
+    K: Sink,
+    E: Sink,
+    R: Threads
+        + Wait
+        + Sync
+        + AllocGlobal
+        + Log
+        + std::rt::Clock
+        + std::net::Net<Listener = TcpListener, Stream = TcpStream>,
+>(
+    rt: &R,
+    natives: &Natives,
+    words: &Words,
+    input: &mut S,
+    output: &mut K,
+    errors: &mut E,
+    machine: &mut Machine,
+) -> u8
+    requires natives { names_of natives.now ≡ native_names }
+    requires new { machine.old.net.given ≡ 0 }
+{
+    let status = run_counted::<_, _, _, _, _, _, Brand, _>(
+        rt,
+        rt.alloc(),
+        natives,
+        words,
+        input,
+        output,
+        errors,
+        &mut machine.net,
+        &mut machine.pages,
+        &mut machine.clock,
+        Blank::new(1),
+    );
+    if asks_server(words) {
+        info!(*rt; "serve ended with status {status}");
+    }
+    status
+}
+
+/// The words in which the help or the version may be asked for: one word alone stands behind that of the
+/// server.
+fn help_words(alloc: Global, words: &Words) -> Result<Words, NoMemory> {
+    let mut asked = Words::new(alloc);
+    if words.len() == 1 && !asks_server(words) {
+        push_word(&mut asked, Text::new(alloc, SERVE)?)?;
+    }
+    for word in words.as_slice() {
+        push_word(&mut asked, word.copy(alloc)?)?;
+    }
+    Ok(asked)
+}
+
+/// Puts a word at the end.
+fn push_word(words: &mut Words, word: Text) -> Result<(), NoMemory> {
+    match words.push(word) {
+        Ok(()) => Ok(()),
+        Err(_) => Err(NoMemory),
+    }
+}
+
+/// Prints the help or the version on standard output, where the words ask for one of them, and tells
+/// whether they do.
+fn helps(rt: HostRuntime, words: &Words) -> Result<bool, NoMemory> {
+    let asked = help_words(rt.alloc(), words)?;
+    if !asks_server(&asked) {
+        return Ok(false);
+    }
+    match asked_for(rt.alloc(), &asked) {
+        Some(help) => {
+            let _ = help.print(&rt);
+            Ok(true)
+        }
+        None => Ok(false),
+    }
 }
 
 #[tactic(auto, unfolding(natives::specs::Ranges::range_of))]
@@ -111,17 +221,25 @@ fn main(rt: HostRuntime) -> ExitCode {
         natives,
         return ExitCode::from(report(&mut errors, Status::NoMemory))
     );
-    let status = match command_words(&rt) {
-        Ok(words) => run_counted::<_, _, _, Brand>(
-            rt.alloc(),
-            &natives,
-            &words,
-            &mut input,
-            &mut output,
-            &mut errors,
-            Blank::new(1),
-        ),
-        Err(_) => report(&mut errors, Status::NoMemory),
+    let Ok(words) = command_words(&rt) else {
+        return ExitCode::from(report(&mut errors, Status::NoMemory));
     };
+    match helps(rt, &words) {
+        Ok(false) => {}
+        Ok(true) => return ExitCode::SUCCESS,
+        Err(_) => return ExitCode::from(report(&mut errors, Status::NoMemory)),
+    }
+    let Ok(mut machine) = Machine::new(rt) else {
+        return ExitCode::from(report(&mut errors, Status::NoMemory));
+    };
+    let status = run_on(
+        &rt,
+        &natives,
+        &words,
+        &mut input,
+        &mut output,
+        &mut errors,
+        &mut machine,
+    );
     ExitCode::from(status)
 }

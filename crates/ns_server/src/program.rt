@@ -8,16 +8,21 @@ ghost use Rattle.ns_server.specs.Statuses.{number_of, line_of, rehearse_words};
 ghost use Rattle.load_gen.specs.Load.{most_requests};
 ghost use Rattle.rehearse.specs.Summary.{summary};
 ghost use Rattle.ns_server.specs.Answers.{WritesSummary};
-ghost use Rattle.ns_server.specs.Running.{Streams, Ends, AsksLoad, LoadMeans};
+ghost use Rattle.outside.specs.Nets.{IsNew};
+ghost use Rattle.ns_server.specs.Running.{Streams, Ends, AsksLoad, AsksServer, LoadMeans, Runs};
 
 use crate::status::Status;
 use cmd_table::Steps;
 use load_gen::{MOST_REQUESTS, load};
 use natives::Natives;
-use outside::{Sent, Sink, Source, write_all};
+use outside::{Clock, Gate, Net, Pages, Sent, Sink, Source, write_all};
 use rehearse::{Counted, Tally, count_listing, read_number, rehearse};
+use serve_run::run_serve;
 use std::alloc::Global;
+use std::net::{TcpListener, TcpStream};
+use std::sync::Wait;
 use std::sync::ledger::Ledger;
+use std::thread::Threads;
 use txt_core::Words;
 
 /// The word of a rehearsal.
@@ -25,6 +30,9 @@ const REHEARSE: &[u8] = b"rehearse";
 
 /// The first word of a load.
 const LOAD: &[u8] = b"load";
+
+/// The first word of the server.
+pub const SERVE: &[u8] = b"serve";
 
 /// Whether the words are those of a rehearsal.
 fn asks_rehearsal(words: &Words) -> bool
@@ -133,24 +141,60 @@ pub fn run_rehearse<S: Source, K: Sink, E: Sink, L: Ledger>(
     report(errors, answer.into())
 }
 
-/// Does the command that the words name, and gives the number of the status with which the program ends.
-/// `rehearse` and `load` are the commands; they count their steps in the first counter, and the others stay.
-pub fn run<S: Source, K: Sink, E: Sink, L: Ledger>(
+/// Whether the words ask for the server.
+pub fn asks_server(words: &Words) -> bool
+    ensures { IsTrue result ↔ AsksServer words.now }
+{
+    match words.get(0) {
+        Some(word) => word.bytes() == SERVE,
+        None => false,
+    }
+}
+
+/// Does the command that the words name, and gives the number of the status with which the program ends:
+/// `serve` with options serves what a new net gives, and each other command is that of `run_rehearse`,
+/// which counts its steps in the first counter. The other counters stay.
+pub fn run<
+    S: Source,
+    K: Sink,
+    E: Sink,
+    N: Net,
+    P: Pages + Send + Drop,
+    C: Clock + Send + Drop,
+    G: Gate + Sync,
+    L: Ledger,
+    R: Threads
+        + Wait
+        + Sync
+        + std::rt::Clock
+        + std::net::Net<Listener = TcpListener, Stream = TcpStream>,
+>(
+    rt: &R,
     alloc: Global,
     natives: &Natives,
     words: &Words,
     input: &mut S,
     output: &mut K,
     errors: &mut E,
+    net: &mut N,
+    pages: &mut P,
+    clock: &mut C,
+    gate: &G,
     steps: &mut [Steps<L>],
 ) -> u8
-    requires { 0 < length steps.old }
-    ensures ends { Ends (names_of natives.now) words.now
+    requires counters { 0 < length steps.old }
+    requires new { IsNew (N.state net.old) }
+    ensures runs { Runs (names_of natives.now) words.now
         (record { input = S.rest input.old; read_faults = S.faults input.old; output = K.taken output.old; write_faults = K.faults output.old; errors = E.taken errors.old; error_faults = E.faults errors.old })
+        (record { net = N.state net.old; pages = P.held pages.old; page_faults = P.faults pages.old; clock = C.held clock.old })
         result
-        (record { input = S.rest input.new; read_faults = S.faults input.new; output = K.taken output.new; write_faults = K.faults output.new; errors = E.taken errors.new; error_faults = E.faults errors.new }) }
+        (record { input = S.rest input.new; read_faults = S.faults input.new; output = K.taken output.new; write_faults = K.faults output.new; errors = E.taken errors.new; error_faults = E.faults errors.new })
+        (record { net = N.state net.new; pages = P.held pages.new; page_faults = P.faults pages.new; clock = C.held clock.new }) }
     ensures others { drop 1 steps.new ≡ drop 1 steps.old }
 {
+    if asks_server(words) {
+        return run_serve(rt, alloc, natives, words, net, pages, clock, gate, errors);
+    }
     let Some(first) = steps.first_mut() else {
         unreachable!()
     };

@@ -3,12 +3,15 @@ ghost use Rattle.std.specs.Prelude.{◌≡◌, ◌<◌};
 use crate::program::run;
 use cmd_table::Steps;
 use natives::{Native, Natives};
-use outside::{MemSink, MemSource};
+use outside::{MemClock, MemConn, MemNet, MemPages, MemSink, MemSource, OpenGate, Replies};
 use std::alloc::Global;
 use std::marker::Brand;
+use std::net::{TcpListener, TcpStream};
 use std::process::Abort;
+use std::sync::Wait;
 use std::sync::ledger::{Blank, Ledger};
 use std::test::*;
+use std::thread::Threads;
 use txt_core::{NoMemory, Text, Words};
 
 /// The most bytes that a call of the input gives, that one of the output takes and that one of errors takes.
@@ -28,6 +31,11 @@ const HI: &[u8] = b"define 68\n\
     connect 0 29\n\
     GET /hi HTTP/1.1\r\nHost: l\r\n\r\n\n\
     run 0\n";
+
+/// The same procedure as a page, and its reply.
+const PAGE: &[u8] = b"proc hi {} {ns_return 200 text/plain hi}\nns_register_proc GET /hi hi";
+
+const REPLY: usize = 156;
 
 /// The same, and an event that is none.
 const HI_AND_MORE: &[u8] = b"define 68\n\
@@ -83,6 +91,8 @@ struct Came {
     status: u8,
     output: MemSink,
     errors: MemSink,
+    /// What the connections were sent.
+    replies: Replies,
 }
 
 fn words_of(alloc: Global, texts: &[&[u8]]) -> Result<Words, NoMemory> {
@@ -95,12 +105,17 @@ fn words_of(alloc: Global, texts: &[&[u8]]) -> Result<Words, NoMemory> {
     Ok(words)
 }
 
-fn play<L: Ledger>(
-    alloc: Global,
-    natives: &Natives,
-    blank: Blank,
-    case: &Case,
-) -> Result<Came, NoMemory>
+fn play<
+    L: Ledger,
+    R: Threads
+        + Wait
+        + Sync
+        + std::rt::Clock
+        + std::net::Net<Listener = TcpListener, Stream = TcpStream>
+        + Copy
+        + Send
+        + Drop,
+>(rt: &R, alloc: Global, natives: &Natives, blank: Blank, case: &Case) -> Result<Came, NoMemory>
     requires name { blank.name ≡ L.name }
     requires parts { blank.parts ≡ L.parts }
     requires some { 0 < blank.parts }
@@ -113,21 +128,47 @@ fn play<L: Ledger>(
     let mut input = MemSource::new(content, READ_PIECE, reads);
     let mut output = MemSink::new(alloc, WRITE_PIECE, writes);
     let mut errors = MemSink::new(alloc, ERROR_PIECE, tells);
+    let replies = Replies::new(alloc)?;
+    let mut net = MemNet::new(*rt, replies.copy()?, greetings(alloc)?, Vec::new(alloc));
+    let mut pages = MemPages::new(alloc, Vec::new(alloc));
+    pages.set(Text::new(alloc, b"/s")?, Text::new(alloc, PAGE)?)?;
+    let mut clock = MemClock::new(0, 0);
     let mut steps = [Steps::<L>::new(blank)];
     let status = run(
+        rt,
         alloc,
         natives,
         &words,
         &mut input,
         &mut output,
         &mut errors,
+        &mut net,
+        &mut pages,
+        &mut clock,
+        &OpenGate,
         &mut steps,
     );
     Ok(Came {
         status,
         output,
         errors,
+        replies,
     })
+}
+
+/// Two connections of one request.
+fn greetings(alloc: Global) -> Result<Vec<MemConn>, NoMemory> {
+    let mut conns = Vec::new(alloc);
+    for _number in 0..2 {
+        conns.push(MemConn {
+            input: Text::new(alloc, b"GET /hi HTTP/1.1\r\nHost: l\r\n\r\n")?,
+            peer: Text::new(alloc, b"127.0.0.1")?,
+            piece: 64,
+            reads: Vec::new(alloc),
+            writes: Vec::new(alloc),
+        })?;
+    }
+    Ok(conns)
 }
 
 fn rehearsal(
@@ -165,10 +206,21 @@ fn others(words: &'static [&'static [u8]]) -> Case {
 }
 
 /// Runs the program for each case, and looks at what came.
-fn check_cases<R: Abort + AllocGlobal>(rt: &R, cases: &[Case]) -> Result<(), Fail> {
+fn check_cases<
+    R: Abort
+        + AllocGlobal
+        + Threads
+        + Wait
+        + Sync
+        + std::rt::Clock
+        + std::net::Net<Listener = TcpListener, Stream = TcpStream>
+        + Copy
+        + Send
+        + Drop,
+>(rt: &R, cases: &[Case]) -> Result<(), Fail> {
     let natives = Natives::new(rt.alloc());
     for (number, case) in cases.iter().enumerate() {
-        let came = play::<Brand>(rt.alloc(), &natives, Blank::new(1), case)?;
+        let came = play::<Brand, R>(rt, rt.alloc(), &natives, Blank::new(1), case)?;
         assert_eq!(rt; came.status, case.status, "status of case {number}");
         assert!(rt;
             came.output.taken().bytes() == case.output,
@@ -195,6 +247,8 @@ fn each_status_has_its_cause_and_its_line(rt: HostRuntime) -> Result<(), Fail> {
         others(&[b"rehears"]),
         others(&[b"rehearsed"]),
         others(&[b"--help"]),
+        others(&[b"serve"]),
+        others(&[b"serve", b"--root", b"r"]),
         Case {
             read_fails: &[1],
             ..rehearsal(HI, 3, b"defined 1\n", b"read fault\n")
@@ -236,4 +290,31 @@ fn loads_tell_what_is_counted(rt: HostRuntime) -> Result<(), Fail> {
         others(&[b"Load", b"1"]),
     ];
     check_cases(&rt, &cases)
+}
+
+#[test]
+fn what_a_net_gives_is_served(rt: HostRuntime) -> Result<(), Fail> {
+    let natives = Natives::new(rt.alloc());
+    let case = Case {
+        words: &[
+            b"serve",
+            b"--root",
+            b"r",
+            b"--start",
+            b"/s",
+            b"--listen",
+            b"127.0.0.1:0",
+            b"--connections",
+            b"2",
+        ],
+        ..rehearsal(HI, 0, b"", b"")
+    };
+    let came = play::<Brand, _>(&rt, rt.alloc(), &natives, Blank::new(1), &case)?;
+    assert_eq!(rt; came.status, 0);
+    assert!(rt; came.output.taken().is_empty() && came.errors.taken().is_empty());
+    for connection in 0..2 {
+        let text = came.replies.taken(&rt, connection)?;
+        assert!(rt; text.is_some_and(|text| text.len() == REPLY));
+    }
+    Ok(())
 }
