@@ -1,11 +1,9 @@
 -- What an input is: there is one answer, and which it is at each find.
-use Rattle.std.proofs.Common.{◌≡◌, ◌≢◌, ℕ, ◌<◌, ◌≤◌, inl, inr, List, [], ◌∷◌, ◌++◌, Bool, true, false, Option, Some, None, length, take, drop, min, refl, sym, ap, ◌∙◌, subst, arith, append_assoc, length-append}
+use Rattle.std.proofs.Common.{◌≡◌, ℕ, ◌<◌, ◌≤◌, inl, inr, List, [], ◌∷◌, ◌++◌, Bool, true, false, Option, Some, None, length, take, drop, min, refl, sym, ap, ◌∙◌, subst, arith, append_assoc, length-append}
 use Rattle.std.specs.Prelude.{All}
 use Rattle.httparse.specs.declared.spans.HeaderSpan.{HeaderSpan}
 use Rattle.httparse.specs.Grammar.{RequestHead, ReadsRequest, NeverHasRequest, MayBecomeRequest, print_request}
 use Rattle.httparse.specs.declared.spans.RequestSpans.{RequestSpans}
-use Rattle.httparse.specs.declared.Error.{Error}
-use Rattle.httparse.specs.declared.Error.TheVariants.{TooManyHeaders}
 use Rattle.httparse.specs.Spans.{RequestExceeds, IsHeaderWithin, header_bytes}
 use Rattle.httparse.proofs.GrammarLemmas.{request_unique, ReadsRequest-append}
 use Rattle.std.proofs.Common.{length-take, length-drop, map, slice_range, ◌-◌}
@@ -68,14 +66,42 @@ gets_one input peer a b (headed head rest reads is) (headed head' rest' reads' i
 only_this : (input peer : List ℕ) (outcome : Outcome) → Gets input peer outcome → (o : Outcome) × GetsOnly input peer o
 only_this input peer outcome gets = (outcome, record { gets = gets; only = λ other found. gets_one input peer outcome other gets found })
 
--- what is found at the front says what the input is
-pub one_by_front : (input : List ℕ) (spans : List HeaderSpan) (found : Front) → FindsFront input spans found
+-- as many bytes as a head may take show less than 8,192 fields
+pub few_exceed : (room : ℕ) (text : List ℕ) → length text ≤ 16384 → RequestExceeds room text → room < 8192
+few_exceed room text short (before, rest, parts, head, reads, many) =
+    omega (
+      arith,
+      many,
+      request_bytes head,
+      ap length reads.1,
+      length-append (print_request head) [],
+      length-append before (10 ∷ []),
+      ap length parts,
+      length-append before rest,
+    )
+
+pub front_size : (input : List ℕ) → length (front input) ≤ 16384
+unfolding front
+front_size input = omega (arith, length-take 16384 input)
+
+-- a front has more fields than there is room for only where there is less than the most that it can need
+pub crowded_room : (input : List ℕ) (spans : List HeaderSpan) → FindsFront input spans found.Crowded → length spans < 8192
+crowded_room input spans exceeds = few_exceed (length spans) (front input) (front_size input) exceeds
+
+-- a head at the front says what the input is
+pub one_by_head : (input : List ℕ) (spans : List HeaderSpan) (head : RequestSpans) → HeadStands (front input) spans head
     → (peer : List ℕ) → (outcome : Outcome) × GetsOnly input peer outcome
-one_by_front input spans (found.Head head) stands peer =
+one_by_head input spans head stands peer =
     let some = checked_some (refusal (shown stands.of.0 [] peer)) input peer stands.of.0 in
     only_this input peer some.0 (headed stands.of.0 _ stands.of.1.reads some.1)
-one_by_front input spans (found.Refused status) gets peer = only_this input peer _ (gets peer)
-one_by_front input spans found.Cut gets peer = only_this input peer _ (gets.0 peer)
+
+-- what is found at the front, where there is room for what it can have, says what the input is
+pub one_by_front : (input : List ℕ) (spans : List HeaderSpan) (found : Front) → FindsFront input spans found → 8192 ≤ length spans
+    → (peer : List ℕ) → (outcome : Outcome) × GetsOnly input peer outcome
+one_by_front input spans (found.Head head) stands room peer = one_by_head input spans head stands peer
+one_by_front input spans (found.Refused status) gets room peer = only_this input peer _ (gets peer)
+one_by_front input spans found.Cut gets room peer = only_this input peer _ (gets.0 peer)
+one_by_front input spans found.Crowded exceeds room peer = absurd (omega (arith, room, crowded_room input spans exceeds))
 
 -- where the lines can't become a head, the input is malformed
 pub malformed_lines : {input lines : List ℕ} → AreWholeLines (front input) lines → 0 < length lines → NeverHasRequest lines
@@ -94,19 +120,17 @@ malformed_lines {input} {lines} are some never peer =
           refl
     ]
 
--- the lines of a front have no more fields than there is room for
-pub room_is_enough : (lines : List ℕ) → length lines ≤ 16384 → ¬ (RequestExceeds 8192 lines)
-room_is_enough lines short (before, rest, parts, head, reads, many) =
-    omega (
-      arith,
-      many,
-      request_bytes head,
-      ap length reads.1,
-      length-append (print_request head) [],
-      length-append before (10 ∷ []),
-      ap length parts,
-      length-append before rest,
-    )
+-- the fields of the lines are the front's
+pub exceeds_in_front : (input lines : List ℕ) → AreWholeLines (front input) lines → (room : ℕ) → RequestExceeds room lines
+    → RequestExceeds room (front input)
+exceeds_in_front input lines are room (before, rest, parts, head, reads, many) = (
+  before,
+  rest ++ are.rest,
+  are.parts ∙ ap (λ (t : List ℕ). t ++ are.rest) parts ∙ append_assoc before rest are.rest,
+  head,
+  reads,
+  many,
+)
 
 -- where more bytes can make a head of the lines, there is none yet, and no line that is wrong
 pub open_lines : {text lines : List ℕ} → AreWholeLines text lines → 0 < length lines → MayBecomeRequest lines → ¬ (IsMalformed text)
@@ -117,24 +141,9 @@ open_lines {text} {lines} are some (inr target) =
       | inr w ↦ absurd (not_in_target lines w.0 w.1 target)
     ]
 
-pub front_size : (input : List ℕ) → length (front input) ≤ 16384
-unfolding front
-front_size input = omega (arith, length-take 16384 input)
-
-pub lines_size : (input lines : List ℕ) → AreWholeLines (front input) lines → length lines ≤ 16384
-lines_size input lines are = omega (arith, front_size input, ap length are.parts, length-append lines are.rest)
-
 pub front_lines : (input : List ℕ) (lines : List ℕ) (n : ℕ) → n ≡ min 16384 (length input) → AreWholeLines (take n input) lines → AreWholeLines (front input) lines
 unfolding front
 front_lines input lines n is are = subst (λ (t : List ℕ). AreWholeLines t lines) (ap (λ k. take k input) is ∙ take_min 16384 input) are
-
--- an error of the parser is about the bytes, since there is room for all fields
-pub never_lines : (lines : List ℕ) → length lines ≤ 16384 → (room : ℕ) → 8192 ≤ room → (e : Error)
-    → (e ≢ TooManyHeaders → NeverHasRequest lines) → (e ≡ TooManyHeaders → RequestExceeds room lines) → NeverHasRequest lines
-never_lines lines short room enough TooManyHeaders invalid many =
-    let exceeds = many refl in
-    absurd (room_is_enough lines short (exceeds.0, exceeds.1, exceeds.2, exceeds.3, exceeds.4, omega arith))
-never_lines lines short room enough e invalid many = invalid (λ is. absurd (cc))
 
 span_further : (lines more : List ℕ) (from to : ℕ) → to ≤ length lines → from ≤ to → slice_range (lines ++ more) from to ≡ slice_range lines from to
 span_further lines more from to inside ordered =

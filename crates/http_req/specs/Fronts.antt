@@ -3,7 +3,7 @@ use Rattle.std.specs.Prelude.{◌≡◌, ℕ, ◌<◌, List, [], ◌∷◌, ◌+
 use Rattle.httparse.specs.declared.spans.HeaderSpan.{HeaderSpan}
 use Rattle.httparse.specs.declared.spans.RequestSpans.{RequestSpans}
 use Rattle.httparse.specs.Ascii.{line_feed}
-use Rattle.httparse.specs.Spans.{IsRequestWithin, IsRequestOf}
+use Rattle.httparse.specs.Spans.{IsRequestWithin, IsRequestOf, RequestExceeds}
 use Rattle.http_req.specs.declared.head.Front.{Front}
 use Rattle.http_req.specs.declared.head.Front.TheVariants as found
 use Rattle.http_req.specs.Heads.{front}
@@ -22,8 +22,9 @@ pub record HeadStands (text : List ℕ) (spans : List HeaderSpan) (head : Reques
   pub within : IsRequestWithin text spans head
   pub of : IsRequestOf text spans head
 
--- a head; what is refused, whatever follows; or what ends too early, if it ends here
+-- a head; what is refused, whatever follows; what ends too early, if it ends here; or more fields than there is room for
 abbrev pub FindsFront : List ℕ → List HeaderSpan → Front → Type 0
 FindsFront input spans (found.Head head) = HeadStands (front input) spans head
 FindsFront input spans (found.Refused status) = (peer : List ℕ) → Gets input peer (Refused status)
 FindsFront input spans found.Cut = ((peer : List ℕ) → Gets input peer (ended input)) × (length input < head_limit)
+FindsFront input spans found.Crowded = RequestExceeds (length spans) (front input)

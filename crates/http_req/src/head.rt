@@ -8,8 +8,8 @@ ghost use Rattle.http_req.specs.Fronts.{AreWholeLines, FindsFront};
 ghost use Rattle.http_req.specs.Outcomes.{Outcome, GetsOnly};
 
 use crate::status::{BAD_REQUEST, FIELDS_TOO_LARGE};
-use httparse::Status;
 use httparse::spans::{HeaderSpan, RequestSpans, parse_request};
+use httparse::{Error, Status};
 
 /// A head takes at most so many bytes.
 pub const HEAD_LIMIT: usize = 16_384;
@@ -26,16 +26,17 @@ pub enum Front {
     Refused(u16),
     /// Less than a head, which more bytes may make one.
     Cut,
+    /// More fields than there is room for.
+    Crowded,
 }
 
 /// Looks for a whole head at the front of an input. The places of its fields are written to `spans`.
 ///
-/// Whatever the input, it is exactly one of four: a whole request, no byte, less than a request, or
-/// what is refused.
+/// With room for `FIELD_ROOM` fields it is never `Crowded`. And whatever the input, it is exactly one
+/// of four: a whole request, no byte, less than a request, or what is refused.
 pub fn find_head(input: &[u8], spans: &mut [HeaderSpan]) -> Front
-    requires room { FIELD_ROOM ≤ length spans.old }
     ensures finds { FindsFront input.now spans.new result }
-    ensures one { (peer : List ℕ) → (outcome : Outcome) × GetsOnly input.now peer outcome }
+    ensures one { FIELD_ROOM ≤ length spans.old → (peer : List ℕ) → (outcome : Outcome) × GetsOnly input.now peer outcome }
 {
     let front = &input[..input.len().min(HEAD_LIMIT)];
     let lines = whole_lines(front);
@@ -45,7 +46,10 @@ pub fn find_head(input: &[u8], spans: &mut [HeaderSpan]) -> Front
     match parse_request(lines, spans) {
         Ok(Status::Complete(head)) => Front::Head(head),
         Ok(Status::Partial) => without_head(input),
-        Err(_) => Front::Refused(BAD_REQUEST),
+        Err(error) => match error {
+            Error::TooManyHeaders => Front::Crowded,
+            _ => Front::Refused(BAD_REQUEST),
+        },
     }
 }
 

@@ -52,7 +52,7 @@ fn receive<S: Source>(
 ) -> Result<Request, Got>
     ensures { Received carry.old (S.rest source.old) (S.faults source.old) peer.now result carry.new (S.rest source.new) (S.faults source.new) }
 {
-    let mut spans = vec![in alloc; EMPTY_HEADER_SPAN; FIELD_ROOM]?;
+    let mut spans = vec![in alloc; EMPTY_HEADER_SPAN; FIELD_LIMIT]?;
     let head = read_head(source, carry, &mut spans)?;
     let request = check(alloc, carry.bytes(), &head, &spans, peer)?;
     read_body(alloc, source, carry, request, head.len)
@@ -83,15 +83,15 @@ fn check(
     }
 }
 
-/// Reads until a whole head stands at the front of the carry.
+/// Reads until a whole head stands at the front of the carry. The places of its fields are written to
+/// `spans`, which grows to room for all that a head can hold once there is no room for those that come.
 fn read_head<S: Source>(
     source: &mut S,
     carry: &mut Carry,
-    spans: &mut [HeaderSpan],
+    spans: &mut Vec<HeaderSpan>,
 ) -> Result<RequestSpans, Got>
-    requires { FIELD_ROOM ≤ length spans.old }
     ensures moves { Moves carry.old (S.rest source.old) (S.faults source.old) carry.new (S.rest source.new) (S.faults source.new) }
-    ensures stands { IfOk result (λ head. HeadStands (front carry.new) spans.new head) }
+    ensures stands { IfOk result (λ head. HeadStands (front carry.new) spans.new.items head) }
     ensures stops { IfErr result (λ answer. (peer : List ℕ) → Stops carry.new peer (S.rest source.old) (S.faults source.old) (S.rest source.new) (S.faults source.new) answer) }
 {
     let mut fetched = Ok(());
@@ -99,6 +99,10 @@ fn read_head<S: Source>(
         match find_head(carry.bytes(), spans) {
             Front::Head(head) => return Ok(head),
             Front::Refused(status) => return Err(Got::Refused { status }),
+            Front::Crowded => {
+                spans.resize(FIELD_ROOM, EMPTY_HEADER_SPAN)?;
+                continue;
+            }
             Front::Cut => {}
         }
         match fetched {

@@ -409,13 +409,21 @@ fn large_inputs_stop_at_the_limits(rt: HostRuntime) -> Result<(), Fail> {
 
 #[test]
 fn a_head_has_a_hundred_fields_at_the_most(rt: HostRuntime) -> Result<(), Fail> {
-    for (count, wanted) in [(100, "|0|100|0 "), (101, "refused 431 ")] {
+    let rows: [(usize, usize, &[u8], &str); 5] = [
+        (100, 1, b"\n", "|0|100|0 "),
+        (101, 1, b"\n", "refused 431 "),
+        (5_000, 5_000, b"\n", "refused 431 "),
+        // Before a head with too many fields is whole, it may still be malformed, or be cut.
+        (101, 1, b"\x01\n", "refused 400 "),
+        (101, 1, b"", "truncated 318 "),
+    ];
+    for (count, piece, end, wanted) in rows {
         let mut head = Vec::from_slice(rt.alloc(), b"GET / HTTP/1.0\n")?;
         for _ in 0..count {
             head.extend_from_slice(b"a:\n")?;
         }
-        head.push(b'\n')?;
-        let mut source = source_of(rt.alloc(), &head, 1)?;
+        head.extend_from_slice(end)?;
+        let mut source = source_of(rt.alloc(), &head, piece)?;
         assert_eq!(rt; answers(rt.alloc(), &mut source, 1)?.as_str(), wanted);
     }
     Ok(())
@@ -442,17 +450,21 @@ fn nothing_is_asked_behind_a_whole_request(rt: HostRuntime) -> Result<(), Fail> 
 
 #[test]
 fn the_front_of_an_input_is_found(rt: HostRuntime) -> Result<(), Fail> {
-    let mut spans = vec![in rt.alloc(); EMPTY_HEADER_SPAN; FIELD_ROOM]?;
-    let rows: [(&[u8], &str); 3] = [
-        (b"GET / HTTP/1.0\n", "cut"),
-        (b"GET / HTTP/1.2\n", "refused"),
-        (b"GET / HTTP/1.0\n\n", "head"),
+    let rows: [(&[u8], usize, &str); 6] = [
+        (b"GET / HTTP/1.0\n", FIELD_ROOM, "cut"),
+        (b"GET / HTTP/1.2\n", FIELD_ROOM, "refused"),
+        (b"GET / HTTP/1.0\n\n", FIELD_ROOM, "head"),
+        (b"GET / HTTP/1.0\na:\n\n", 1, "head"),
+        (b"GET / HTTP/1.0\na:\nb:\n", 1, "crowded"),
+        (b"GET / HTTP/1.0\na:\nb:\n", 2, "cut"),
     ];
-    for (input, wanted) in rows {
+    for (input, room, wanted) in rows {
+        let mut spans = vec![in rt.alloc(); EMPTY_HEADER_SPAN; room]?;
         let found = match find_head(input, &mut spans) {
             Front::Head(_) => "head",
             Front::Refused(_) => "refused",
             Front::Cut => "cut",
+            Front::Crowded => "crowded",
         };
         assert_eq!(rt; found, wanted);
     }

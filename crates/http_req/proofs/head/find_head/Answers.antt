@@ -1,12 +1,12 @@
-use Rattle.std.proofs.Common.{rules, ◌≡◌, ◌<◌, length, arith}
-use Rattle.std.proofs.Common.{ap, Err}
+use Rattle.std.proofs.Common.{rules, ◌≡◌, ◌<◌, length, ap, Err, subst, arith}
 use Rattle.std.proofs.lemmas.Bool.Decides.{nat_tests}
 use Rattle.httparse.specs.Grammar.{HasNoRequest, MayBecomeRequest}
+use Rattle.httparse.specs.Spans.{RequestExceeds}
 use Rattle.http_req.specs.Heads.{front}
 use Rattle.http_req.specs.Fronts.{AreWholeLines, HeadStands}
-use Rattle.http_req.specs.declared.head.Front.TheVariants.{Head, Refused}
+use Rattle.http_req.specs.declared.head.Front.TheVariants.{Refused, Crowded}
 use Rattle.http_req.proofs.HeadFacts.{none_by_lines, none_without_lines, fine_without_lines}
-use Rattle.http_req.proofs.OutcomeFacts.{front_lines, lines_size, one_by_front, malformed_lines, open_lines, head_in_front, never_lines}
+use Rattle.http_req.proofs.OutcomeFacts.{front_lines, one_by_front, malformed_lines, open_lines, head_in_front, one_by_head, exceeds_in_front}
 use Rattle.http_req.proofs.head.find_head.Goals as goal
 
 pub without_head-requires-clause-none : goal.without_head-requires-clause-none
@@ -56,16 +56,24 @@ pub returns-in-Ok-Complete-clause-one : goal.returns-in-Ok-Complete-clause-one
 returns-in-Ok-Complete-clause-one c =
     let are : AreWholeLines (front c.args.input.now) c.whole_lines-lines.result.now = front_lines c.args.input.now c.whole_lines-lines.result.now _ (omega (arith, c.min.ensures)) c.whole_lines-lines.ensures in
     let stands : HeadStands c.whole_lines-lines.result.now c.parse_request.new.headers c.in-Ok-Complete.head = record { within = search rules; of = search rules } in
-    one_by_front c.args.input.now c.parse_request.new.headers (Head c.in-Ok-Complete.head) (head_in_front c.args.input.now c.whole_lines-lines.result.now are c.parse_request.new.headers c.in-Ok-Complete.head stands)
+    λ room. one_by_head c.args.input.now c.parse_request.new.headers c.in-Ok-Complete.head (head_in_front c.args.input.now c.whole_lines-lines.result.now are c.parse_request.new.headers c.in-Ok-Complete.head stands)
 
-pub returns-in-Err-clause-finds : goal.returns-in-Err-clause-finds
-returns-in-Err-clause-finds c =
+pub returns-in-TooManyHeaders-clause-finds : goal.returns-in-TooManyHeaders-clause-finds
+returns-in-TooManyHeaders-clause-finds c =
+    let are : AreWholeLines (front c.args.input.now) c.whole_lines-lines.result.now = front_lines c.args.input.now c.whole_lines-lines.result.now _ (omega (arith, c.min.ensures)) c.whole_lines-lines.ensures in
+    let exceeds = exceeds_in_front c.args.input.now c.whole_lines-lines.result.now are (length c.args.spans.now) (c.in-Err.ensures.too_many (ap (λ e. Err e) c.in-TooManyHeaders.is)) in
+    let same : length c.args.spans.now ≡ length c.parse_request.new.headers = omega (arith, c.parse_request.auto.headers) in
+    subst (λ room. RequestExceeds room (front c.args.input.now)) same exceeds
+
+pub returns-in-TooManyHeaders-clause-one : goal.returns-in-TooManyHeaders-clause-one
+returns-in-TooManyHeaders-clause-one c =
+    let are : AreWholeLines (front c.args.input.now) c.whole_lines-lines.result.now = front_lines c.args.input.now c.whole_lines-lines.result.now _ (omega (arith, c.min.ensures)) c.whole_lines-lines.ensures in
+    let exceeds = exceeds_in_front c.args.input.now c.whole_lines-lines.result.now are (length c.args.spans.now) (c.in-Err.ensures.too_many (ap (λ e. Err e) c.in-TooManyHeaders.is)) in
+    one_by_front c.args.input.now c.args.spans.now Crowded exceeds
+
+pub returns-in_default : goal.returns-in_default
+returns-in_default c =
     let are : AreWholeLines (front c.args.input.now) c.whole_lines-lines.result.now = front_lines c.args.input.now c.whole_lines-lines.result.now _ (omega (arith, c.min.ensures)) c.whole_lines-lines.ensures in
     let some : 0 < length c.whole_lines-lines.result.now = grind (arith, nat_tests) in
-    malformed_lines are some (never_lines c.whole_lines-lines.result.now (lines_size c.args.input.now c.whole_lines-lines.result.now are) (length c.args.spans.now) c.requires.room c.in-Err.field-0 c.in-Err.ensures.invalid (λ is. c.in-Err.ensures.too_many (ap (λ e. Err e) is)))
-
-pub returns-in-Err-clause-one : goal.returns-in-Err-clause-one
-returns-in-Err-clause-one c =
-    let are : AreWholeLines (front c.args.input.now) c.whole_lines-lines.result.now = front_lines c.args.input.now c.whole_lines-lines.result.now _ (omega (arith, c.min.ensures)) c.whole_lines-lines.ensures in
-    let some : 0 < length c.whole_lines-lines.result.now = grind (arith, nat_tests) in
-    one_by_front c.args.input.now c.parse_request.new.headers (Refused 400) (malformed_lines are some (never_lines c.whole_lines-lines.result.now (lines_size c.args.input.now c.whole_lines-lines.result.now are) (length c.args.spans.now) c.requires.room c.in-Err.field-0 c.in-Err.ensures.invalid (λ is. c.in-Err.ensures.too_many (ap (λ e. Err e) is))))
+    let gets = malformed_lines are some (c.in-Err.ensures.invalid c.in_default.not-TooManyHeaders) in
+    record { finds = gets; one = one_by_front c.args.input.now c.args.spans.now (Refused 400) gets }

@@ -1,4 +1,4 @@
-use Rattle.std.proofs.Common.{◌+◌, ◌-◌, ◌*◌, length}
+use Rattle.std.proofs.Common.{◌+◌, ◌-◌, ◌*◌, length, vec_len}
 use Rattle.std.specs.Prelude.{IfErr}
 use Rattle.http_req.specs.Fetching.{Moves, Stopped}
 use Rattle.http_req.proofs.Fetches.{turns_left}
@@ -11,4 +11,4 @@ invariant-loop-head g l = record {
 }
 
 abbrev pub decreases-loop-head : goal.decreases-loop-head
-decreases-loop-head g l = 2 * (16384 - length l.carry) + turns_left l.fetched
+decreases-loop-head g l = 2 * (16384 - length l.carry) + turns_left l.fetched + (8192 - vec_len l.spans)
