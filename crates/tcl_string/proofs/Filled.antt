@@ -1,16 +1,21 @@
 -- What forms write.
-use Rattle.std.proofs.Common.{◌≡◌, ◌∙◌, ap, sym, refl, ℕ, ◌-◌, List, [], ◌∷◌, ◌++◌, length, drop, Bool, true, false, Option, None, Some, Result, Ok, Err, append_assoc, append-nil}
+use Rattle.std.proofs.Common.{◌≡◌, ◌∙◌, ap, sym, refl, ℕ, ◌-◌, ◌<◌, List, [], ◌∷◌, ◌++◌, length, drop, Bool, true, false, Option, None, Some, Result, Ok, Err, arith, append_assoc, append-nil, length-append}
+use Rattle.std.proofs.lemmas.Bool.{ltb-true, lt-ltb}
 use Rattle.std.specs.Fmt.{digits}
 use Rattle.std.specs.Prelude.{replicate, ◌==◌, if◌then◌else◌, codes, decimal, unsigned_abs, encode_utf8, ℤ}
 use Rattle.natives.specs.Answers.{Reply, unless, Answers, Tried}
 use Rattle.natives.specs.Checks.{integer, integer_error}
 use Rattle.txt_core.specs.ErrorTexts.{bad_value}
+use Rattle.txt_core.specs.Limits.{is_long}
 use Rattle.natives.specs.Words.{arg}
 use Rattle.natives.specs.Parts.{Form, Part, itself, form, taken_by}
 use Rattle.natives.specs.Formatting.{filled, form_error, form_text, takes_word, put_front, written, sign_of, in_64_bits, is_character}
 use Rattle.natives.specs.declared.fault.Fault.{Fault}
 use Rattle.natives.specs.declared.fault.Fault.TheVariants.{Error, NoMemory}
-use Rattle.tcl_string.specs.Filling.{Puts, part_error, part_text}
+use Rattle.tcl_string.specs.Filling.{Puts, PutsNext, part_error, part_text}
+use Rattle.tcl_string.specs.Keeping.{Keeps}
+use Rattle.tcl_string.specs.declared.output.Output.{Output}
+use Rattle.tcl_string.specs.declared.output.Output.TheVariants.{Whole, TooLong}
 use Rattle.tcl_string.proofs.Saying.{no_memory}
 
 pub filled_left : (f : Form) (out sign text : List ℕ) → f.left ≡ true → ((out ++ sign) ++ text) ++ replicate (f.width - length (sign ++ text)) 32 ≡ out ++ filled f sign text
@@ -124,3 +129,43 @@ no_character_is false n e = refl
 pub no_character_found : (word : List ℕ) → integer_error word ≡ None → None ≡ (if is_character (integer word) then Some (unsigned_abs (integer word)) else None) → form_error 99 word ≡ Some (bad_value word (codes "format"))
 unfolding form_error
 no_character_found word none e = rw (none, no_character_is (is_character (integer word)) (unsigned_abs (integer word)) e) refl
+
+-- the word of a form, by its letter, where it is only looked at
+tried_as : {A : Type 0} (P : A → Type 0) (error told : Option (List ℕ)) (result : Result A Fault) → error ≡ told → Tried told P result → Tried error P result
+tried_as P error told result e h = rw e h
+
+pub checks_word : {A : Type 0} (P : A → Type 0) (f : Form) (word : List ℕ) (result : Result A Fault) → f.letter ≡ 115 → Tried None P result → Tried (part_error (form f) word) P result
+unfolding form_error
+checks_word P f word result e h = tried_as P (part_error (form f) word) None result (error_at f 115 word e) h
+
+pub checks_decimal : {A : Type 0} (P : A → Type 0) (f : Form) (word : List ℕ) (result : Result A Fault) → f.letter ≡ 100 → Tried (integer_error word) P result → Tried (part_error (form f) word) P result
+unfolding form_error
+checks_decimal P f word result e h = tried_as P (part_error (form f) word) (integer_error word) result (error_at f 100 word e) h
+
+pub checks_hexadecimal : {A : Type 0} (P : A → Type 0) (f : Form) (word : List ℕ) (result : Result A Fault) → f.letter ≡ 120 → Tried (integer_error word) P result → Tried (part_error (form f) word) P result
+unfolding form_error
+checks_hexadecimal P f word result e h = tried_as P (part_error (form f) word) (integer_error word) result (error_at f 120 word e) h
+
+pub checks_character : {A : Type 0} (P : A → Type 0) (f : Form) (word : List ℕ) (result : Result A Fault) → f.letter ≡ 99 → Tried (form_error 99 word) P result → Tried (part_error (form f) word) P result
+checks_character P f word result e h = tried_as P (part_error (form f) word) (form_error 99 word) result (error_at f 99 word e) h
+
+-- a part behind a text of which all is kept, and behind one that is over the limit
+pub puts_whole : (error : Option (List ℕ)) (kept text more : List ℕ) (out : Output) (result : Result Output Fault) → out ≡ Whole kept → Keeps out text → PutsNext error kept more result → PutsNext error text more result
+puts_whole error kept text more out result is keeps puts =
+    let whole : (kept ≡ text) × (is_long text ≡ false) = rw is at keeps in
+    rw whole.0 at puts
+
+long_more : (text more : List ℕ) → is_long text ≡ true → is_long (text ++ more) ≡ true
+long_more text more long =
+    let over : 1048576 < length text = ltb-true 1048576 (length text) long in
+    lt-ltb 1048576 (length (text ++ more)) (omega (arith, over, length-append text more))
+
+long_next : (text more : List ℕ) (out next : Output) → out ≡ TooLong → Keeps out text → next ≡ TooLong → Keeps next (text ++ more)
+long_next text more out next is keeps same =
+    let long : is_long text ≡ true = rw is at keeps in
+    rw same (long_more text more long)
+
+pub puts_long : (error : Option (List ℕ)) (text more : List ℕ) (out : Output) (result : Result Output Fault) → out ≡ TooLong → Keeps out text → Tried error (λ next. next ≡ TooLong) result → PutsNext error text more result
+puts_long error text more out (Ok next) is keeps tried = (tried.0, long_next text more out next is keeps tried.1)
+puts_long error text more out (Err (Error told)) is keeps tried = tried
+puts_long error text more out (Err NoMemory) is keeps tried = tt

@@ -1,5 +1,5 @@
 -- Parts of a pattern, one after another.
-use Rattle.std.proofs.Common.{◌≡◌, ◌∙◌, ap, sym, refl, ℕ, zero, suc, ◌+◌, List, [], ◌∷◌, ◌++◌, length, drop, Bool, true, false, Option, None, Some, arith, append_assoc, append-nil}
+use Rattle.std.proofs.Common.{◌≡◌, ◌∙◌, ap, sym, refl, ℕ, zero, suc, ◌+◌, List, [], ◌∷◌, length, drop, Bool, true, false, Option, None, Some, arith}
 use Rattle.std.proofs.lemmas.List.{drop-drop}
 use Rattle.std.specs.Prelude.{option_map, ◌==◌, if◌then◌else◌}
 use Rattle.natives.specs.Parts.{Form, Part, itself, form, begins_with, taken_by, all_digits, form_by, form_at, in_front, form_in_front, parts_behind, parts}
@@ -50,29 +50,3 @@ follow_first false b t = refl
 pub parts_first : (b : ℕ) (t : List ℕ) → parts (b ∷ t) ≡ follow (first_part b t)
 unfolding parts_behind
 parts_first b t = follow_first (b == 37) b t
-
--- parts so far in front of those that come
-abbrev pub behind_parts : List Part → Option (List Part) → Option (List Part)
-behind_parts done more = option_map (λ (ps : List Part). done ++ ps) more
-
-pub behind_more : (done : List Part) (part : Part) (more : Option (List Part)) → behind_parts done (in_front part more) ≡ behind_parts (done ++ part ∷ []) more
-behind_more done part None = refl
-behind_more done part (Some ps) = ap (λ (qs : List Part). Some qs) (sym (append_assoc done (part ∷ []) ps))
-
-pub none_behind : (more : Option (List Part)) → behind_parts [] more ≡ more
-none_behind None = refl
-none_behind (Some ps) = refl
-
--- no part is left
-pub parts_end : (done : List Part) (rest : List ℕ) (all : Option (List Part)) → length rest ≡ 0 → behind_parts done (parts rest) ≡ all → Some done ≡ all
-unfolding parts_behind
-parts_end done [] all none e = ap (λ (ps : List Part). Some ps) (sym (append-nil done)) ∙ e
-parts_end done (b ∷ t) all none e = absurd (omega arith)
-
--- one part more
-pub next_part : (done : List Part) (b : ℕ) (t : List ℕ) (p : Part) (rest : List ℕ) → Some (p, rest) ≡ first_part b t → behind_parts done (parts (b ∷ t)) ≡ behind_parts (done ++ p ∷ []) (parts rest)
-next_part done b t p rest e = ap (behind_parts done) (parts_first b t ∙ ap follow (sym e)) ∙ behind_more done p (parts rest)
-
--- no form at the front
-pub no_part : (done : List Part) (b : ℕ) (t : List ℕ) → None ≡ first_part b t → behind_parts done (parts (b ∷ t)) ≡ None
-no_part done b t e = ap (behind_parts done) (parts_first b t ∙ ap follow (sym e))

@@ -4,10 +4,16 @@ use Rattle.natives.specs.Answers.{Tried}
 use Rattle.natives.specs.declared.fault.Fault.{Fault}
 use Rattle.natives.specs.Parts.{Part, itself, form}
 use Rattle.natives.specs.Formatting.{filled, form_error, form_text}
+use Rattle.tcl_string.specs.Keeping.{Keeps}
+use Rattle.tcl_string.specs.declared.output.Output.{Output}
 
 -- a text is put behind what was there, or the error is told where there is one
 abbrev pub Puts : {A : Type 0} → Option (List ℕ) → List ℕ → List ℕ → List ℕ → Result A Fault → Type 0
 Puts error old text new result = Tried error (λ _. new ≡ old ++ text) result
+
+-- the same of what is kept of the text
+abbrev pub PutsNext : Option (List ℕ) → List ℕ → List ℕ → Result Output Fault → Type 0
+PutsNext error old text result = Tried error (λ out. Keeps out (old ++ text)) result
 
 -- what is wrong with the word that a part takes
 abbrev pub part_error : Part → List ℕ → Option (List ℕ)

@@ -2,6 +2,7 @@
 pub mod Early
 pub mod Filling
 pub mod Joins
+pub mod Keeping
 pub mod Patterns
 pub mod Sets
 pub mod Subcommands

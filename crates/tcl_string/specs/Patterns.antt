@@ -1,8 +1,10 @@
 -- The code's forms and parts of a pattern, as those of the rules.
-use Rattle.std.specs.Prelude.{ℕ, ◌+◌, ◌==◌, List, drop, length, Bool, Option, Some, option_map, if◌then◌else◌}
+use Rattle.std.specs.Prelude.{ℕ, ◌+◌, ◌≤◌, ◌==◌, List, [], drop, length, count_by, Bool, Option, None, Some, option_map, if◌then◌else◌, Ok}
 use Rattle.txt_core.specs.Digits.{value_of}
 use Rattle.natives.specs.Parts.{itself, form, all_digits, form_by, form_at}
 use Rattle.natives.specs.Parts as parts
+use Rattle.natives.specs.Answers.{Reply}
+use Rattle.natives.specs.Formatting.{takes_word, written}
 use Rattle.tcl_string.specs.declared.pattern.Letter.{Letter}
 use Rattle.tcl_string.specs.declared.pattern.Letter.TheVariants.{Decimal, Word, Hexadecimal, Character, Percent}
 use Rattle.tcl_string.specs.declared.pattern.Form.{Form}
@@ -39,3 +41,17 @@ as_part found = option_map (λ (f : parts.Form × List ℕ). (form f.0, f.1)) fo
 -- the part that begins with a byte, and what is behind it: a `%` begins a form
 abbrev pub first_part : ℕ → List ℕ → Option (parts.Part × List ℕ)
 first_part b t = if b == 37 then as_part (with_rest t (form_at t)) else Some (itself b, t)
+
+-- how many words the parts take
+abbrev pub words_taken : Option (List parts.Part) → Option ℕ
+words_taken found = option_map (count_by takes_word) found
+
+-- there are parts, and words enough for them
+abbrev pub Fits : Option (List parts.Part) → List (List ℕ) → Type 0
+Fits None words = ⊥
+Fits (Some ps) words = count_by takes_word ps ≤ length words
+
+-- what the parts write
+abbrev pub written_of : Option (List parts.Part) → List (List ℕ) → Reply
+written_of None words = Ok []
+written_of (Some ps) words = written ps words

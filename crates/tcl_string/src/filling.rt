@@ -1,15 +1,18 @@
 //! What the parts of a pattern write.
 
-ghost use Rattle.std.specs.Prelude.{◌≡◌, ◌-◌, ◌<◌, ◌++◌, ◌∷◌, [], true, false, length, None, Some, OnOk, replicate, decimal, unsigned_abs, encode_utf8, if◌then◌else◌};
+ghost use Rattle.std.specs.Prelude.{◌≡◌, ℕ, List, ◌-◌, ◌<◌, ◌++◌, ◌∷◌, [], true, false, length, None, Some, OnOk, replicate, decimal, unsigned_abs, encode_utf8, if◌then◌else◌};
 ghost use Rattle.std.specs.Fmt.{digits};
 ghost use Rattle.natives.specs.Answers.{Tried};
 ghost use Rattle.natives.specs.Checks.{integer, integer_error};
 ghost use Rattle.natives.specs.Parts.{form as form_part};
 ghost use Rattle.natives.specs.Formatting.{filled, sign_of, in_64_bits, is_character, form_error, takes_word};
 ghost use Rattle.natives.specs.Words.{arg};
-ghost use Rattle.tcl_string.specs.Filling.{Puts, part_error, part_text};
+ghost use Rattle.tcl_string.specs.Filling.{Puts, PutsNext, part_error, part_text};
+ghost use Rattle.tcl_string.specs.Keeping.{Keeps};
+ghost use Rattle.tcl_string.specs.declared.output.Output.TheVariants.{TooLong};
 ghost use Rattle.tcl_string.specs.Patterns.{form_of, part_of};
 
+use crate::output::Output;
 use crate::pattern::{Form, Letter, Part};
 use natives::{Fault, number_in};
 use std::alloc::Global;
@@ -168,12 +171,85 @@ fn put_form(alloc: Global, out: &mut Text, form: Form, words: &[Text]) -> Result
 }
 
 /// Puts what a part writes at the end; where it takes a word, it takes the first one.
-pub fn put_part(alloc: Global, out: &mut Text, part: Part, words: &[Text]) -> Result<(), Fault>
+fn put_part(alloc: Global, out: &mut Text, part: Part, words: &[Text]) -> Result<(), Fault>
     requires { takes_word (part_of part) ≡ true → 0 < length words.now }
     ensures { Puts (part_error (part_of part) (arg words.now 0)) out.old (part_text (part_of part) (arg words.now 0)) out.new result }
 {
     match part {
         Part::Itself(byte) => put_byte(out, byte),
         Part::Form(form) => put_form(alloc, out, form, words),
+    }
+}
+
+/// Looks whether a word is a number.
+fn check_number(alloc: Global, word: &Text) -> Result<(), Fault>
+    ensures { Tried (integer_error word.now) (λ _. Unit {0}) result }
+{
+    number_in(alloc, word)?;
+    Ok(())
+}
+
+/// Looks whether a word is a character's number.
+fn check_character(alloc: Global, word: &Text) -> Result<(), Fault>
+    ensures { Tried (form_error 99 word.now) (λ _. Unit {0}) result }
+{
+    character_in(alloc, word)?;
+    Ok(())
+}
+
+/// Looks whether the first word is what a form takes, and writes nothing.
+fn check_form(alloc: Global, form: Form, words: &[Text]) -> Result<(), Fault>
+    requires { takes_word (form_part (form_of form)) ≡ true → 0 < length words.now }
+    ensures { Tried (part_error (form_part (form_of form)) (arg words.now 0)) (λ _. Unit {0}) result }
+{
+    match form.letter {
+        Letter::Percent => Ok(()),
+        Letter::Word => Ok(()),
+        Letter::Decimal => check_number(alloc, first_word(words)),
+        Letter::Hexadecimal => check_number(alloc, first_word(words)),
+        Letter::Character => check_character(alloc, first_word(words)),
+    }
+}
+
+/// Looks whether the first word is what a part takes, where it takes one, and writes nothing.
+fn check_part(alloc: Global, part: Part, words: &[Text]) -> Result<(), Fault>
+    requires { takes_word (part_of part) ≡ true → 0 < length words.now }
+    ensures { Tried (part_error (part_of part) (arg words.now 0)) (λ _. Unit {0}) result }
+{
+    match part {
+        Part::Itself(_) => Ok(()),
+        Part::Form(form) => check_form(alloc, form, words),
+    }
+}
+
+/// What is kept of a text once a part is written behind it; where the part takes a word, it takes the
+/// first one.
+fn put_behind(alloc: Global, mut text: Text, part: Part, words: &[Text]) -> Result<Output, Fault>
+    requires { takes_word (part_of part) ≡ true → 0 < length words.now }
+    ensures { PutsNext (part_error (part_of part) (arg words.now 0)) text (part_text (part_of part) (arg words.now 0)) result }
+{
+    put_part(alloc, &mut text, part, words)?;
+    Ok(Output::of(text))
+}
+
+/// What is kept once a part is written behind a text over the limit of a value: the word that it takes
+/// is only looked at.
+fn pass_over(alloc: Global, part: Part, words: &[Text]) -> Result<Output, Fault>
+    requires { takes_word (part_of part) ≡ true → 0 < length words.now }
+    ensures { Tried (part_error (part_of part) (arg words.now 0)) (λ next. next ≡ TooLong) result }
+{
+    check_part(alloc, part, words)?;
+    Ok(Output::TooLong)
+}
+
+/// What is kept once a part is written behind what was kept; where it takes a word, it takes the
+/// first one.
+pub fn put_next(alloc: Global, out: Output, part: Part, words: &[Text]) -> Result<Output, Fault>
+    requires { takes_word (part_of part) ≡ true → 0 < length words.now }
+    ensures { (text : List ℕ) → Keeps out text → PutsNext (part_error (part_of part) (arg words.now 0)) text (part_text (part_of part) (arg words.now 0)) result }
+{
+    match out {
+        Output::Whole(kept) => put_behind(alloc, kept, part, words),
+        Output::TooLong => pass_over(alloc, part, words),
     }
 }

@@ -1,41 +1,20 @@
 //! `format`: a pattern with its forms filled in.
 
-ghost use Rattle.std.specs.Prelude.{◌≡◌, ◌<◌, ◌≤◌, true, codes, drop, length, map, count_by};
+ghost use Rattle.std.specs.Prelude.{◌≡◌, ◌<◌, ◌≤◌, true, codes, drop, length};
 ghost use Rattle.natives.specs.Answers.{Answers};
-ghost use Rattle.natives.specs.Formatting.{takes_word, written, written_with, format_reply};
-ghost use Rattle.natives.specs.Parts.{taken_by};
+ghost use Rattle.natives.specs.Formatting.{takes_word, format_with, format_reply};
+ghost use Rattle.natives.specs.Parts.{taken_by, parts};
 ghost use Rattle.natives.specs.Pure.{pure_of};
 ghost use Rattle.natives.specs.Ranges.{InRange};
-ghost use Rattle.tcl_string.specs.Patterns.{part_of};
+ghost use Rattle.tcl_string.specs.Early.{Comes};
+ghost use Rattle.tcl_string.specs.Patterns.{part_of, Fits, written_of};
 
-use crate::filling::put_part;
-use crate::pattern::{Letter, Part, parts};
+use crate::filling::put_next;
+use crate::output::Output;
+use crate::pattern::{Part, first_part, takes_word, words_taken};
 use natives::{Fault, within_limit, word_at};
 use std::alloc::Global;
 use txt_core::{Text, Words};
-
-/// Whether a part takes a word: each form but `%%`.
-fn takes_word(part: Part) -> bool
-    ensures { result ≡ takes_word (part_of part) }
-{
-    match part {
-        Part::Itself(_) => false,
-        Part::Form(form) => !matches!(form.letter, Letter::Percent),
-    }
-}
-
-/// How many words the parts take.
-fn words_taken(parts: &[Part]) -> usize
-    ensures { result ≡ count_by takes_word (map part_of parts.now) }
-{
-    let mut taken = 0;
-    for part in parts {
-        if takes_word(*part) {
-            taken += 1;
-        }
-    }
-    taken
-}
 
 /// The words behind the one that a part takes, if it takes one.
 fn words_behind(part: Part, words: &[Text]) -> &[Text]
@@ -45,40 +24,45 @@ fn words_behind(part: Part, words: &[Text]) -> &[Text]
     if takes_word(part) { &words[1..] } else { words }
 }
 
-/// The parts written from left to right, each form that takes a word with the next one.
-fn written(alloc: Global, parts: &[Part], words: &[Text]) -> Result<Text, Fault>
-    requires { count_by takes_word (map part_of parts.now) ≤ length words.now }
-    ensures { Answers (written (map part_of parts.now) words.now) result }
+/// The parts of a pattern written from left to right, each form that takes a word with the next one.
+/// Of a text over the limit of a value nothing is kept, but the words behind are looked at.
+fn written(alloc: Global, pattern: &[u8], words: &[Text]) -> Result<Text, Fault>
+    requires { Fits (parts pattern.now) words.now }
+    ensures { Comes (written_of (parts pattern.now) words.now) result }
 {
-    let mut out = Text::empty(alloc);
+    let mut out = Output::empty(alloc);
+    let mut rest = pattern;
     let mut left = words;
-    'parts: for part in parts {
-        put_part(alloc, &mut out, *part, left)?;
-        left = words_behind(*part, left);
+    'parts: while let Some((byte, behind)) = rest.split_first() {
+        let Some((part, more)) = first_part(*byte, behind) else {
+            unreachable!();
+        };
+        out = put_next(alloc, out, part, left)?;
+        left = words_behind(part, left);
+        rest = more;
     }
-    Ok(out)
+    out.into_text(alloc)
 }
 
-/// The parts written, where there are words enough for them.
-fn written_with(alloc: Global, parts: &[Part], words: &[Text]) -> Result<Text, Fault>
-    ensures { Answers (written_with (map part_of parts.now) words.now) result }
+/// What a pattern and the words behind it come to, before the length is judged.
+fn format_words(alloc: Global, pattern: &[u8], words: &[Text]) -> Result<Text, Fault>
+    ensures { Comes (format_with pattern.now (parts pattern.now) words.now) result }
 {
-    if words.len() < words_taken(parts) {
+    let Some(taken) = words_taken(pattern) else {
+        return Err(Fault::bad_value(alloc, pattern, "format"));
+    };
+    if words.len() < taken {
         return Err(Fault::wrong_words(alloc, "format"));
     }
-    written(alloc, parts, words)
+    written(alloc, pattern, words)
 }
 
 /// What `format` comes to, before its length is judged.
 fn format_reply(alloc: Global, words: &Words) -> Result<Text, Fault>
     requires { 2 ≤ length words.now }
-    ensures { Answers (format_reply words.now) result }
+    ensures { Comes (format_reply words.now) result }
 {
-    let pattern = word_at(words, 1).bytes();
-    match parts(alloc, pattern)? {
-        Some(parts) => written_with(alloc, parts.as_slice(), &words.as_slice()[2..]),
-        None => Err(Fault::bad_value(alloc, pattern, "format")),
-    }
+    format_words(alloc, word_at(words, 1).bytes(), &words.as_slice()[2..])
 }
 
 /// `format pattern word*`: the pattern, in which each form stands for the next word.

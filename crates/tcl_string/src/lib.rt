@@ -7,6 +7,7 @@ mod cutting;
 mod filling;
 mod formatting;
 mod joining;
+mod output;
 mod part;
 mod pattern;
 mod question;

@@ -1,12 +1,10 @@
 //! The parts of a pattern of `format`.
 
-ghost use Rattle.std.specs.Prelude.{◌≡◌, ◌++◌, ◌∷◌, [], drop, length, map, min, option_map, if◌then◌else◌, true, false, None, Some, IfOk, OnOk, MatchOption};
+ghost use Rattle.std.specs.Prelude.{◌≡◌, ◌≤◌, drop, length, min, option_map, if◌then◌else◌, true, false, None, Some, IfSome, MatchOption};
 ghost use Rattle.txt_core.specs.Digits.{digit_of, is_digit, value_of};
+ghost use Rattle.natives.specs.Formatting.{takes_word};
 ghost use Rattle.natives.specs.Parts.{is_letter, begins_with, taken_by, all_digits, form_at, parts};
-ghost use Rattle.tcl_string.specs.Patterns.{letter_code, form_of, part_of, with_rest, behind_flags, first_part};
-
-use std::alloc::Global;
-use txt_core::{NoMemory, Sequence};
+ghost use Rattle.tcl_string.specs.Patterns.{letter_code, form_of, part_of, with_rest, behind_flags, first_part, words_taken};
 
 /// How wide a form may be, in bytes.
 pub const MOST_WIDE: usize = 1000;
@@ -45,9 +43,6 @@ pub enum Part {
     Itself(u8),
     Form(Form),
 }
-
-/// The parts of a pattern in order.
-pub type Parts = Sequence<Part>;
 
 /// The letter of a form; `None` exactly where the byte is none of the five.
 fn letter_of(byte: u8) -> Option<Letter>
@@ -132,8 +127,9 @@ fn form_at(bytes: &[u8]) -> Option<(Form, &[u8])>
 
 /// The part that begins with a byte, and what is behind it; `None` exactly where the byte is a `%`
 /// that begins no form.
-fn first_part(byte: u8, behind: &[u8]) -> Option<(Part, &[u8])>
-    ensures { option_map (λ p. (part_of p.0, p.1.now)) result ≡ first_part byte behind.now }
+pub fn first_part(byte: u8, behind: &[u8]) -> Option<(Part, &[u8])>
+    ensures same { option_map (λ p. (part_of p.0, p.1.now)) result ≡ first_part byte behind.now }
+    ensures goes { IfSome result (λ p. length p.1.now ≤ length behind.now) }
 {
     if byte != b'%' {
         return Some((Part::Itself(byte), behind));
@@ -142,28 +138,35 @@ fn first_part(byte: u8, behind: &[u8]) -> Option<(Part, &[u8])>
     Some((Part::Form(form), rest))
 }
 
-/// Puts a part at the end.
-fn put(parts: &mut Parts, part: Part) -> Result<(), NoMemory>
-    ensures { OnOk result (parts.new ≡ parts.old ++ part ∷ []) }
+/// Whether a part takes a word: each form but `%%`.
+pub fn takes_word(part: Part) -> bool
+    ensures { result ≡ takes_word (part_of part) }
 {
-    match parts.push(part) {
-        Ok(()) => Ok(()),
-        Err(_part) => Err(NoMemory),
+    match part {
+        Part::Itself(_) => false,
+        Part::Form(form) => !matches!(form.letter, Letter::Percent),
     }
 }
 
-/// The parts of a whole pattern; `None` exactly where a `%` begins no form.
-pub fn parts(alloc: Global, pattern: &[u8]) -> Result<Option<Parts>, NoMemory>
-    ensures { IfOk result (λ found. option_map (map part_of) found ≡ parts pattern.now) }
+/// How many words a part takes: one, or none.
+fn taken_by(part: Part) -> usize
+    ensures same { result ≡ taken_by (takes_word (part_of part)) }
+    ensures few { result ≤ 1 }
 {
-    let mut parts = Parts::new(alloc);
+    if takes_word(part) { 1 } else { 0 }
+}
+
+/// How many words the parts of a whole pattern take; `None` exactly where a `%` begins no form. The
+/// parts aren't kept.
+pub fn words_taken(pattern: &[u8]) -> Option<usize>
+    ensures { result ≡ words_taken (parts pattern.now) }
+{
+    let mut taken = 0;
     let mut rest = pattern;
     'parts: while let Some((byte, behind)) = rest.split_first() {
-        let Some((part, more)) = first_part(*byte, behind) else {
-            return Ok(None);
-        };
-        put(&mut parts, part)?;
+        let (part, more) = first_part(*byte, behind)?;
+        taken += taken_by(part);
         rest = more;
     }
-    Ok(Some(parts))
+    Some(taken)
 }
