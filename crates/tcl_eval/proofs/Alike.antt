@@ -102,7 +102,7 @@ module _ {H : Type 0} where
   command_end_after : (m : ℕ) (k k' : Next H) → After m k k' → After m (command_end k) (command_end k')
   command_end_after m k k' h = limited_after m (charged k) (charged k') (charged_after m k k' h)
 
-  word_end_after : (go go' : List ℕ → Rest H) (m : ℕ) (k k' : Next H) → ((v : List ℕ) → Alike m (go v) (go' v)) → After m k k' → After m (word_end go k) (word_end go' k')
+  pub word_end_after : (go go' : List ℕ → Rest H) (m : ℕ) (k k' : Next H) → ((v : List ℕ) → Alike m (go v) (go' v)) → After m k k' → After m (word_end go k) (word_end go' k')
   word_end_after go go' m k k' on h =
       on_ok_after (λ v. cond (nat_lt most_bytes (length v)) (k 1 too_long) (go v)) (λ v. cond (nat_lt most_bytes (length v)) (k' 1 too_long) (go' v)) m k k'
       (λ v. choice (nat_lt most_bytes (length v)) m (k 1 too_long) (go v) (k' 1 too_long) (go' v) (h 1 too_long) (on v)) h
@@ -186,15 +186,15 @@ module _ {H : Type 0} where
 
 module _ {H : Type 0} (inner : Inner H) (run : Runs inner) where
   mutual
-    run_part_alike : (p : Part) (m : ℕ) (k k' : Next H) → After m k k' → Alike m (run_part inner p k) (run_part inner p k')
+    pub run_part_alike : (p : Part) (m : ℕ) (k k' : Next H) → After m k k' → Alike m (run_part inner p k) (run_part inner p k')
     run_part_alike (text bytes) m k k' h = h 0 bytes
     run_part_alike (variable name) m k k' h = read_variable_alike name m k k' h
     run_part_alike (element array index) m k k' h =
-        run_parts_alike index [] m (on_ok (λ v. read_variable (element_name array v) k) k) (on_ok (λ v. read_variable (element_name array v) k') k')
-        (on_ok_after (λ v. read_variable (element_name array v) k) (λ v. read_variable (element_name array v) k') m k k' (λ v. read_variable_alike (element_name array v) m k k' h) h)
+        run_parts_alike index [] m (word_end (λ v. read_variable (element_name array v) k) k) (word_end (λ v. read_variable (element_name array v) k') k')
+        (word_end_after (λ v. read_variable (element_name array v) k) (λ v. read_variable (element_name array v) k') m k k' (λ v. read_variable_alike (element_name array v) m k k' h) h)
     run_part_alike (bracket script) m k k' h = run (read script) m k k' h
 
-    run_parts_alike : (ps : Parts) (so_far : List ℕ) (m : ℕ) (k k' : Next H) → After m k k' → Alike m (run_parts inner ps so_far k) (run_parts inner ps so_far k')
+    pub run_parts_alike : (ps : Parts) (so_far : List ℕ) (m : ℕ) (k k' : Next H) → After m k k' → Alike m (run_parts inner ps so_far k) (run_parts inner ps so_far k')
     run_parts_alike no_parts so_far m k k' h = h 0 so_far
     run_parts_alike (part p ps) so_far m k k' h =
         run_part_alike p m (on_ok (λ v. run_parts inner ps (so_far ++ v) k) k) (on_ok (λ v. run_parts inner ps (so_far ++ v) k') k')
@@ -493,7 +493,7 @@ module _ {H : Type 0} (ns : Names) (t : LeafTable H) (inner : Inner H) (run : Ru
   run_reading_alike bytes (parsed.fault kind left) m k k' h = fails_alike (fault_text kind (length bytes - left)) m k k' h
 
 module _ {H : Type 0} (ns : Names) (t : LeafTable H) where
-  run_script_alike : (levels : ℕ) (source : Source) (m : ℕ) (k k' : Next H) → After m k k' → Alike m (run_script ns t levels source k) (run_script ns t levels source k')
+  pub run_script_alike : (levels : ℕ) (source : Source) (m : ℕ) (k k' : Next H) → After m k k' → Alike m (run_script ns t levels source k) (run_script ns t levels source k')
   run_script_alike zero source m k k' h = λ s b g le. refl
   run_script_alike (suc levels) (read script) m k k' h = run_commands_alike ns t (nested ns t levels) (run_script_alike levels) script [] m k k' h
   run_script_alike (suc levels) (unread bytes) m k k' h = run_reading_alike ns t (nested ns t levels) (run_script_alike levels) bytes (reading bytes) m k k' h

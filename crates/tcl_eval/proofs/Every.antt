@@ -70,6 +70,9 @@ use Rattle.tcl_eval.specs.Switch.{options, body_for, run_body, by_pairs, by_list
 use Rattle.tcl_eval.specs.Info.{info_said, do_info}
 use Rattle.tcl_eval.specs.Eval.{verb_of, is_for_host, set_or_fails, set_global, make, define, leaf, built_in, built, run_command, act, command, run_words, run_commands, run_reading, run_script, nested, eval}
 use Rattle.tcl_eval.specs.Places.{tree_of, commands_from, command_at, words_from, place_parts}
+use Rattle.tcl_eval.specs.Kept.{grown, judged, run_too_long, run_kept, run_costly}
+use Rattle.tcl_eval.specs.declared.gather.SoFar.{SoFar}
+use Rattle.tcl_eval.specs.declared.gather.SoFar.TheVariants as kept
 use Rattle.tcl_eval.specs.Stack.{branch_next, frame_next, above, stack_next, ready_next, step_next}
 use Rattle.tcl_eval.specs.Pages.{words_script, page_end, text_end, told, piece_end, run_piece, run_pieces, run_page}
 
@@ -259,8 +262,8 @@ module _ {H : Type 0} (P Q : State H → ℕ → Given → Out H → Type 0) (Sh
     run_part_good inner run (text bytes) k h = h 0 bytes
     run_part_good inner run (variable name) k h = read_variable_good name k h
     run_part_good inner run (element array index) k h =
-        run_parts_good inner run index [] (on_ok (λ v. read_variable (element_name array v) k) k)
-        (on_ok_good (λ v. read_variable (element_name array v) k) k (λ v. read_variable_good (element_name array v) k h) h)
+        run_parts_good inner run index [] (word_end (λ v. read_variable (element_name array v) k) k)
+        (word_end_good (λ v. read_variable (element_name array v) k) k (λ v short. read_variable_good (element_name array v) k h) h)
     run_part_good inner run (bracket script) k h = run (read script) k h
 
     run_parts_good : (inner : Inner H) → Runs inner → (ps : Parts) (so_far : List ℕ) (k : Next H) → GoodNext k → Good (run_parts inner ps so_far k)
@@ -610,6 +613,27 @@ module _ {H : Type 0} (P Q : State H → ℕ → Given → Out H → Type 0) (Sh
       let inner : Inner H = nested ns t levels in
       piece_end_good (run_pieces t inner (drop next page) k) k (run_pieces_good inner (run_script_good rule ns levels) (drop next page) k h) h
 
+  -- words under way of which only something is kept
+
+  judged_next_good : (k : Next H) → GoodNext k → GoodNext (judged k)
+  judged_next_good k h = word_end_good (λ v. k 0 v) k (λ v short. h 0 v) h
+
+  run_too_long_good : (inner : Inner H) → Runs inner → (ps : Parts) (k : Next H) → GoodNext k → Good (run_too_long inner ps k)
+  run_too_long_good inner run no_parts k h = h 1 too_long
+  run_too_long_good inner run (part p ps) k h =
+      run_part_good inner run p (on_ok (λ v. run_too_long inner ps k) k)
+      (on_ok_good (λ v. run_too_long inner ps k) k (λ v. run_too_long_good inner run ps k h) h)
+
+  run_kept_good : (inner : Inner H) → Runs inner → (ps : Parts) (so_far : SoFar) (k : Next H) → GoodNext k → Good (run_kept inner ps so_far k)
+  run_kept_good inner run ps (kept.Kept bytes) k h = run_parts_good inner run ps bytes (judged k) (judged_next_good k h)
+  run_kept_good inner run ps kept.TooLong k h = run_too_long_good inner run ps k h
+
+  run_costly_good : (inner : Inner H) → Runs inner → (ws : Words) (k : Next H) → GoodNext k → Good (run_costly inner ws k)
+  run_costly_good inner run no_words k h = λ s b g. c.spends s b g
+  run_costly_good inner run (word w ws) k h =
+      run_parts_good inner run w [] (word_end (λ v. run_costly inner ws k) k)
+      (word_end_good (λ v. run_costly inner ws k) k (λ v short. run_costly_good inner run ws k h) h)
+
   -- any words are as a run reads them
   abbrev pub AnyShort : Type 0
   AnyShort = (words : List (List ℕ)) → AllByRecursion Short words
@@ -623,11 +647,16 @@ module _ {H : Type 0} (P Q : State H → ℕ → Given → Out H → Type 0) (Sh
       let inner : Inner H = nested ns t levels in
       let behind : Words = words_from (length values + 1) (command_at at (tree_of script.value)) in
       let go : List ℕ → Rest H = λ v. run_words ns t inner behind (values ++ v ∷ []) k in
-      word_end_good go k (λ v short. run_words_good rule ns inner (run_script_good rule ns levels) behind (values ++ v ∷ []) (any (values ++ v ∷ [])) k h) h
+      on_ok_good go k (λ v. run_words_good rule ns inner (run_script_good rule ns levels) behind (values ++ v ∷ []) (any (values ++ v ∷ [])) k h) h
+  frame_good rule any ns (frames.Costly script at next levels) k h =
+      let inner : Inner H = nested ns t levels in
+      let behind : Words = words_from next (command_at at (tree_of script.value)) in
+      let go : List ℕ → Rest H = λ v. run_costly inner behind k in
+      on_ok_good go k (λ v. run_costly_good inner (run_script_good rule ns levels) behind k h) h
   frame_good rule any ns (frames.Word place so_far levels) k h =
       let inner : Inner H = nested ns t levels in
-      on_ok_good (λ v. run_parts inner (place_parts place) (so_far ++ v) k) k
-      (λ v. run_parts_good inner (run_script_good rule ns levels) (place_parts place) (so_far ++ v) k h) h
+      on_ok_good (λ v. run_kept inner (place_parts place) (grown so_far v) k) k
+      (λ v. run_kept_good inner (run_script_good rule ns levels) (place_parts place) (grown so_far v) k h) h
   frame_good rule any ns (frames.Index array) k h =
       on_ok_good (λ v. read_variable (element_name array v) k) k (λ v. read_variable_good (element_name array v) k h) h
   frame_good rule any ns frames.Result k h = command_end_good k h
@@ -637,7 +666,6 @@ module _ {H : Type 0} (P Q : State H → ℕ → Given → Out H → Type 0) (Sh
       let inner : Inner H = nested ns t levels in
       on_ok_good (λ v. run_expression inner (expression_tree expr) k) k
       (λ v. run_expression_good inner (run_script_good rule ns levels) (expression_tree expr) k h) h
-  frame_good rule any ns frames.Operand k h = word_end_good (λ v. k 0 v) k (λ v short. h 0 v) h
   frame_good rule any ns (frames.Operation op) k h = on_ok_good (λ v. give (with_one op v) k) k (λ v. give_good (with_one op v) k h) h
   frame_good rule any ns (frames.Left op right levels) k h =
       let inner : Inner H = nested ns t levels in
@@ -677,7 +705,7 @@ module _ {H : Type 0} (P Q : State H → ℕ → Given → Out H → Type 0) (Sh
 
   pub step_good : LeafRule → AnyShort → (ns : Names) (what : Step) (k : Next H) → GoodNext k → Good (step_next ns t what k)
   step_good rule any ns (step.Value value) k h = give_good value k h
-  step_good rule any ns (step.Pieces place so_far levels) k h = run_parts_good (nested ns t levels) (run_script_good rule ns levels) (place_parts place) so_far k h
+  step_good rule any ns (step.Pieces place so_far levels) k h = run_kept_good (nested ns t levels) (run_script_good rule ns levels) (place_parts place) so_far k h
   step_good rule any ns (step.Stop what) k h = ready_good rule any ns what k h
 
   -- what a command may run, where so many levels are left to it

@@ -28,9 +28,10 @@ use Rattle.std.specs.Prelude.{codes}
 use Rattle.tcl_eval.specs.Stack.{frame_next, step_next, stack_next}
 use Rattle.tcl_eval.specs.declared.stack.Ended.{Ended}
 use Rattle.tcl_eval.specs.declared.stack.Frame.{Frame}
-use Rattle.tcl_eval.specs.declared.stack.Frame.TheVariants.{Expression, Operand, Right, Value}
+use Rattle.tcl_eval.specs.declared.stack.Frame.TheVariants.{Expression, Right, Value}
 use Rattle.tcl_eval.specs.declared.stack.Step.{Step}
 use Rattle.tcl_eval.specs.declared.stack.Step.TheVariants.{Value as Value_step}
+use Rattle.tcl_eval.specs.Kept.{judged}
 use Rattle.tcl_eval.proofs.Stacks.{pushed}
 
 module _ {H : Type 0} (ns : Names) (t : LeafTable H) where
@@ -46,13 +47,6 @@ module _ {H : Type 0} (ns : Names) (t : LeafTable H) where
   part_step fs fs1 fs2 f expr expr' levels value s b g e1 e2 same is =
       expression_step fs1 fs2 expr expr' levels value s b g e2 same is
       ∙ ap (λ (k : Next H). run_expression (nested ns t levels) (tree_of expr) k s b g) (pushed ns t fs fs1 f e1)
-
-  -- a word of an expression begins
-  pub operand_step : (inner : Inner H) (fs fs1 : List Frame) (p p' : Parts) (e : List ℕ) (s : State H) (b : ℕ) (g : Given) → fs1 ≡ fs ++ Operand ∷ [] → p ≡ p' → e ≡ [] → run_parts inner p e (stack_next ns t fs1) s b g ≡ run_parts inner p' [] (frame_next ns t Operand (stack_next ns t fs)) s b g
-  operand_step inner fs fs1 p p' e s b g push isp ise =
-      ap (λ (k : Next H). run_parts inner p e k s b g) (pushed ns t fs fs1 Operand push)
-      ∙ ap (λ (x : Parts). run_parts inner x e (frame_next ns t Operand (stack_next ns t fs)) s b g) isp
-      ∙ ap (λ (x : List ℕ). run_parts inner p' x (frame_next ns t Operand (stack_next ns t fs)) s b g) ise
 
   -- an expression begins, behind a good end
   pub begun : (expr expr' : Expr) (levels code : ℕ) (result : List ℕ) (k : Next H) (s : State H) (b : ℕ) (g : Given) (x : Out H) → code ≡ 0 → expr ≡ expr' → x ≡ run_expression (nested ns t levels) (tree_of expr') k s b g → x ≡ on_ok (λ r. run_expression (nested ns t levels) (tree_of expr) k) k code result s b g
@@ -108,6 +102,13 @@ module _ {H : Type 0} (ns : Names) (t : LeafTable H) where
       e ∙ ap (λ (y : Next H). evaluate inner text y s b g) (pushed ns t fs fs1 Value push)
       ∙ ap (λ (y : List ℕ). evaluate inner y (value_end k) s b g) (is ∙ ap joined same)
       ∙ sym (ap (λ (c : Bool). (cond c (give (wrong_words words) k) (evaluate inner (joined (drop 1 words)) (value_end k))) s b g) (le-ltb (length words) 2 enough))
+
+module _ {H : Type 0} where
+  -- a word of an expression begins
+  pub operand_step : (inner : Inner H) (p p' : Parts) (e : List ℕ) (k : Next H) (s : State H) (b : ℕ) (g : Given) → p ≡ p' → e ≡ [] → run_parts inner p e (judged k) s b g ≡ run_parts inner p' [] (judged k) s b g
+  operand_step inner p p' e k s b g isp ise =
+      ap (λ (x : Parts). run_parts inner x e (judged k) s b g) isp
+      ∙ ap (λ (x : List ℕ). run_parts inner p' x (judged k) s b g) ise
 
 module _ {H : Type 0} (ns : Names) (t : LeafTable H) where
   -- a step that is this value

@@ -9,6 +9,7 @@ pub mod Laws
 pub mod Made
 pub mod Turns
 pub mod Counts
+pub mod Kept
 pub mod Pages
 pub mod Pairs
 pub mod Rows

@@ -1,6 +1,6 @@
 -- Commands, words and pieces of a script by their places.
 use Rattle.std.proofs.Common.{◌≡◌, ℕ, zero, suc, ◌+◌, ◌<◌, ◌≤◌, List, [], ◌∷◌, ◌++◌, map, length, Option, Some, None, Bool, true, false, refl, sym, ap, ◌∙◌, arith, add-one, nat_lt, subst}
-use Rattle.std.specs.Prelude.{slice_get, unwrap_or}
+use Rattle.std.specs.Prelude.{slice_get, unwrap_or, set, drop}
 use Rattle.std.proofs.lemmas.Option.{unwrap_or-slice_get}
 use Rattle.tcl_eval.specs.Eval.{arg}
 use Rattle.std.proofs.lemmas.Bool.{ltb-true, ltb-false}
@@ -157,3 +157,12 @@ some_at_place found at path whole x seen is e look =
 
 pub no_word_at : (words : List (List ℕ)) (place : ℕ) → None ≡ slice_get words place → [] ≡ arg words place
 no_word_at words place none = ap (λ (o : Option (List ℕ)). unwrap_or o []) none ∙ unwrap_or-slice_get words place []
+
+-- the first word is another one
+pub first_set : (ws : List (List ℕ)) (name : List ℕ) → 0 < length ws → set ws 0 name ≡ name ∷ drop 1 ws
+first_set [] name h = absurd (omega (arith, h))
+first_set (w ∷ ws) name h = refl
+
+pub first_put : (ws : List (List ℕ)) (name : List ℕ) → length ws ≡ 0 → ws ++ name ∷ [] ≡ name ∷ drop 1 ws
+first_put [] name e = refl
+first_put (w ∷ ws) name e = absurd (omega (arith, e))

@@ -25,4 +25,5 @@ pub mod LoopsSeen
 pub mod SeenPieces
 pub mod Verbs
 pub mod Places
+pub mod Kept
 pub mod Stack

@@ -3,16 +3,16 @@ use Rattle.std.specs.Prelude.{ℕ, List, [], ◌++◌}
 use Rattle.tcl_parse.specs.Tree.{Part, text, variable, element, bracket, Parts, no_parts, part}
 use Rattle.tcl_eval.specs.State.{Rest, Next}
 use Rattle.tcl_eval.specs.Results.{element_name}
-use Rattle.tcl_eval.specs.Going.{Inner, read, on_ok, read_variable}
+use Rattle.tcl_eval.specs.Going.{Inner, read, on_ok, word_end, read_variable}
 
 module _ {H : Type 0} where
   abbrev mutual
-    -- the value of a part of a word
+    -- The value of a part of a word. The index of an element is judged as a word is, before the variable is read.
     pub run_part : Inner H → Part → Next H → Rest H
     run_part inner (text bytes) k = k 0 bytes
     run_part inner (variable name) k = read_variable name k
     run_part inner (element array index) k =
-        run_parts inner index [] (on_ok (λ value. read_variable (element_name array value) k) k)
+        run_parts inner index [] (word_end (λ value. read_variable (element_name array value) k) k)
     run_part inner (bracket script) k = inner.run (read script) k
 
     -- the values of parts, from left to right, joined to what is there

@@ -3,14 +3,15 @@ use Rattle.std.specs.Prelude.{ℕ, ◌+◌, ◌++◌, List, [], ◌∷◌, lengt
 use Rattle.tcl_eval.specs.State.{LeafTable, Rest, Next, done, spent, too_deep}
 use Rattle.tcl_expr.specs.View.{tree_of as expression_tree}
 use Rattle.tcl_eval.specs.Natives.{Names}
-use Rattle.tcl_eval.specs.Eval.{unread, give, on_ok, word_end, command_end, proc_end, catch_end, read_variable, by_truth, element_name, command, run_parts, run_words, run_commands, nested}
+use Rattle.tcl_eval.specs.Eval.{unread, give, on_ok, command_end, proc_end, catch_end, read_variable, by_truth, element_name, command, run_words, run_commands, nested}
 use Rattle.tcl_eval.specs.Expressions.{with_one, with_two, way_of, behind_left, run_expression, value_end}
 use Rattle.tcl_eval.specs.Branches.{choose}
 use Rattle.tcl_eval.specs.Pages.{piece_end, run_pieces}
 use Rattle.tcl_eval.specs.Loops.{in_loop, between, turn_body, turns, turn_on, walk_on}
+use Rattle.tcl_eval.specs.Kept.{grown, run_kept, run_costly}
 use Rattle.tcl_eval.specs.Places.{tree_of, commands_from, command_at, words_from, place_parts, parts_size, words_size, commands_size, tree_size}
 use Rattle.tcl_eval.specs.declared.stack.Frame.{Frame}
-use Rattle.tcl_eval.specs.declared.stack.Frame.TheVariants.{Script, Command, Word, Index, Result, Procedure, Caught, Expression, Operand, Operation, Left, Right, Choice, Value, Branch as Branching}
+use Rattle.tcl_eval.specs.declared.stack.Frame.TheVariants.{Script, Command, Costly, Word, Index, Result, Procedure, Caught, Expression, Operation, Left, Right, Choice, Value, Branch as Branching}
 use Rattle.tcl_eval.specs.declared.branch.Branch.{Branch}
 use Rattle.tcl_eval.specs.declared.branch.Branch.TheVariants as branch
 use Rattle.tcl_eval.specs.declared.stack.Ready.{Ready}
@@ -41,15 +42,16 @@ module _ {H : Type 0} (names : Names) (table : LeafTable H) where
   frame_next (Script script next levels) k =
       on_ok (λ result. run_commands names table (nested names table levels) (commands_from next (tree_of script.value)) result k) k
   frame_next (Command script at values levels) k =
-      word_end (λ value. run_words names table (nested names table levels) (words_from (length values + 1) (command_at at (tree_of script.value))) (values ++ value ∷ []) k) k
+      on_ok (λ value. run_words names table (nested names table levels) (words_from (length values + 1) (command_at at (tree_of script.value))) (values ++ value ∷ []) k) k
+  frame_next (Costly script at next levels) k =
+      on_ok (λ value. run_costly (nested names table levels) (words_from next (command_at at (tree_of script.value))) k) k
   frame_next (Word place so_far levels) k =
-      on_ok (λ value. run_parts (nested names table levels) (place_parts place) (so_far ++ value) k) k
+      on_ok (λ value. run_kept (nested names table levels) (place_parts place) (grown so_far value) k) k
   frame_next (Index array) k = on_ok (λ value. read_variable (element_name array value) k) k
   frame_next Result k = command_end k
   frame_next Procedure k = proc_end k
   frame_next (Caught name) k = catch_end name k
   frame_next (Expression expr levels) k = on_ok (λ result. run_expression (nested names table levels) (expression_tree expr) k) k
-  frame_next Operand k = word_end (λ value. k 0 value) k
   frame_next (Operation op) k = on_ok (λ operand. give (with_one op operand) k) k
   frame_next (Left op right levels) k =
       on_ok (λ left. behind_left (way_of op) left (run_expression (nested names table levels) (expression_tree right.value) (on_ok (λ value. give (with_two op left value) k) k)) k) k
@@ -84,7 +86,7 @@ module _ {H : Type 0} (names : Names) (table : LeafTable H) where
   abbrev pub step_next : Step → Next H → Rest H
   step_next (step.Value value) k = k value.code value.result
   step_next (step.Pieces place so_far levels) k =
-      run_parts (nested names table levels) (place_parts place) so_far k
+      run_kept (nested names table levels) (place_parts place) so_far k
   step_next (step.Stop what) k = ready_next what k
 
 -- ---- how many steps may come before the next command is paid for
@@ -93,13 +95,13 @@ abbrev pub frame_weight : Frame → ℕ
 frame_weight (Script script next levels) = commands_size (commands_from next (tree_of script.value)) + 1
 frame_weight (Command script at values levels) =
     words_size (words_from (length values + 1) (command_at at (tree_of script.value))) + 1
+frame_weight (Costly script at next levels) = words_size (words_from next (command_at at (tree_of script.value))) + 1
 frame_weight (Word place so_far levels) = parts_size (place_parts place) + 2
 frame_weight (Index array) = 1
 frame_weight Result = 1
 frame_weight Procedure = 1
 frame_weight (Caught name) = 1
 frame_weight (Expression expr levels) = tree_size (expression_tree expr)
-frame_weight Operand = 1
 frame_weight (Operation op) = 1
 frame_weight (Left op right levels) = tree_size (expression_tree right.value) + 2
 frame_weight (Right op left) = 1
@@ -132,13 +134,13 @@ branch_free (branch.Page pieces next levels) = length (drop next pieces) + 1
 abbrev pub frame_free : Frame → ℕ
 frame_free (Script script next levels) = 0
 frame_free (Command script at values levels) = 0
+frame_free (Costly script at next levels) = 0
 frame_free (Word place so_far levels) = 0
 frame_free (Index array) = 0
 frame_free Result = 0
 frame_free Procedure = 0
 frame_free (Caught name) = 0
 frame_free (Expression expr levels) = 0
-frame_free Operand = 0
 frame_free (Operation op) = 0
 frame_free (Left op right levels) = 0
 frame_free (Right op left) = 0

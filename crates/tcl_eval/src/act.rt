@@ -653,7 +653,7 @@ impl<H: Host> Engine<H> {
                 Ok(Acted::Gives(error(self.alloc, message)?))
             }
             Some(Cmd::Built(own)) => {
-                let words = with_name(self.alloc, own, &words)?;
+                let words = with_name(self.alloc, own, words)?;
                 let acted = self.built(natives, words, levels, steps)?;
                 Ok(acted)
             }

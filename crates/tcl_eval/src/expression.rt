@@ -14,17 +14,18 @@ ghost use Rattle.tcl_eval.specs.declared.stack.Step.{Step};
 ghost use Rattle.tcl_eval.specs.declared.engine.OpenQuestion.{OpenQuestion};
 
 use crate::engine::Engine;
+use crate::gather::SoFar;
 use crate::message::{bad_expression, no_boolean};
 use crate::operation::{Way, way_of, with_one, with_two};
 use crate::place::alone;
 use crate::stack::{Acted, Ended, Frame, Step};
-use crate::value::{done, error, too_long, wrong_words};
+use crate::value::{done, error, wrong_words};
 use crate::words::{behind_name, joined};
 use std::boxed::Box;
 use tcl_expr::{Expr, ExprText, Op, expression_value, parse_expr};
 use tcl_host::{Host, OK};
 use tcl_parse::Piece;
-use txt_core::{MOST_BYTES, NoMemory, Text, Words, read_truth};
+use txt_core::{NoMemory, Text, Words, read_truth};
 
 /// What an evaluation of an expression costs.
 const EVALUATION_COST: u128 = 1;
@@ -32,17 +33,15 @@ const EVALUATION_COST: u128 = 1;
 #[tactic(auto, using(crate::proofs::Stacks::frees_push))]
 impl<H: Host> Engine<H> {
     /// Goes on with a word of an expression.
-    fn enter_operand(&mut self, pieces: Vec<Piece>, levels: u32) -> Result<Step, NoMemory>
-        ensures means { IfOk result (λ step. (names : Names) → Same names H.table self.new self.old (step_next names H.table step) (run_expression (nested names H.table levels) (tree_of (Expr.Word pieces)))) }
-        ensures weighs { IfOk result (λ step. stack_weight self.new.stack.items + step_weight step < stack_weight self.old.stack.items + tree_size (tree_of (Expr.Word pieces))) }
-        ensures keeps { IfOk result (λ step. Stays step self.new self.old) }
-        ensures holds { Holds self.new self.old }
+    fn enter_operand(&self, pieces: Vec<Piece>, levels: u32) -> Result<Step, NoMemory>
+        ensures means { IfOk result (λ step. (names : Names) → Same names H.table self.now self.now (step_next names H.table step) (run_expression (nested names H.table levels) (tree_of (Expr.Word pieces)))) }
+        ensures weighs { IfOk result (λ step. step_weight step < tree_size (tree_of (Expr.Word pieces))) }
+        ensures free { IfOk result (λ step. step_free step ≡ 0) }
     {
         let place = alone(self.alloc, pieces)?;
-        self.stack.push(Frame::Operand)?;
         Ok(Step::Pieces {
             place,
-            so_far: Text::empty(self.alloc),
+            so_far: SoFar::Kept(Text::empty(self.alloc)),
             levels,
         })
     }
@@ -101,17 +100,6 @@ impl<H: Host> Engine<H> {
                 Ok(step)
             }
         }
-    }
-
-    /// Ends a word of an expression, which may be too long.
-    pub(crate) fn give_operand(&self, value: Ended) -> Result<Step, NoMemory>
-        ensures means { IfOk result (λ step. (names : Names) → Same names H.table self.now self.now (step_next names H.table step) (λ k. frame_next names H.table Frame.Operand k value.code value.result)) }
-        ensures light { IfOk result (λ step. step_weight step + step_free step ≡ 0) }
-    {
-        if value.code == OK && value.result.len() > MOST_BYTES {
-            return Ok(Step::Value(too_long(self.alloc)?));
-        }
-        Ok(Step::Value(value))
     }
 
     /// Applies an operator to its operand.

@@ -6,6 +6,7 @@ mod branch;
 mod condition;
 mod engine;
 mod expression;
+mod gather;
 mod info;
 mod law;
 mod lend;

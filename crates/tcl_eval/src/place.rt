@@ -50,7 +50,8 @@ fn words_of(script: &Script, at: usize) -> &[Word]
 
 /// Whether a command of a script has a word at this place.
 pub fn has_word(script: &Script, at: usize, word: usize) -> bool
-    ensures { HasWord result word (command_at at (tree_of script.now)) }
+    ensures there { HasWord result word (command_at at (tree_of script.now)) }
+    ensures small { IsTrue result → word < 2 ^ 63 }
 {
     word < words_of(script, at).len()
 }

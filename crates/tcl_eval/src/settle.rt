@@ -2,6 +2,7 @@
 
 ghost use Rattle.std.specs.Prelude.{◌≡◌, ◌<◌, ◌≤◌, ◌+◌, ◌^◌, [], length, IfOk, OnOk};
 ghost use Rattle.tcl_eval.specs.Eval.{give, read_as, read_variable, command_end, proc_end, catch_end, run_parts, run_words, run_script, nested, read};
+ghost use Rattle.tcl_eval.specs.Kept.{judged, run_kept, run_costly};
 ghost use Rattle.tcl_eval.specs.Places.{tree_of, command_at, words_from, place_parts, inside, behind, parts_size, words_size, commands_size};
 ghost use Rattle.tcl_eval.specs.Stack.{frame_next, step_next, settled_next, frame_weight, stack_weight, step_weight, frame_free, stack_free, step_free, settled_free};
 ghost use Rattle.tcl_eval.specs.Engine.{Holds, Same, Pays, Stays, Remains, Emptied};
@@ -9,16 +10,17 @@ ghost use Rattle.tcl_eval.specs.Natives.{Names};
 ghost use Rattle.tcl_eval.specs.declared.stack.Frame.{Frame};
 
 use crate::engine::Engine;
+use crate::gather::{Gathered, SoFar};
 use crate::message::variable_fault;
 use crate::place::{Place, Seen, has_command, has_word};
 use crate::stack::{Ended, Frame, Ready, Settled, Step};
-use crate::value::{done, error, returned, too_long};
-use crate::words::{BYTES_FOR_ONE, push_word};
+use crate::value::{done, error, kept_value, returned, too_long};
+use crate::words::BYTES_FOR_ONE;
 use std::rc::Rc;
 use tcl_frame::VarFault;
 use tcl_host::{Host, OK};
 use tcl_parse::Script;
-use txt_core::{MOST_BYTES, NoMemory, Text, Words};
+use txt_core::{MOST_BYTES, NoMemory, Text};
 
 #[tactic(auto, using(crate::proofs::Stacks::frees_push))]
 impl<H: Host> Engine<H> {
@@ -49,11 +51,11 @@ impl<H: Host> Engine<H> {
         &mut self,
         array: Text,
         place: Place,
-        so_far: Text,
+        so_far: SoFar,
         levels: u32,
     ) -> Result<Step, NoMemory>
         requires { place.next < 2 ^ 63 }
-        ensures means { IfOk result (λ step. (names : Names) → Same names H.table self.new self.old (step_next names H.table step) (λ k. run_parts (nested names H.table levels) (inside (place_parts place)) [] (frame_next names H.table (Frame.Index array) (frame_next names H.table (Frame.Word (behind place) so_far levels) k)))) }
+        ensures means { IfOk result (λ step. (names : Names) → Same names H.table self.new self.old (step_next names H.table step) (λ k. run_parts (nested names H.table levels) (inside (place_parts place)) [] (judged (frame_next names H.table (Frame.Index array) (frame_next names H.table (Frame.Word (behind place) so_far levels) k))))) }
         ensures weighs { IfOk result (λ step. stack_weight self.new.stack.items + step_weight step ≤ stack_weight self.old.stack.items + (parts_size (inside (place_parts place)) + parts_size (place_parts (behind place)) + 4)) }
         ensures keeps { IfOk result (λ step. Stays step self.new self.old) }
         ensures holds { Holds self.new self.old }
@@ -68,7 +70,7 @@ impl<H: Host> Engine<H> {
         self.stack.push(Frame::Index { array })?;
         Ok(Step::Pieces {
             place: index,
-            so_far: Text::empty(self.alloc),
+            so_far: SoFar::Kept(Text::empty(self.alloc)),
             levels,
         })
     }
@@ -78,7 +80,7 @@ impl<H: Host> Engine<H> {
         &mut self,
         script: Rc<Script>,
         place: Place,
-        so_far: Text,
+        so_far: SoFar,
         levels: u32,
     ) -> Result<Step, NoMemory>
         requires { place.next < 2 ^ 63 }
@@ -108,7 +110,7 @@ impl<H: Host> Engine<H> {
         &mut self,
         name: &Text,
         place: Place,
-        mut so_far: Text,
+        so_far: SoFar,
         levels: u32,
     ) -> Result<Step, NoMemory>
         ensures means { IfOk result (λ step. (names : Names) → Same names H.table self.new self.old (step_next names H.table step) (λ k. read_variable name.now (frame_next names H.table (Frame.Word place so_far levels) k))) }
@@ -120,7 +122,7 @@ impl<H: Host> Engine<H> {
         if value.code != OK {
             return Ok(Step::Value(value));
         }
-        so_far.append(value.result.bytes())?;
+        let so_far = so_far.with(value.result.bytes())?;
         Ok(Step::Pieces {
             place,
             so_far,
@@ -129,19 +131,16 @@ impl<H: Host> Engine<H> {
     }
 
     /// Goes on with the next piece of a word.
-    fn next_piece(&mut self, place: Place, mut so_far: Text, levels: u32) -> Result<Step, NoMemory>
-        ensures means { IfOk result (λ step. (names : Names) → Same names H.table self.new self.old (step_next names H.table step) (run_parts (nested names H.table levels) (place_parts place) so_far)) }
+    fn next_piece(&mut self, place: Place, so_far: SoFar, levels: u32) -> Result<Step, NoMemory>
+        ensures means { IfOk result (λ step. (names : Names) → Same names H.table self.new self.old (step_next names H.table step) (run_kept (nested names H.table levels) (place_parts place) so_far)) }
         ensures falls { IfOk result (λ step. stack_weight self.new.stack.items + step_weight step < stack_weight self.old.stack.items + (parts_size (place_parts place) + 1)) }
         ensures keeps { IfOk result (λ step. Stays step self.new self.old) }
         ensures holds { Holds self.new self.old }
     {
         match place.piece() {
-            None => Ok(Step::Value(Ended {
-                code: OK,
-                result: so_far,
-            })),
+            None => Ok(Step::Value(kept_value(self.alloc, so_far)?)),
             Some(Seen::Bytes(bytes)) => {
-                so_far.append(bytes.bytes())?;
+                let so_far = so_far.with(bytes.bytes())?;
                 Ok(Step::Pieces {
                     place: place.behind(),
                     so_far,
@@ -171,7 +170,7 @@ impl<H: Host> Engine<H> {
         &mut self,
         script: Rc<Script>,
         at: usize,
-        values: Words,
+        values: Gathered,
         levels: u32,
     ) -> Result<Step, NoMemory>
         ensures means { IfOk result (λ step. (names : Names) → Same names H.table self.new self.old (step_next names H.table step) (run_words names H.table (nested names H.table levels) (words_from (length values) (command_at at (tree_of script.value))) values)) }
@@ -182,7 +181,7 @@ impl<H: Host> Engine<H> {
         let word = values.len();
         if !has_word(&script, at, word) {
             return Ok(Step::Stop(Ready::Command {
-                words: values,
+                words: values.into_words(),
                 levels,
             }));
         }
@@ -201,7 +200,7 @@ impl<H: Host> Engine<H> {
         })?;
         Ok(Step::Pieces {
             place,
-            so_far: Text::empty(self.alloc),
+            so_far: SoFar::Kept(Text::empty(self.alloc)),
             levels,
         })
     }
@@ -211,7 +210,7 @@ impl<H: Host> Engine<H> {
         &mut self,
         script: Rc<Script>,
         at: usize,
-        mut values: Words,
+        mut values: Gathered,
         levels: u32,
         value: Ended,
     ) -> Result<Step, NoMemory>
@@ -223,11 +222,69 @@ impl<H: Host> Engine<H> {
         if value.code != OK {
             return Ok(Step::Value(value));
         }
-        if value.result.len() > MOST_BYTES {
-            return Ok(Step::Value(too_long(self.alloc)?));
+        values.push(value.result)?;
+        if (self.budget as u128) < values.cost() {
+            let step = self.next_costly(script, at, values.len(), levels)?;
+            return Ok(step);
         }
-        push_word(&mut values, value.result)?;
         let step = self.next_word(script, at, values, levels)?;
+        Ok(step)
+    }
+
+    /// Goes on with the next word of a command whose first words cost more than is left of the budget.
+    fn next_costly(
+        &mut self,
+        script: Rc<Script>,
+        at: usize,
+        word: usize,
+        levels: u32,
+    ) -> Result<Step, NoMemory>
+        ensures means { IfOk result (λ step. (names : Names) → Same names H.table self.new self.old (step_next names H.table step) (run_costly (nested names H.table levels) (words_from word (command_at at (tree_of script.value))))) }
+        ensures falls { IfOk result (λ step. stack_weight self.new.stack.items + step_weight step ≤ stack_weight self.old.stack.items + words_size (words_from word (command_at at (tree_of script.value)))) }
+        ensures keeps { IfOk result (λ step. Stays step self.new self.old) }
+        ensures holds { Holds self.new self.old }
+    {
+        if !has_word(&script, at, word) {
+            return Ok(Step::Stop(Ready::Spent));
+        }
+        let place = Place {
+            script: script.clone()?,
+            command: at,
+            word,
+            path: Vec::new(self.alloc),
+            next: 0,
+        };
+        self.stack.push(Frame::Costly {
+            script,
+            at,
+            next: word + 1,
+            levels,
+        })?;
+        Ok(Step::Pieces {
+            place,
+            so_far: SoFar::Kept(Text::empty(self.alloc)),
+            levels,
+        })
+    }
+
+    /// Gives a command whose first words cost too much that its next word is there. Its value isn't kept.
+    fn give_costly(
+        &mut self,
+        script: Rc<Script>,
+        at: usize,
+        next: usize,
+        levels: u32,
+        value: Ended,
+    ) -> Result<Step, NoMemory>
+        ensures means { IfOk result (λ step. (names : Names) → Same names H.table self.new self.old (step_next names H.table step) (λ k. frame_next names H.table (Frame.Costly script at next levels) k value.code value.result)) }
+        ensures falls { IfOk result (λ step. stack_weight self.new.stack.items + step_weight step < stack_weight self.old.stack.items + frame_weight (Frame.Costly script at next levels)) }
+        ensures keeps { IfOk result (λ step. Stays step self.new self.old) }
+        ensures holds { Holds self.new self.old }
+    {
+        if value.code != OK {
+            return Ok(Step::Value(value));
+        }
+        let step = self.next_costly(script, at, next, levels)?;
         Ok(step)
     }
 
@@ -235,7 +292,7 @@ impl<H: Host> Engine<H> {
     fn give_piece(
         &mut self,
         place: Place,
-        mut so_far: Text,
+        so_far: SoFar,
         levels: u32,
         value: Ended,
     ) -> Result<Step, NoMemory>
@@ -247,7 +304,7 @@ impl<H: Host> Engine<H> {
         if value.code != OK {
             return Ok(Step::Value(value));
         }
-        so_far.append(value.result.bytes())?;
+        let so_far = so_far.with(value.result.bytes())?;
         Ok(Step::Pieces {
             place,
             so_far,
@@ -280,7 +337,7 @@ impl<H: Host> Engine<H> {
             next: next + 1,
             levels,
         })?;
-        let step = self.next_word(script, next, Words::new(self.alloc), levels)?;
+        let step = self.next_word(script, next, Gathered::new(self.alloc), levels)?;
         Ok(step)
     }
 
@@ -373,6 +430,12 @@ impl<H: Host> Engine<H> {
                 values,
                 levels,
             } => self.give_word(script, at, values, levels, value)?,
+            Frame::Costly {
+                script,
+                at,
+                next,
+                levels,
+            } => self.give_costly(script, at, next, levels, value)?,
             Frame::Word {
                 place,
                 so_far,
@@ -383,7 +446,6 @@ impl<H: Host> Engine<H> {
             Frame::Procedure => self.end_procedure(value)?,
             Frame::Caught { name } => self.end_catch(name, value)?,
             Frame::Expression { expr, levels } => self.give_expression(expr, levels, value)?,
-            Frame::Operand => self.give_operand(value)?,
             Frame::Operation { op } => self.give_operation(op, value)?,
             Frame::Left { op, right, levels } => self.give_left(op, right, levels, value)?,
             Frame::Right { op, left } => self.give_right(op, left, value)?,

@@ -1,6 +1,7 @@
 //! Suspended work.
 
 use crate::branch::Branch;
+use crate::gather::{Gathered, SoFar};
 use crate::place::Place;
 use outside::Question;
 use std::boxed::Box;
@@ -30,14 +31,22 @@ pub enum Frame {
     Command {
         script: Rc<Script>,
         at: usize,
-        values: Words,
+        values: Gathered,
         levels: u32,
     },
-    /// A word, or an index, with the value of its first pieces; it waits for that of the piece before
-    /// `place`.
+    /// A command whose first words cost more than is left of the budget, so that it ends the run once
+    /// its words are there; it waits for the value of the word before `next`.
+    Costly {
+        script: Rc<Script>,
+        at: usize,
+        next: usize,
+        levels: u32,
+    },
+    /// A word, or an index, with what is kept of its first pieces; it waits for the value of the piece
+    /// before `place`. What it comes to isn't too long, or it is an error.
     Word {
         place: Place,
-        so_far: Text,
+        so_far: SoFar,
         levels: u32,
     },
     /// An element of this array, which waits for its index.
@@ -57,8 +66,6 @@ pub enum Frame {
         expr: Expr,
         levels: u32,
     },
-    /// An operand of an expression that is a word, which waits for its value.
-    Operand,
     /// A unary operator, which waits for its operand.
     Operation {
         op: Op,
@@ -113,7 +120,7 @@ pub enum Step {
     /// A word goes on with the pieces at this place.
     Pieces {
         place: Place,
-        so_far: Text,
+        so_far: SoFar,
         levels: u32,
     },
     /// Something is to be paid for, or all ends.

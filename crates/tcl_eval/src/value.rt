@@ -2,8 +2,11 @@
 
 ghost use Rattle.std.specs.Prelude.{◌≡◌, [], IfOk};
 ghost use Rattle.tcl_eval.specs.Messages.{too_long};
+ghost use Rattle.tcl_eval.specs.Kept.{kept_value};
+ghost use Rattle.tcl_eval.specs.declared.gather.SoFar.{SoFar};
 ghost use Rattle.tcl_eval.specs.Eval.{ended, error_of, wrong_words, return_of, raised_of, break_of, continue_of, returned};
 
+use crate::gather::SoFar;
 use crate::message::{outside_loop, wrong_count};
 use crate::stack::Ended;
 use crate::words::{copy_word, word_at};
@@ -28,6 +31,29 @@ pub fn too_long(alloc: Global) -> Result<Ended, NoMemory>
     Ok(Ended {
         code: ERROR,
         result: Text::new(alloc, b"value too long")?,
+    })
+}
+
+/// What a word, or an index, comes to of which no piece is left.
+pub fn kept_value(alloc: Global, so_far: SoFar) -> Result<Ended, NoMemory>
+    ensures { IfOk result (λ value. value ≡ kept_value so_far) }
+{
+    match so_far {
+        SoFar::Kept(result) => judged(alloc, result),
+        SoFar::TooLong => too_long(alloc),
+    }
+}
+
+/// What a word with this value comes to.
+fn judged(alloc: Global, text: Text) -> Result<Ended, NoMemory>
+    ensures { IfOk result (λ value. value ≡ kept_value (SoFar.Kept text)) }
+{
+    if text.len() > MOST_BYTES {
+        return too_long(alloc);
+    }
+    Ok(Ended {
+        code: OK,
+        result: text,
     })
 }
 

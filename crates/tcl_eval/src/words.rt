@@ -64,14 +64,18 @@ pub fn behind_name(words: &Words) -> &[Text]
     }
 }
 
-/// The words of a call of a built-in, with its own name as the first one.
-pub fn with_name(alloc: Global, name: &Text, words: &Words) -> Result<Words, NoMemory>
-    ensures { IfOk result (λ renamed. renamed ≡ name.now ∷ drop 1 words.now) }
+/// The words of a call of a built-in, with its own name as the first one. No other word is copied.
+#[tactic(auto, using(crate::proofs::Rows::first_set, crate::proofs::Rows::first_put))]
+pub fn with_name(alloc: Global, name: &Text, mut words: Words) -> Result<Words, NoMemory>
+    ensures { IfOk result (λ renamed. renamed ≡ name.now ∷ drop 1 words) }
 {
-    let mut renamed = Words::new(alloc);
-    push_word(&mut renamed, Text::new(alloc, name.bytes())?)?;
-    push_all(alloc, &mut renamed, behind_name(words))?;
-    Ok(renamed)
+    let name = Text::new(alloc, name.bytes())?;
+    if words.len() == 0 {
+        push_word(&mut words, name)?;
+        return Ok(words);
+    }
+    drop(words.replace(0, name));
+    Ok(words)
 }
 
 /// Words joined by a space.

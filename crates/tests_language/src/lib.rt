@@ -5,6 +5,8 @@ mod echo;
 #[cfg(test)]
 mod lines;
 #[cfg(test)]
+mod long;
+#[cfg(test)]
 mod marks;
 #[cfg(test)]
 mod pages;

@@ -222,16 +222,16 @@ fn go_on<L: Ledger>(
 /// A script with its budget and depth, and the answers that it is given, with `<-` between them. Each question
 /// is told and charged, or only what it comes to at the end is told.
 #[derive(Clone, Copy)]
-struct Run<'a> {
-    script: &'a [u8],
-    budget: u64,
-    depth: u32,
-    answers: &'a str,
-    tells: bool,
+pub struct Run<'a> {
+    pub script: &'a [u8],
+    pub budget: u64,
+    pub depth: u32,
+    pub answers: &'a str,
+    pub tells: bool,
 }
 
 /// What a run comes to.
-fn played<L: Ledger>(
+pub fn played<L: Ledger>(
     alloc: Global,
     natives: &Natives,
     run: &Run<'_>,
@@ -385,7 +385,7 @@ fn check_answered<L: Ledger, R: Abort + AllocGlobal>(
 }
 
 /// A script: `front`, then so often `unit`, and then as often `close`.
-fn repeated(
+pub fn repeated(
     alloc: Global,
     front: &str,
     unit: &str,

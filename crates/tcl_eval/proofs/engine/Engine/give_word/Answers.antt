@@ -1,33 +1,30 @@
-use Rattle.std.proofs.Common.{◌∙◌, ◌+◌, ◌++◌, [], ◌∷◌, length}
-use Rattle.std.proofs.lemmas.Bool.{lt-ltb, le-ltb}
-use Rattle.tcl_eval.specs.Eval.{run_words, nested, most_bytes}
+use Rattle.std.proofs.Common.{ℕ, ap, ◌∙◌, length}
+use Rattle.tcl_eval.specs.Eval.{nested}
 use Rattle.tcl_eval.specs.Places.{tree_of, command_at, words_from}
 use Rattle.tcl_eval.specs.Stack.{stack_next}
 use Rattle.tcl_eval.specs.Engine.{state_of}
-use Rattle.tcl_eval.proofs.Steps.{other_word, long_word, taken}
+use Rattle.tcl_eval.specs.Kept.{run_costly}
+use Rattle.tcl_eval.proofs.Alike.{run_script_alike}
+use Rattle.tcl_eval.proofs.Kept.{costly_same}
+use Rattle.tcl_eval.proofs.Steps.{taken}
 use Rattle.tcl_eval.proofs.engine.Engine.give_word.Goals as goal
 
-pub returns-then-value-ne-OK-clause-means : goal.returns-then-value-ne-OK-clause-means
-returns-then-value-ne-OK-clause-means g c = λ ns gv.
+pub returns-then-self-cost-clause-means : goal.returns-then-self-cost-clause-means
+returns-then-self-cost-clause-means g c = λ ns gv.
     let t = g.H.Host.table in
     let e = c.args.self.now in
     let all = command_at c.args.at (tree_of c.args.script.value) in
     let k = stack_next ns t e.stack.items in
-    other_word (λ v. run_words ns t (nested ns t c.args.levels) (words_from (length c.args.values + 1) all) (c.args.values ++ v ∷ []) k) k c.args.value (state_of e) e.budget gv c.if-value-ne-OK.true
-
-pub returns-then-len-gt-MOST_BYTES-clause-means : goal.returns-then-len-gt-MOST_BYTES-clause-means
-returns-then-len-gt-MOST_BYTES-clause-means g c = λ ns gv.
-    let t = g.H.Host.table in
-    let e = c.args.self.now in
-    let all = command_at c.args.at (tree_of c.args.script.value) in
-    let k = stack_next ns t e.stack.items in
-    let l = lt-ltb most_bytes (length c.args.value.result) (rw c.len.ensures at c.if-len-gt-MOST_BYTES.true) in
-    long_word (λ v. run_words ns t (nested ns t c.args.levels) (words_from (length c.args.values + 1) all) (c.args.values ++ v ∷ []) k) k c.args.value c.in_ok-too_long.field-0 (state_of e) e.budget gv c.if-value-ne-OK.false l c.in_ok-too_long.ensures
+    let inner = nested ns t c.args.levels in
+    let values = c.push.new.self in
+    c.in_ok-step.ensures.means ns gv
+    ∙ ap (λ (n : ℕ). run_costly inner (words_from n all) k (state_of e) e.budget gv) c.len.ensures
+    ∙ costly_same ns t inner (run_script_alike ns t c.args.levels) (words_from (length values) all) values k (state_of e) e.budget gv (rw c.cost.ensures at c.if-self-cost.true)
+    ∙ taken ns t inner all c.args.values values c.args.value k (state_of e) e.budget gv c.if-value-ne-OK.false c.in_ok-push.ensures
 
 pub returns-clause-means : goal.returns-clause-means
 returns-clause-means g c = λ ns gv.
     let t = g.H.Host.table in
     let e = c.args.self.now in
-    let l = le-ltb most_bytes (length c.args.value.result) (rw c.len.ensures at c.if-len-gt-MOST_BYTES.false) in
-    c.in_ok-step.ensures.means ns gv
-    ∙ taken ns t (nested ns t c.args.levels) (command_at c.args.at (tree_of c.args.script.value)) c.args.values c.push_word.new.words c.args.value (stack_next ns t e.stack.items) (state_of e) e.budget gv c.if-value-ne-OK.false l c.in_ok-push_word.ensures
+    c.in_ok-step-2.ensures.means ns gv
+    ∙ taken ns t (nested ns t c.args.levels) (command_at c.args.at (tree_of c.args.script.value)) c.args.values c.push.new.self c.args.value (stack_next ns t e.stack.items) (state_of e) e.budget gv c.if-value-ne-OK.false c.in_ok-push.ensures

@@ -2,14 +2,20 @@ use Rattle.tcl_eval.specs.Eval.{nested}
 use Rattle.tcl_eval.specs.Stack.{stack_next}
 use Rattle.tcl_eval.specs.Engine.{state_of}
 use Rattle.std.proofs.Common.{◌∙◌}
-use Rattle.tcl_eval.proofs.Steps.{no_piece_left, variable_step, element_step, nested_step}
+use Rattle.tcl_eval.proofs.Steps.{no_piece_left, text_step, variable_step, element_step, nested_step}
 use Rattle.tcl_eval.proofs.engine.Engine.next_piece.Goals as goal
 
-pub returns-in-None-clause-means : goal.returns-in-None-clause-means
-returns-in-None-clause-means g c = λ ns gv.
+pub returns-in_ok-kept_value-in-None-clause-means : goal.returns-in_ok-kept_value-in-None-clause-means
+returns-in_ok-kept_value-in-None-clause-means g c = λ ns gv.
     let t = g.H.Host.table in
     let e = c.args.self.now in
-    no_piece_left ns t c.args.place c.args.so_far (nested ns t c.args.levels) (stack_next ns t e.stack.items) (state_of e) e.budget gv c.in-None.ensures.found
+    no_piece_left ns t c.args.place c.args.so_far c.in_ok-kept_value-in-None.field-0 (nested ns t c.args.levels) (stack_next ns t e.stack.items) (state_of e) e.budget gv c.in-None.ensures.found c.in_ok-kept_value-in-None.ensures
+
+pub returns-in_ok-so_far-in-Some-Bytes-clause-means : goal.returns-in_ok-so_far-in-Some-Bytes-clause-means
+returns-in_ok-so_far-in-Some-Bytes-clause-means g c = λ ns gv.
+    let t = g.H.Host.table in
+    let e = c.args.self.now in
+    text_step ns t c.args.place _ _ _ c.args.so_far _ c.args.levels (stack_next ns t e.stack.items) (state_of e) e.budget gv (rw c.in-Some-Bytes.field-0-is at c.in-Some-Bytes.ensures.found) c.behind.ensures c.in_ok-so_far-in-Some-Bytes.ensures c.bytes.ensures
 
 pub returns-in_ok-step-in-Some-Variable-clause-means : goal.returns-in_ok-step-in-Some-Variable-clause-means
 returns-in_ok-step-in-Some-Variable-clause-means g c = λ ns gv.
