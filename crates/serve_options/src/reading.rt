@@ -1,11 +1,11 @@
 //! Reading the words.
 
-ghost use Rattle.std.specs.Prelude.{◌≡◌, ◌≢◌, Some, IfOk, IfErr, map, codes};
+ghost use Rattle.std.specs.Prelude.{◌≡◌, ◌≢◌, ◌⊎◌, [], Some, IfOk, IfErr, IfSome, map, codes};
 ghost use Rattle.std.specs.List.{All};
 ghost use Rattle.std.specs.Str.{IsUtf8};
-ghost use Rattle.clap.specs.Words.{app_of, kind_of, rows_of, found_of, first_of, matches_of};
+ghost use Rattle.clap.specs.Words.{app_of, kind_of, rows_of, HasKind, fault_of, found_of, first_of, matches_of};
 ghost use Rattle.serve_options.specs.Command.{serve_app};
-ghost use Rattle.serve_options.specs.Reading.{AreTaken, AreReadFrom, AreIn, number_of};
+ghost use Rattle.serve_options.specs.Reading.{AreTaken, AreReadFrom, AreIn, AskForText, number_of};
 ghost use Rattle.serve_options.specs.declared.options.Refused.TheVariants.{BadWords};
 
 use crate::command::serve_command;
@@ -15,8 +15,8 @@ use clap::{ArgMatches, Error};
 use std::alloc::Global;
 use txt_core::{NoMemory, Text, Words};
 
-/// Reads the options. `BadWords` comes only for words that aren't all UTF-8, or of which `clap` doesn't
-/// state that want of memory alone can refuse them.
+/// Reads the options, of words that are all UTF-8 and in which `clap` finds no fault. Of others the error
+/// is `BadWords`, where memory doesn't run out first.
 pub fn read_options(alloc: Global, words: &Words) -> Result<Options, Refused>
     ensures read { IfOk result (AreReadFrom words.now) }
     ensures refused { IfErr result (λ e. e ≡ BadWords → ¬ (AreTaken words.now)) }
@@ -25,25 +25,42 @@ pub fn read_options(alloc: Global, words: &Words) -> Result<Options, Refused>
     matched(alloc, texts.as_slice())
 }
 
-/// The help or the version, ready to be printed, where the words ask for one of them.
-pub fn asked_for(alloc: Global, words: &Words) -> Option<Error> {
-    let texts = as_texts(alloc, words).ok()?;
-    let command = serve_command(alloc).ok()?;
-    match command.try_get_matches_from(texts.as_slice()) {
-        Ok(_) => None,
-        Err(error) => {
-            if error.use_stderr() {
-                None
-            } else {
-                Some(error)
-            }
-        }
+/// The help or the version, ready to be printed, where the words ask for one of them and memory doesn't
+/// run out. Words of which options can be read never do.
+pub fn asked_for(alloc: Global, words: &Words) -> Option<Error>
+    ensures { IfSome result (λ error. AskForText words.now) }
+{
+    let Ok(texts) = as_texts(alloc, words) else {
+        return None;
+    };
+    let error = fault_in(alloc, texts.as_slice())?;
+    shown(error)
+}
+
+// The fault that `clap` finds in the words, where there is one.
+fn fault_in<'a>(alloc: Global, words: &'a [&'a str]) -> Option<Error>
+    ensures { IfSome result (HasKind (fault_of serve_app (map (λ s. s.now) words.now))) }
+{
+    let Ok(command) = serve_command(alloc) else {
+        return None;
+    };
+    command.try_get_matches_from(words).err()
+}
+
+// The error where it is the help or the version.
+fn shown(error: Error) -> Option<Error>
+    ensures { IfSome result (λ e. (e ≡ error) × ((kind_of e ≡ ErrorKind.DisplayHelp) ⊎ (kind_of e ≡ ErrorKind.DisplayVersion))) }
+{
+    match error.kind() {
+        ErrorKind::DisplayHelp | ErrorKind::DisplayVersion => Some(error),
+        _ => None,
     }
 }
 
 // The words as texts.
 fn as_texts<'a>(alloc: Global, words: &'a Words) -> Result<Vec<&'a str>, Refused>
     ensures texts { IfOk result (λ v. map (λ s. s.now) v.items ≡ words.now) }
+    ensures utf8 { IfOk result (λ v. All IsUtf8 words.now) }
     ensures refused { IfErr result (λ e. e ≡ BadWords → ¬ (All IsUtf8 words.now)) }
 {
     let mut texts = Vec::new(alloc);
@@ -62,8 +79,9 @@ fn as_texts<'a>(alloc: Global, words: &'a Words) -> Result<Vec<&'a str>, Refused
 
 // Reads the options from words that are texts.
 fn matched<'a>(alloc: Global, words: &'a [&'a str]) -> Result<Options, Refused>
-    ensures read { IfOk result (AreReadFrom (map (λ s. s.now) words.now)) }
-    ensures refused { IfErr result (λ e. e ≡ BadWords → ¬ (AreTaken (map (λ s. s.now) words.now))) }
+    ensures taken { IfOk result (λ options. fault_of serve_app (map (λ s. s.now) words.now) ≡ []) }
+    ensures read { IfOk result (AreIn (matches_of serve_app (map (λ s. s.now) words.now))) }
+    ensures refused { IfErr result (λ e. e ≡ BadWords → fault_of serve_app (map (λ s. s.now) words.now) ≢ []) }
 {
     let matches = parsed(alloc, words)?;
     let options = options_in(alloc, &matches)?;
@@ -73,7 +91,8 @@ fn matched<'a>(alloc: Global, words: &'a [&'a str]) -> Result<Options, Refused>
 // What `clap` finds in the words.
 fn parsed<'a>(alloc: Global, words: &'a [&'a str]) -> Result<ArgMatches<'a>, Refused>
     ensures matches { IfOk result (λ m. rows_of (found_of m) ≡ matches_of serve_app (map (λ s. s.now) words.now)) }
-    ensures refused { IfErr result (λ e. e ≡ BadWords → ¬ (AreTaken (map (λ s. s.now) words.now))) }
+    ensures taken { IfOk result (λ m. fault_of serve_app (map (λ s. s.now) words.now) ≡ []) }
+    ensures refused { IfErr result (λ e. e ≡ BadWords → fault_of serve_app (map (λ s. s.now) words.now) ≢ []) }
 {
     let command = serve_command(alloc)?;
     match command.try_get_matches_from(words) {

@@ -77,38 +77,39 @@ module _ (names words : List (List ℕ)) (before now : Around) (earlier : IsEarl
   }
 
   -- the start script had no good end
-  pub unstarted : (path : List ℕ) (why : NotStarted) (ended : Ended) (after : Around) → IsStart words path → EndsUnstarted path why ended
+  pub unstarted : (path : List ℕ) (why : NotStarted) (ended : Ended) (after : Around) → AreTaken words → IsStart words path → EndsUnstarted path why ended
       → Misses names path now.pages now.page_faults now.clock after.page_faults why → after.net ≡ now.net → after.pages ≡ now.pages
       → Ends names words before ended after
-  unstarted path (Fault fault) ended after is_start (inl is) misses net pages =
+  unstarted path (Fault fault) ended after taken is_start (inl is) misses net pages =
       subst (λ (z : Ended). Ends names words before z after) (sym is)
       (unserved (ways.BadStart path fault) after net pages (
+        taken,
         is_start,
         badly_earlier names before.pages path before.clock before.page_faults now.page_faults after.page_faults fault earlier.page_faults
             (subst (λ (y : Option PageMap × Option Dial). StartsBadly names path y.0 now.page_faults y.1 after.page_faults fault)
             (λ i. (earlier.pages i, earlier.clock i)) misses),
       ))
-  unstarted path (Fault fault) ended after is_start (inr is) misses net pages =
+  unstarted path (Fault fault) ended after taken is_start (inr is) misses net pages =
       subst (λ (z : Ended). Ends names words before z after) (sym is) (unserved ways.NoMemory after net pages tt)
-  unstarted path NoMemory ended after is_start is misses net pages =
+  unstarted path NoMemory ended after taken is_start is misses net pages =
       subst (λ (z : Ended). Ends names words before z after) (sym is) (unserved ways.NoMemory after net pages tt)
 
-  module _ (path : List ℕ) (after : Around) (is_start : IsStart words path)
+  module _ (path : List ℕ) (after : Around) (taken : AreTaken words) (is_start : IsStart words path)
       (well : StartsWell names path now.pages now.page_faults now.clock after.page_faults) (pages : after.pages ≡ now.pages) where
     started_well : StartsWell names path before.pages before.page_faults before.clock after.page_faults
     started_well = well_earlier names before.pages path before.clock before.page_faults now.page_faults after.page_faults earlier.page_faults
         (subst (λ (y : Option PageMap × Option Dial). StartsWell names path y.0 now.page_faults y.1 after.page_faults) (λ i. (earlier.pages i, earlier.clock i)) well)
 
     by_stop : (why : Stop) → Stops (connections_of words) now.net why after.net → Says names words before (ended_by why) after
-    by_stop stop.Closed s = (inl s.cause, (path, is_start, started_well))
-    by_stop stop.Reached s = (inr s.cause, (path, is_start, started_well))
-    by_stop stop.Fault s = rose_earlier before.net.faults now.net.faults after.net.faults earlier.net s.cause
+    by_stop stop.Closed s = (inl s.cause, (taken, (path, is_start, started_well)))
+    by_stop stop.Reached s = (inr s.cause, (taken, (path, is_start, started_well)))
+    by_stop stop.Fault s = (taken, rose_earlier before.net.faults now.net.faults after.net.faults earlier.net s.cause)
     by_stop stop.NoMemory s = tt
 
     stopped : (why : Stop) → Stops (connections_of words) now.net why after.net → Ends names words before (ended_by why) after
     stopped why s = record {
       says = by_stop why s;
-      started = λ some. (path, is_start, started_well);
+      started = λ some. (taken, (path, is_start, started_well));
       most = s.most;
       faults = let e = earlier.net in let f = s.faults in omega (arith, e, f);
       pages = pages ∙ earlier.pages;
@@ -143,10 +144,10 @@ pub still_new : (net after : NetState) → IsNew net → Keeps net after → IsN
 still_new net after new keeps = (keeps.given ∙ new.0, keeps.ended ∙ new.1)
 
 -- the net didn't listen
-pub unheard : (names words : List (List ℕ)) (before after : Around) → IsNew before.net → Keeps before.net after.net → Rose before.net.faults after.net.faults → after.pages ≡ before.pages
+pub unheard : (names words : List (List ℕ)) (before after : Around) → AreTaken words → IsNew before.net → Keeps before.net after.net → Rose before.net.faults after.net.faults → after.pages ≡ before.pages
     → Ends names words before ways.NetFault after
-unheard names words before after new keeps rose pages = record {
-  says = rose;
+unheard names words before after taken new keeps rose pages = record {
+  says = (taken, rose);
   started = λ some. absurd (some (still_new before.net after.net new keeps).0);
   most = none_given after.net (connections_of words) (still_new before.net after.net new keeps);
   faults = keeps.faults;

@@ -30,21 +30,22 @@ IsStart words path = first_of (codes "start") (matches_of serve_app words) ≡ S
 abbrev pub HasServed : List (List ℕ) → NetState → Type 0
 HasServed words net = (net.ended ≡ true) ⊎ ((connections_of words ≢ 0) × (net.given ≡ connections_of words))
 
--- the start script of the words, from around before to the count of the pages after, ended well; or this was wrong with it
+-- the words are taken, and their start script, from around before to the count of the pages after, ended well
 abbrev pub HasStarted : List (List ℕ) → List (List ℕ) → Around → Around → Type 0
 HasStarted names words before after =
-    (path : List ℕ) × IsStart words path × StartsWell names path before.pages before.page_faults before.clock after.page_faults
+    AreTaken words
+    × ((path : List ℕ) × IsStart words path × StartsWell names path before.pages before.page_faults before.clock after.page_faults)
 
--- What each status says. It names a start script only where the words do.
+-- What each status says. It names a start script only where the words do. All but two come only where the words are taken.
 abbrev pub Says : List (List ℕ) → List (List ℕ) → Around → Ended → Around → Type 0
 -- the net closed or the number was reached, and the start script had ended well
 Says names words before Done after = HasServed words after.net × HasStarted names words before after
--- the words aren't ones of which `clap` states that want of memory alone can refuse them, or one isn't UTF-8; nothing was done
+-- `clap` finds a fault in the words, or one isn't UTF-8; nothing was done
 Says names words before BadWords after = ¬ (AreTaken words) × (after ≡ before)
 Says names words before NoMemory after = Unit {0}
 Says names words before (BadStart path fault) after =
-    IsStart words path × StartsBadly names path before.pages before.page_faults before.clock after.page_faults fault
-Says names words before NetFault after = Rose before.net.faults after.net.faults
+    AreTaken words × IsStart words path × StartsBadly names path before.pages before.page_faults before.clock after.page_faults fault
+Says names words before NetFault after = AreTaken words × Rose before.net.faults after.net.faults
 
 -- A run of the server, where the natives have these names, ends so: its status says what it says; whatever it is, a connection was given
 -- only where the start script had ended well, no more were given than the words ask for, the net's count of faults didn't fall, and the

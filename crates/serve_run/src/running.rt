@@ -259,8 +259,8 @@ fn serve<
 /// One line goes to errors unless all went well, and a fault of errors changes no status.
 ///
 /// - 0: the net has ended, or the number of connections was reached.
-/// - 2, `bad words`: the words aren't ones of which `clap` states that want of memory alone can refuse
-///   them, or one isn't UTF-8. Nothing was done.
+/// - 2, `bad words`: `clap` finds a fault in the words, or one isn't UTF-8. Nothing was done. Such words
+///   end with no other status than this and 5.
 /// - 5, `out of memory`.
 /// - 6, `start: ` and a text: the page of the start script isn't there, can't be read, which comes only
 ///   where the pages' count of faults rose, or is over 1,048,576 bytes; or the script ended in an error,
