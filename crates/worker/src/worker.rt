@@ -6,10 +6,17 @@ use ictl::Interp;
 use std::mem;
 
 /// A worker: its number, and the interpreter that it uses again and again, once there is one.
-#[derive(Drop)]
 pub struct Worker {
     pub(crate) number: u16,
     pub(crate) interp: Option<Interp>,
+}
+
+/// Written out, so that proofs of other crates see one call where a worker is dropped.
+impl Drop for Worker {
+    fn drop(self) {
+        let Worker { number: _, interp } = self;
+        drop(interp);
+    }
 }
 
 impl Worker {
