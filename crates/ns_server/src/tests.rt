@@ -198,6 +198,18 @@ fn load_of_one(status: u8, output: &'static [u8], errors: &'static [u8]) -> Case
     }
 }
 
+/// A load of so many requests that each of its numbers has several digits.
+fn load_of_2000() -> Case {
+    Case {
+        words: &[b"load", b"2000"],
+        ..load_of_one(
+            0,
+            b"requests 2000\nstatus 200 1302\nstatus 404 698\nbytes 328055\n",
+            b"",
+        )
+    }
+}
+
 fn others(words: &'static [&'static [u8]]) -> Case {
     Case {
         words,
@@ -277,6 +289,8 @@ fn loads_tell_what_is_counted(rt: HostRuntime) -> Result<(), Fail> {
             b"requests 1\nstatus 200 1\nstatus 404 0\nbytes 156\n",
             b"",
         ),
+        load_of_2000(),
+        load_of_2000(),
         Case {
             write_fails: &[0],
             ..load_of_one(4, b"", b"write fault\n")

@@ -213,6 +213,44 @@ fn told_of<L: Ledger>(
     Ok(told)
 }
 
+/// What goes out of a run first, where that is a question. The run is left there.
+fn asked_of<L: Ledger>(
+    alloc: Global,
+    interp: &mut Interp,
+    natives: &Natives,
+    run: (&str, &str),
+    steps: &mut Steps<L>,
+) -> Result<Text, NoMemory>
+    requires { IsNew (names_of natives.now) interp.old }
+    ensures { IsSound (names_of natives.now) interp.new }
+{
+    let mut told = Text::empty(alloc);
+    let next = start(alloc, natives, interp, run.0, run.1, steps)?;
+    if let Next::Asks(question) = &next {
+        tell_question(&mut told, &question.words)?;
+    }
+    Ok(told)
+}
+
+/// What goes out of the first of two runs: up to its first question, or up to its end.
+fn first_of<L: Ledger>(
+    alloc: Global,
+    interp: &mut Interp,
+    natives: &Natives,
+    path: &str,
+    is_cut: bool,
+    steps: &mut Steps<L>,
+) -> Result<Text, NoMemory>
+    requires { IsNew (names_of natives.now) interp.old }
+    ensures { IsSound (names_of natives.now) interp.new }
+{
+    if is_cut {
+        asked_of(alloc, interp, natives, ("GET", path), steps)
+    } else {
+        told_of(alloc, interp, natives, ("GET", path), "", steps)
+    }
+}
+
 /// A line: the script of a blueprint, in which `~` is the end of a line; the kind of run and what is run; the
 /// answers of its questions; and what went out, with how it ended. A response counts as a question, to which
 /// no answer goes.
@@ -257,6 +295,14 @@ const RESETS: &str =
 set motd hello~proc m {} {global motd; set r $motd; set motd changed; ns_return 200 text/plain $r}~ns_register_proc GET /m m ; /m ; 200 hello 0  ; /m ; 200 hello 0 
 set motd hello~proc w {} {set x 0123456789abcdef; for {set i 0} {$i < 14} {incr i} {set x $x$x}; while 1 {set y $x}}~proc s {} {global motd; unset motd; set motd(x) 1; w}~proc m {} {global motd; ns_return 200 text/plain $motd}~ns_register_proc GET /s s~ns_register_proc GET /m m ; /s ; 500 budget spent~ spent ; /m ; 200 hello 0 "#;
 
+/// The same, where the first run is left at its first question.
+const CUTS: &str =
+    r#"set motd hello~proc a {} {rename set gone; global motd; unset motd; nsv_get c n}~proc m {} {global motd; set r $motd; ns_return 200 text/plain $r}~ns_register_proc GET /a a~ns_register_proc GET /m m ; /a ; [nsv_get c n]  ; /m ; 200 hello 0 
+proc a {} {ns_eval {proc m {} {}; nsv_get c n}}~proc m {} {ns_return 200 text/plain m}~ns_register_proc GET /a a~ns_register_proc GET /m m ; /a ; [nsv_get c n]  ; /m ; 200 m 0 
+proc a {} {ns_eval {proc v {} {}}}~proc b {} {v; ns_return 200 text/plain b}~ns_register_proc GET /a a~ns_register_proc GET /b b ; /a ; [proc v {} {}~]  ; /b ; 500 500 Internal Server Error~ 0 
+proc a {} {ns_return 200 text/plain x; nsv_get c n}~proc b {} {}~ns_register_proc GET /a a~ns_register_proc GET /b b ; /a ; [nsv_get c n]  ; /b ; 500 500 Internal Server Error~ 0 
+proc hi {} {} ; /p.adp ; [/p.adp]  ; /ho ; 404 404 Not Found~ 0 "#;
+
 fn check_run<L: Ledger, R: Abort + AllocGlobal>(
     rt: &R,
     line: &str,
@@ -295,6 +341,7 @@ fn reset<L: Ledger>(natives: &Natives, interp: &mut Interp, steps: &mut Steps<L>
 fn check_reset<L: Ledger, R: Abort + AllocGlobal>(
     rt: &R,
     line: &str,
+    is_cut: bool,
     steps: &mut Steps<L>,
 ) -> Result<(), Fail> {
     let (script, rest) = line.split_once(" ; ").ok_or("a line has a script")?;
@@ -307,7 +354,7 @@ fn check_reset<L: Ledger, R: Abort + AllocGlobal>(
     let want = meant(rt.alloc(), want)?;
     let made = interp(rt.alloc(), &natives, &script, steps)?;
     let mut interp = made.ok_or("the script is a blueprint")?;
-    let came = told_of(rt.alloc(), &mut interp, &natives, ("GET", first), "", steps);
+    let came = first_of(rt.alloc(), &mut interp, &natives, first, is_cut, steps);
     reset(&natives, &mut interp, steps);
     let again = told_of(
         rt.alloc(),
@@ -333,7 +380,10 @@ fn check_all<L: Ledger, R: Abort + AllocGlobal>(rt: &R, blank: Blank) -> Result<
         check_run(rt, line, &mut steps)?;
     }
     for line in RESETS.lines() {
-        check_reset(rt, line, &mut steps)?;
+        check_reset(rt, line, false, &mut steps)?;
+    }
+    for line in CUTS.lines() {
+        check_reset(rt, line, true, &mut steps)?;
     }
     Ok(())
 }
