@@ -8,7 +8,7 @@ use crate::rows::ROWS;
 use cmd_table::Steps;
 use natives::Natives;
 use outside::{MemSink, MemSource};
-use rehearse::{Counted, Rehearsal, Tally, count_listing, rehearse};
+use rehearse::{Counted, Rehearsal, count_listing, rehearse};
 use std::alloc::{AllocError, Global};
 use std::marker::Brand;
 use std::process::Abort;
@@ -17,7 +17,7 @@ use std::test::Fail;
 use txt_core::{NoMemory, Text};
 
 /// A procedure, its URL, a request of it and a run.
-const HI: &[u8] =
+pub const HI: &[u8] =
     b"define 68\nproc hi {} {ns_return 200 text/plain hi}\nns_register_proc GET /hi hi\nconnect 0 29\nGET /hi HTTP/1.1\r\nHost: l\r\n\r\n\nrun 0\n";
 
 /// What came of it.
@@ -75,7 +75,7 @@ run j~ => bad 1"#;
 /// How many rows there are of each kind.
 const ENDS_COUNT: u64 = 45;
 
-const ROWS_COUNT: u64 = 47;
+const ROWS_COUNT: u64 = 49;
 
 /// The bytes that a line of these writes.
 fn meant(alloc: Global, line: &str) -> Result<Text, AllocError> {
@@ -126,7 +126,7 @@ fn rehearsed<L: Ledger>(
 }
 
 /// The same where nothing fails and the bytes come in one piece.
-fn rehearsed_at_once<L: Ledger>(
+pub fn rehearsed_at_once<L: Ledger>(
     alloc: Global,
     input: &[u8],
     steps: &mut Steps<L>,
@@ -135,7 +135,7 @@ fn rehearsed_at_once<L: Ledger>(
 }
 
 /// What is counted of the listing of a file.
-fn counted<L: Ledger>(
+pub fn counted<L: Ledger>(
     alloc: Global,
     input: &[u8],
     steps: &mut Steps<L>,
@@ -173,7 +173,12 @@ fn check_ends<L: Ledger, R: Abort + AllocGlobal>(rt: &R, steps: &mut Steps<L>) -
 // ---- rows
 
 /// Appends a line and a block behind its length.
-fn push_block(alloc: Global, file: &mut Text, front: &str, block: &[u8]) -> Result<(), NoMemory> {
+pub fn push_block(
+    alloc: Global,
+    file: &mut Text,
+    front: &str,
+    block: &[u8],
+) -> Result<(), NoMemory> {
     let size = block.len();
     file.append(front.as_bytes())?;
     file.append(format!(in alloc; " {size}\n")?.as_bytes())?;
@@ -182,7 +187,7 @@ fn push_block(alloc: Global, file: &mut Text, front: &str, block: &[u8]) -> Resu
 }
 
 /// Appends the event of a line of a row.
-fn push_event(alloc: Global, file: &mut Text, line: &str) -> Result<(), NoMemory> {
+pub fn push_event(alloc: Global, file: &mut Text, line: &str) -> Result<(), NoMemory> {
     let (kind, rest) = line.split_once(' ').unwrap_or((line, ""));
     let (first, tail) = rest.split_once(' ').unwrap_or((rest, ""));
     match kind {
@@ -231,7 +236,7 @@ fn push_reply(alloc: Global, listing: &mut Text, parts: &str) -> Result<(), NoMe
 }
 
 /// Appends what a line of a row's listing stands for.
-fn push_told(alloc: Global, listing: &mut Text, line: &str) -> Result<(), NoMemory> {
+pub fn push_told(alloc: Global, listing: &mut Text, line: &str) -> Result<(), NoMemory> {
     if let Some((front, parts)) = line.split_once(" <") {
         listing.append(front.as_bytes())?;
         listing.append(b"\n")?;
@@ -398,9 +403,14 @@ const INPUTS: &[&str] = &[
     "",
 ];
 
-/// Appends a random event.
-fn push_random(alloc: Global, file: &mut Text, dice: &mut Dice) -> Result<(), NoMemory> {
-    let worker = dice.below(4);
+/// Appends a random event, where there are so many workers.
+fn push_random(
+    alloc: Global,
+    file: &mut Text,
+    dice: &mut Dice,
+    workers: u64,
+) -> Result<(), NoMemory> {
+    let worker = dice.below(workers);
     match dice.below(16) {
         0 | 1 => push_block(
             alloc,
@@ -434,31 +444,28 @@ fn push_random(alloc: Global, file: &mut Text, dice: &mut Dice) -> Result<(), No
     }
 }
 
-/// A random file by a seed: four workers, and so many events.
+/// A random file by a seed: one worker to four, and so many events.
 fn random_file(alloc: Global, seed: u64, events: u64) -> Result<Text, NoMemory> {
     let mut dice = Dice { state: seed };
-    let mut file = Text::new(alloc, b"workers 4\n")?;
+    let workers = dice.below(MOST_WORKERS).saturating_add(1);
+    let mut file = Text::new(alloc, format!(in alloc; "workers {workers}\n")?.as_bytes())?;
     for block in BLOCKS.iter().take(10) {
         push_block(alloc, &mut file, "define", meant(alloc, block)?.bytes())?;
     }
     for _ in 0..events {
-        push_random(alloc, &mut file, &mut dice)?;
+        push_random(alloc, &mut file, &mut dice, workers)?;
     }
-    for end in [
-        "run 0\n",
-        "run 1\n",
-        "run 2\n",
-        "run 3\n",
-        "clock 99\n",
-        "run s\n",
-    ] {
-        file.append(end.as_bytes())?;
+    for worker in 0..workers {
+        file.append(format!(in alloc; "run {worker}\n")?.as_bytes())?;
     }
+    file.append(b"clock 99\nrun s\n")?;
     Ok(file)
 }
 
-/// How many random files are played, and how many events each has.
-const FILES: u64 = 25;
+/// How many random files are played, how many workers each has at most, and how many events.
+const FILES: u64 = 28;
+
+const MOST_WORKERS: u64 = 4;
 
 const EVENTS: u64 = 60;
 
@@ -541,178 +548,6 @@ fn check_bad_event_and_fault<L: Ledger, R: Abort + AllocGlobal>(
     Ok(())
 }
 
-// ---- large files
-
-/// Appends `front`, so often `unit`, and `back`.
-fn push_repeated(
-    text: &mut Text,
-    front: &[u8],
-    unit: &[u8],
-    count: u64,
-    back: &[u8],
-) -> Result<(), NoMemory> {
-    text.append(front)?;
-    for _ in 0..count {
-        text.append(unit)?;
-    }
-    text.append(back)
-}
-
-/// The first file with a connection of 99 requests and these in the place of one.
-fn many_requests(alloc: Global, last: &[u8]) -> Result<Text, NoMemory> {
-    let mut input = Text::empty(alloc);
-    push_repeated(
-        &mut input,
-        b"",
-        b"GET /hi HTTP/1.1\r\nHost: l\r\n\r\n",
-        99,
-        last,
-    )?;
-    let mut file = Text::new(alloc, HI.get(..79).unwrap_or(b""))?;
-    push_block(alloc, &mut file, "connect 0", input.bytes())?;
-    file.append(b"run 0\n")?;
-    Ok(file)
-}
-
-/// What comes of it: 100 responses, the last of which closes, and this end.
-fn many_responses(alloc: Global, end: &str) -> Result<Text, NoMemory> {
-    let mut listing = Text::new(alloc, b"defined 1\n")?;
-    for _ in 0..99 {
-        let line = "response 0 1 156 <200 OK;;text/plain;keep-alive;hi";
-        push_told(alloc, &mut listing, line)?;
-    }
-    push_told(
-        alloc,
-        &mut listing,
-        "response 0 1 151 <200 OK;;text/plain;close;hi",
-    )?;
-    push_told(alloc, &mut listing, end)?;
-    Ok(listing)
-}
-
-/// A connection has a hundred requests at most, whether more would follow or not; where the hundredth asks
-/// to close, that is why it closes.
-fn check_many<L: Ledger, R: Abort + AllocGlobal>(rt: &R, steps: &mut Steps<L>) -> Result<(), Fail> {
-    let cases: [(&[u8], &str); 3] = [
-        (
-            b"GET /hi HTTP/1.1\r\nHost: l\r\n\r\nGET /hi HTTP/1.1\r\nHost: l\r\n\r\n",
-            "closed 0 spent",
-        ),
-        (b"GET /hi HTTP/1.1\r\nHost: l\r\n\r\n", "closed 0 spent"),
-        (
-            b"GET /hi HTTP/1.1\r\nHost: l\r\nConnection: close\r\n\r\n",
-            "closed 0 closing",
-        ),
-    ];
-    for (last, end) in cases {
-        let file = many_requests(rt.alloc(), last)?;
-        let (answer, written) = rehearsed_at_once(rt.alloc(), file.bytes(), steps)?;
-        assert_eq!(rt; answer, Rehearsal::Done);
-        assert!(rt; written.bytes() == many_responses(rt.alloc(), end)?.bytes());
-        let want = Tally {
-            found: 100,
-            missing: 0,
-            bytes: 99 * 156 + 151,
-        };
-        assert_eq!(rt;
-            counted(rt.alloc(), file.bytes(), steps)?,
-            Counted::Done(want)
-        );
-    }
-    Ok(())
-}
-
-/// A head of 16,384 bytes without an end is refused.
-fn check_long_head<L: Ledger, R: Abort + AllocGlobal>(
-    rt: &R,
-    steps: &mut Steps<L>,
-) -> Result<(), Fail> {
-    let alloc = rt.alloc();
-    let mut input = Text::empty(alloc);
-    push_repeated(&mut input, b"", b"AAAAAAAAAAAAAAAA", 1024, b"")?;
-    let mut file = Text::empty(alloc);
-    push_block(alloc, &mut file, "connect 0", input.bytes())?;
-    file.append(b"run 0\n")?;
-    let mut listing = Text::empty(alloc);
-    let reply =
-        "response 0 - 215 <431 Request Header Fields Too Large;;text/plain;close;431 Request Header Fields Too Large~";
-    push_told(alloc, &mut listing, reply)?;
-    push_told(alloc, &mut listing, "closed 0 refused 431")?;
-    let (answer, written) = rehearsed_at_once(alloc, file.bytes(), steps)?;
-    assert_eq!(rt; answer, Rehearsal::Done);
-    assert!(rt; written.bytes() == listing.bytes());
-    Ok(())
-}
-
-/// Pages, each of which includes the next, and a request of the first.
-fn nested_pages(alloc: Global, count: u64) -> Result<Text, NoMemory> {
-    let mut file = Text::empty(alloc);
-    for number in 1..count {
-        let next = number.saturating_add(1);
-        let front = format!(in alloc; "page /p{number}.adp")?;
-        let page = format!(in alloc; "<% ns_adp_include /p{next}.adp %>")?;
-        push_block(alloc, &mut file, front.as_str(), page.as_bytes())?;
-    }
-    let front = format!(in alloc; "page /p{count}.adp")?;
-    push_block(alloc, &mut file, front.as_str(), b"<%= ok %>")?;
-    push_event(alloc, &mut file, "G 0 /p1.adp")?;
-    file.append(b"run 0\n")?;
-    Ok(file)
-}
-
-/// Two hundred pages may stand in one another.
-fn check_nesting<L: Ledger, R: Abort + AllocGlobal>(
-    rt: &R,
-    steps: &mut Steps<L>,
-) -> Result<(), Fail> {
-    let alloc = rt.alloc();
-    let cases = [
-        (200, "response 0 0 155 <200 OK;;text/html;keep-alive;ok"),
-        (
-            201,
-            "response 0 0 191 <500 Internal Server Error;;text/plain;keep-alive;nesting too deep~",
-        ),
-    ];
-    for (count, line) in cases {
-        let mut listing = Text::empty(alloc);
-        push_told(alloc, &mut listing, line)?;
-        push_told(alloc, &mut listing, "closed 0 ended")?;
-        let file = nested_pages(alloc, count)?;
-        let (answer, written) = rehearsed_at_once(alloc, file.bytes(), steps)?;
-        assert_eq!(rt; answer, Rehearsal::Done);
-        assert!(rt; written.bytes() == listing.bytes(), "{count} pages");
-    }
-    Ok(())
-}
-
-/// What is counted: responses of two statuses, and the bytes of all.
-fn check_counts<L: Ledger, R: Abort + AllocGlobal>(
-    rt: &R,
-    steps: &mut Steps<L>,
-) -> Result<(), Fail> {
-    let alloc = rt.alloc();
-    let mut file = Text::new(alloc, HI)?;
-    for line in [
-        "G 0 /none",
-        "run 0",
-        "C 0 GET / HTTP/1.1^~Host: l^~Host: l^~^~",
-        "run 0",
-    ] {
-        push_event(alloc, &mut file, line)?;
-    }
-    let want = Tally {
-        found: 1,
-        missing: 1,
-        bytes: 156 + 176 + 175,
-    };
-    assert_eq!(rt; counted(alloc, file.bytes(), steps)?, Counted::Done(want));
-    let lines = b"requests 3\nstatus 200 1\nstatus 404 1\nbytes 507\n".as_slice();
-    assert_eq!(rt; want.summary(alloc, 3)?.bytes(), lines);
-    let bad = Counted::BadEvent { event: 2 };
-    assert_eq!(rt; counted(alloc, b"run 0\nrun 1\n", steps)?, bad);
-    Ok(())
-}
-
 // ---- the tests
 
 fn check_short_files<L: Ledger, R: Abort + AllocGlobal>(rt: &R, blank: Blank) -> Result<(), Fail>
@@ -758,21 +593,4 @@ fn check_machines<L: Ledger, R: Abort + AllocGlobal>(rt: &R, blank: Blank) -> Re
 #[test]
 fn the_plain_machine_agrees(rt: HostRuntime) -> Result<(), Fail> {
     check_machines::<Brand, HostRuntime>(&rt, Blank::new(1))
-}
-
-fn check_large_files<L: Ledger, R: Abort + AllocGlobal>(rt: &R, blank: Blank) -> Result<(), Fail>
-    requires name { blank.name ≡ L.name }
-    requires parts { blank.parts ≡ L.parts }
-    requires some { 0 < blank.parts }
-{
-    let mut steps = Steps::<L>::new(blank);
-    check_many(rt, &mut steps)?;
-    check_long_head(rt, &mut steps)?;
-    check_nesting(rt, &mut steps)?;
-    check_counts(rt, &mut steps)
-}
-
-#[test]
-fn large_files_have_their_limits(rt: HostRuntime) -> Result<(), Fail> {
-    check_large_files::<Brand, HostRuntime>(&rt, Blank::new(1))
 }
