@@ -9,8 +9,6 @@ mod host;
 mod including;
 mod leaving;
 mod output;
-#[cfg(test)]
-mod tests;
 mod verb;
 
 pub use host::AdpHost;

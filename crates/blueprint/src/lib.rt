@@ -18,6 +18,3 @@ pub use law::{
 pub use reading::from_script;
 pub use reply::{BlueCall, BlueReply, Limit, Look, Published, ScriptFault};
 pub use script::script_of;
-
-#[cfg(test)]
-mod tests;

@@ -53,7 +53,6 @@ pub const RUN_QUESTIONS: u64 = 1_800_000;
 /// Runs requests, scheduled scripts and scripts that make definitions, one after the other, on the
 /// blueprint that it was made from. It can stand at a question. One engine stays in it in every state,
 /// and `reset` makes it as newly made from each.
-#[derive(Drop)]
 pub struct Interp {
     pub(crate) alloc: Global,
     /// The blueprint. Its definitions are those that the engine's table and base scalars have.
@@ -72,6 +71,31 @@ pub struct Interp {
     /// What the request goes through.
     pub(crate) visit: Visit,
     pub(crate) task: Task,
+}
+
+/// Written out, so that proofs of other crates see one call where an interpreter is dropped.
+impl Drop for Interp {
+    fn drop(self) {
+        let Interp {
+            alloc: _,
+            blueprint,
+            spare,
+            routes,
+            cleanups,
+            mark: _,
+            settling,
+            moment: _,
+            visit,
+            task,
+        } = self;
+        drop(blueprint);
+        drop(spare);
+        drop(routes);
+        drop(cleanups);
+        drop(settling);
+        drop(visit);
+        drop(task);
+    }
 }
 
 /// What is answered of a run: want of memory is an answer of its own.

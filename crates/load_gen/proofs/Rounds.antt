@@ -25,7 +25,7 @@ round_of_short number input h k =
 round_short : (x k : ℕ) → k < 1000000 → length (round x k) ≤ 92
 round_short x k h = round_of_short (x % 4) (get_of (target_of (choice x) k)) (omega arith) (get_short (target_of (choice x) k) (target_short (choice x) k h))
 
-rounds_short : (m k x : ℕ) → k + m ≤ 1000000 → length (rounds m k x) ≤ 92 * m
+pub rounds_short : (m k x : ℕ) → k + m ≤ 1000000 → length (rounds m k x) ≤ 92 * m
 rounds_short zero k x h = omega arith
 rounds_short (suc m) k x h =
     let first : length (round (next x) k) ≤ 92 = round_short (next x) k (omega arith) in
@@ -69,13 +69,8 @@ digits_174 =
     decimal_step 174 (omega arith) (omega arith)
     ∙ ap (λ (d : List ℕ). d ++ codes "4") (decimal_step 17 (omega arith) (omega arith) ∙ ap (λ (d : List ℕ). d ++ codes "7") (decimal_digit 1 (omega arith)))
 
-front_is : codes "workers 4\ndefine 174\n" ++ block ++ codes "\n" ≡ front
+pub front_is : codes "workers 4\ndefine 174\n" ++ block ++ codes "\n" ≡ front
 front_is = ap (λ (d : List ℕ). codes "workers 4\ndefine " ++ d ++ codes "\n" ++ block ++ codes "\n") (sym digits_174)
-
-pub at_first : (file : List ℕ) (n x : ℕ) → file ≡ codes "workers 4\ndefine 174\n" ++ block ++ codes "\n" → x ≡ n → file ++ rounds (n + 1 - 1) 1 x ≡ front ++ rounds n 1 n
-at_first file n x is same =
-    let s : n + 1 - 1 ≡ n = omega arith in
-    ap (λ (t : List ℕ). t ++ rounds (n + 1 - 1) 1 x) (is ∙ front_is) ∙ ap (λ (m : ℕ). front ++ rounds m 1 x) s ∙ ap (λ (y : ℕ). front ++ rounds n 1 y) same
 
 rounds_next : (e k x : ℕ) → k < e → rounds (e - k) k x ≡ round (next x) k ++ rounds (e - (k + 1)) (k + 1) (next x)
 rounds_next e k x h = let s : e - k ≡ suc (e - (k + 1)) = omega arith in rw s refl
@@ -89,8 +84,28 @@ one_more file longer all e k x y h drawn gained is =
     ∙ ap (λ (more : List ℕ). file ++ more) (sym (rounds_next e k x h))
     ∙ is
 
-pub at_last : (file longer : List ℕ) (n e k x : ℕ) → e ≤ k → longer ≡ file ++ back → file ++ rounds (e - k) k x ≡ front ++ rounds n 1 n → longer ≡ load_file n
-at_last file longer n e k x h gained is =
-    let none : e - k ≡ 0 = omega arith in
-    let whole : file ≡ front ++ rounds n 1 n = sym (append-nil file) ∙ ap (λ (m : ℕ). file ++ rounds m k x) (sym none) ∙ is in
-    gained ∙ ap (λ (text : List ℕ). text ++ back) whole
+-- ---- so many connections, and others behind them
+
+pub at_first : (file : List ℕ) (first count more x : ℕ) → file ++ rounds (first + count + more - first) first x ≡ file ++ rounds (count + more) first x
+at_first file first count more x =
+    let s : first + count + more - first ≡ count + more = omega arith in
+    ap (λ (m : ℕ). file ++ rounds m first x) s
+
+pub at_last : (file all : List ℕ) (e more k x : ℕ) → k ≡ e → file ++ rounds (e + more - k) k x ≡ all → file ++ rounds more e x ≡ all
+at_last file all e more k x at is =
+    let s : e + more - k ≡ more = omega (arith, at) in
+    ap (λ (n : ℕ). file ++ rounds more n x) (sym at) ∙ ap (λ (m : ℕ). file ++ rounds m k x) (sym s) ∙ is
+
+-- none others behind them
+pub whole_rounds : (file begun : List ℕ) (e count k x y : ℕ) → file ++ rounds 0 e y ≡ begun ++ rounds (count + 0) k x → file ≡ begun ++ rounds count k x
+whole_rounds file begun e count k x y is =
+    let s : count + 0 ≡ count = omega arith in
+    sym (append-nil file) ∙ is ∙ ap (λ (m : ℕ). begun ++ rounds m k x) s
+
+-- ---- the file as it was written
+
+pub written_whole : (first file longer : List ℕ) (n e x y : ℕ) → first ≡ codes "workers 4\ndefine 174\n" ++ block ++ codes "\n" → x ≡ n
+    → file ++ rounds 0 e y ≡ first ++ rounds (n + 0) 1 x → longer ≡ file ++ back → longer ≡ load_file n
+written_whole first file longer n e x y begins same is gained =
+    gained ∙ ap (λ (t : List ℕ). t ++ back)
+    (whole_rounds file first e n 1 x y is ∙ ap (λ (t : List ℕ). t ++ rounds n 1 x) (begins ∙ front_is) ∙ ap (λ (z : ℕ). front ++ rounds n 1 z) same)

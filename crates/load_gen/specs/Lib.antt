@@ -2,3 +2,4 @@
 pub mod Load
 -- What only proofs use.
 pub mod Targets
+pub mod Parts

@@ -65,3 +65,7 @@ most_requests = 100000
 -- a file has fewer bytes than this
 abbrev pub file_limit : ℕ
 file_limit = 12000000
+
+-- a piece of a file has at most so many bytes
+abbrev pub piece_limit : ℕ
+piece_limit = 48000

@@ -2,13 +2,15 @@
 //! while all take steps in turn.
 #![tactic(auto)]
 
-ghost use Rattle.std.specs.Prelude.{◌≡◌, ◌<◌, ◌≤◌, ◌++◌, ℕ, length, IfOk, OnOk, decimal};
+ghost use Rattle.std.specs.Prelude.{◌≡◌, ◌<◌, ◌≤◌, ◌+◌, ◌++◌, ℕ, length, IfOk, OnOk, decimal};
 ghost use Rattle.load_gen.specs.Targets.{written};
-ghost use Rattle.load_gen.specs.Load.{next, choice, target_of, get_of, round, load_file, most_requests, file_limit};
+ghost use Rattle.load_gen.specs.Load.{next, choice, target_of, get_of, round, rounds, load_file, most_requests, file_limit};
 
 mod law;
+mod pieces;
 
 pub use law::loads_are_short;
+pub use pieces::Pieces;
 use std::alloc::Global;
 use txt_core::{NoMemory, Text, write_natural};
 
@@ -104,6 +106,28 @@ fn push_round(alloc: Global, file: &mut Text, x: u64, k: u32) -> Result<(), NoMe
     file.append(b"\nstep 0\nstep 1\nstep 2\nstep 3\n")
 }
 
+/// Appends the events of so many connections, the first of which is the k-th, behind the number that was
+/// drawn last, and gives the number that is drawn last then. The only error is want of memory.
+fn push_rounds(
+    alloc: Global,
+    file: &mut Text,
+    drawn: u64,
+    first: u32,
+    count: u32,
+) -> Result<u64, NoMemory>
+    requires below { drawn < 2147483648 }
+    requires few { first + count ≤ most_requests + 1 }
+    ensures below { IfOk result (λ last. last < 2147483648) }
+    ensures rounds { (more : ℕ) → IfOk result (λ last. file.new ++ rounds more (first + count) last ≡ file.old ++ rounds (count + more) first drawn) }
+{
+    let mut x = drawn;
+    for k in first..first + count {
+        x = next(x);
+        push_round(alloc, file, x, k)?;
+    }
+    Ok(x)
+}
+
 /// A rehearsal file of so many connections, from 1 to 100,000. It has fewer than 12,000,000 bytes. The
 /// only error is want of memory.
 pub fn load(alloc: Global, n: u32) -> Result<Text, NoMemory>
@@ -113,14 +137,7 @@ pub fn load(alloc: Global, n: u32) -> Result<Text, NoMemory>
     ensures short { IfOk result (λ file. length file < file_limit) }
 {
     let mut file = Text::new(alloc, FRONT)?;
-    let mut x = u64::from(n);
-    for k in 1..n + 1 {
-        x = next(x);
-        push_round(alloc, &mut file, x, k)?;
-    }
+    push_rounds(alloc, &mut file, u64::from(n), 1, n)?;
     file.append(BACK)?;
     Ok(file)
 }
-
-#[cfg(test)]
-mod tests;

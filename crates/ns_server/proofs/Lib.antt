@@ -3,3 +3,4 @@ pub mod WordLines
 pub mod EventSpelling
 pub mod OneLoad
 pub mod Loading
+pub mod Making

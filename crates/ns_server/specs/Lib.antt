@@ -5,3 +5,4 @@ pub mod Running
 pub mod Natives
 -- What only proofs use.
 pub mod Answers
+pub mod Made

@@ -49,6 +49,7 @@ macro_rules! add_natives {
 
 mod command_line;
 mod machine;
+mod made;
 mod program;
 mod status;
 mod streams;

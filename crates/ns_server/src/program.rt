@@ -11,9 +11,10 @@ ghost use Rattle.ns_server.specs.Answers.{WritesSummary};
 ghost use Rattle.outside.specs.Nets.{IsNew};
 ghost use Rattle.ns_server.specs.Running.{Streams, Ends, AsksLoad, AsksServer, LoadMeans, Runs};
 
+use crate::made::MadeFile;
 use crate::status::Status;
 use cmd_table::Steps;
-use load_gen::{MOST_REQUESTS, load};
+use load_gen::MOST_REQUESTS;
 use natives::Natives;
 use outside::{Clock, Gate, Net, Pages, Sent, Sink, Source, write_all};
 use rehearse::{Counted, Tally, count_listing, read_number, rehearse};
@@ -74,8 +75,8 @@ fn write_summary<K: Sink>(alloc: Global, requests: u32, tally: Tally, output: &m
     }
 }
 
-/// Plays the file of so many requests, which holds events and nothing else, and writes what is counted of
-/// its listing.
+/// Plays the file of so many requests, which holds events and nothing else and is made as it is read, and
+/// writes what is counted of its listing.
 fn run_load<K: Sink, L: Ledger>(
     alloc: Global,
     natives: &Natives,
@@ -87,13 +88,12 @@ fn run_load<K: Sink, L: Ledger>(
     requires few { requests ≤ most_requests }
     ensures { (before : Streams) → before.output ≡ K.taken output.old → before.write_faults ≡ K.faults output.old → LoadMeans (names_of natives.now) result requests before (record before { output = K.taken output.new; write_faults = K.faults output.new }) }
 {
-    let Ok(file) = load(alloc, requests) else {
-        return Status::NoMemory;
-    };
-    match count_listing(alloc, natives, file, steps) {
+    let mut file = MadeFile::new(alloc, requests);
+    match count_listing(alloc, natives, &mut file, steps) {
         Counted::Done(tally) => write_summary(alloc, requests, tally, output),
         Counted::BadEvent { .. } => unreachable!(),
-        Counted::NoMemory => Status::NoMemory,
+        // the file fails for want of memory alone
+        Counted::ReadFault | Counted::NoMemory => Status::NoMemory,
     }
 }
 

@@ -1,6 +1,6 @@
 //! Which words are a question on shared arrays.
 
-ghost use Rattle.std.specs.Prelude.{◌≡◌, ◌≤◌, ◌<◌, length, bytes_eq, IfSome};
+ghost use Rattle.std.specs.Prelude.{◌≡◌, ◌≤◌, ◌<◌, length, bytes_eq, is_some, IfSome};
 ghost use Rattle.nsv_bucket.specs.Questions.{word_at, asks, asks_array, is_bucket_number, array_question_of, adding_question_of, question_of, least_words};
 
 use txt_core::{Text, Words};
@@ -146,4 +146,11 @@ pub(crate) fn read_question(words: &Words) -> Option<Question>
     } else {
         adding_question(words)
     }
+}
+
+/// Whether the words are a question on shared arrays.
+pub fn is_question(words: &Words) -> bool
+    ensures { result ≡ is_some (question_of words.now) }
+{
+    read_question(words).is_some()
 }

@@ -55,10 +55,11 @@ summary requests tally =
     ++ line_of (codes "bytes" ∷ decimal tally.bytes ∷ [])
 
 -- What was counted of a file: of the listing of the events that it holds, where it holds nothing else; or the event of this number is
--- none.
+-- none. Nothing is said where the source failed or memory ran out.
 abbrev pub Counts : List (List ℕ) → List ℕ → Counted → Type 0
 Counts natives file (counts.Done tally) =
     (events : List Event) × (lines : List Line) × Holds natives file events lines whole × (tally ≡ tally_of lines)
 Counts natives file (counts.BadEvent event) =
     (events : List Event) × (lines : List Line) × Holds natives file events lines (bad event)
+Counts natives file counts.ReadFault = Unit {0}
 Counts natives file counts.NoMemory = Unit {0}

@@ -100,10 +100,14 @@ impl Intake {
         &self.bytes[self.used..]
     }
 
-    /// Lets go of what was played.
+    /// Lets go of what was played. Where that is nothing, nothing is moved: so a long event isn't copied at
+    /// each piece of it that comes.
     fn drop_used(&mut self)
         ensures { self.new ≡ self.old }
     {
+        if self.used == 0 {
+            return;
+        }
         let len = self.bytes.len();
         self.bytes.copy_within(self.used..len, 0);
         self.bytes.truncate(len - self.used);

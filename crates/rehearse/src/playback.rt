@@ -1,10 +1,12 @@
 //! The rehearsal of a file.
 
-ghost use Rattle.std.specs.Prelude.{◌≡◌, ◌≤◌, ◌+◌, [], ℕ, List, length, true, IfOk, OnOk, OnErr};
+ghost use Rattle.std.specs.Prelude.{◌≡◌, ◌≤◌, ◌+◌, [], ℕ, List, length, true, Some, IfOk, OnOk, OnErr};
 ghost use Rattle.natives.specs.Names.{names_of};
 ghost use Rattle.rehearse.specs.Events.{most_bytes};
 ghost use Rattle.rehearse.specs.Rehearsing.{Outside, Rehearses};
+ghost use Rattle.outside.specs.Faults.{Rose};
 ghost use Rattle.rehearse.specs.Summary.{Counts};
+ghost use Rattle.rehearse.specs.declared.playback.Counted.TheVariants as counted;
 ghost use Rattle.rehearse.specs.Playing.{outside_of, IsMachineReady, SoFar, PlaysOne, PassesOn, IsOfSink, IsCounted};
 
 use crate::answer::Rehearsal;
@@ -12,14 +14,13 @@ use crate::event::read_event;
 use crate::intake::Intake;
 use crate::listing::Listing;
 use crate::machine::Machine;
-use crate::supply::Supply;
 use crate::tally::Tally;
 use cmd_table::Steps;
 use natives::Natives;
 use outside::{Sent, Sink, Source, WriteAnswer, write_all};
 use std::alloc::Global;
 use std::sync::ledger::Ledger;
-use txt_core::{NoMemory, Text};
+use txt_core::NoMemory;
 
 /// A rehearsal under way.
 #[derive(Drop)]
@@ -164,6 +165,8 @@ pub enum Counted {
     Done(Tally),
     /// The event of this number, counted from 1, is none.
     BadEvent { event: u64 },
+    /// The source failed, and its count of faults rose.
+    ReadFault,
     /// Memory ran out.
     NoMemory,
 }
@@ -184,24 +187,26 @@ impl Sink for Nowhere {
     }
 }
 
-/// Plays a file of events, as a rehearsal does, and counts its listing in place of writing it.
-pub fn count_listing<L: Ledger>(
+/// Plays the file of events that a source gives, as a rehearsal does, and counts its listing in place of
+/// writing it.
+pub fn count_listing<S: Source, L: Ledger>(
     alloc: Global,
     natives: &Natives,
-    file: Text,
+    source: &mut S,
     steps: &mut Steps<L>,
 ) -> Counted
-    ensures { Counts (names_of natives.now) file result }
+    ensures counts { (file : List ℕ) → S.rest source.old ≡ Some file → Counts (names_of natives.now) file result }
+    ensures fault { result ≡ counted.ReadFault → Rose (S.faults source.old) (S.faults source.new) }
 {
     let Ok(mut play) = Play::new(alloc, natives) else {
         return Counted::NoMemory;
     };
-    let mut source = Supply::new(file);
     let mut sink = Nowhere;
-    match play.play_all(natives, &mut source, &mut sink, steps) {
+    match play.play_all(natives, source, &mut sink, steps) {
         Ok(Rehearsal::Done) => Counted::Done(play.listing.tally),
         Ok(Rehearsal::BadEvent { event }) => Counted::BadEvent { event },
-        Ok(Rehearsal::ReadFault | Rehearsal::WriteFault { .. }) => unreachable!(),
+        Ok(Rehearsal::ReadFault) => Counted::ReadFault,
+        Ok(Rehearsal::WriteFault { .. }) => unreachable!(),
         Ok(Rehearsal::NoMemory) | Err(NoMemory) => Counted::NoMemory,
     }
 }

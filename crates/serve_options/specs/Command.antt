@@ -17,7 +17,7 @@ abbrev pub IsLocal : Arg → Type 0
 IsLocal option = option.global ≡ false
 
 abbrev pub bare_app : App
-bare_app = let a = new_app (codes "serve") in record a { top = record a.top { has_version = true } }
+bare_app = let a = new_app (codes "ns_server") in record a { top = record a.top { has_version = true } }
 
 -- the command with the options that are required
 abbrev pub required_app : App

@@ -7,8 +7,6 @@
 mod command;
 mod options;
 mod reading;
-#[cfg(test)]
-mod tests;
 
 pub use options::{Options, Refused};
 pub use reading::{asked_for, read_options};

@@ -16,8 +16,6 @@ mod registering;
 mod reply;
 mod scheduling;
 mod sharing;
-#[cfg(test)]
-mod tests;
 mod verb;
 
 pub use edition::Edition;

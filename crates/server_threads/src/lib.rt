@@ -11,8 +11,6 @@ mod parts;
 mod running;
 mod side;
 mod staff;
-#[cfg(test)]
-mod tests;
 
 pub use accepting::{Stop, accept_all};
 pub use running::{Plan, serve_all};

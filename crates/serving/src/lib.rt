@@ -18,6 +18,3 @@ pub use law::made_is_published;
 pub use pages::page_answer;
 pub use publishing::{Asked, publish_call, published_answer, save_call};
 pub use schedule::{sched_answer, sched_call};
-
-#[cfg(test)]
-mod tests;

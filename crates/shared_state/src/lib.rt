@@ -7,8 +7,6 @@
 
 mod law;
 mod shared;
-#[cfg(test)]
-mod tests;
 
 pub use law::arrays_are_lines;
 pub use shared::{Finals, Passes, Shared};

@@ -8,6 +8,3 @@ mod stage;
 pub use event::{Counts, Do, Event};
 pub use law::stages_follow_in_order;
 pub use stage::Stage;
-
-#[cfg(test)]
-mod tests;

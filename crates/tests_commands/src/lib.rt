@@ -20,4 +20,6 @@ mod tables;
 #[cfg(test)]
 mod taken_back;
 #[cfg(test)]
+mod telling;
+#[cfg(test)]
 mod variables;

@@ -1,4 +1,5 @@
-use natives::{Fault, Native};
+use crate::telling::{called, check_meant, parts, words_meant};
+use natives::Native;
 use std::alloc::{AllocGlobal, Global};
 use std::process::Abort;
 use std::test::Fail;
@@ -7,21 +8,6 @@ use tcl_listcmd::{
     lreplace_command, lsearch_command, lsort_command,
 };
 use txt_core::{NoMemory, Text, Words};
-
-/// The texts that each end at a bar.
-fn words_of(alloc: Global, ended: &[u8]) -> Result<Words, Fail> {
-    let mut words = Words::new(alloc);
-    let mut word = Vec::new(alloc);
-    for b in ended {
-        if *b == b'|' {
-            words.push(Text::from_vec(word))?;
-            word = Vec::new(alloc);
-        } else {
-            word.push(*b)?;
-        }
-    }
-    Ok(words)
-}
 
 /// The native of the name that is the first word.
 fn find<'a>(natives: &'a [Native], words: &Words) -> Option<&'a Native> {
@@ -32,22 +18,6 @@ fn find<'a>(natives: &'a [Native], words: &Words) -> Option<&'a Native> {
         }
     }
     None
-}
-
-/// What the native of the name that is the first word answers, its error's text too, or `none` where there
-/// is none or the words are out of its range.
-fn came(alloc: Global, natives: &[Native], words: &Words) -> Result<Text, Fail> {
-    let Some(native) = find(natives, words) else {
-        return Ok(Text::new(alloc, b"none")?);
-    };
-    let (least, most) = (native.least() as usize, native.most() as usize);
-    if words.len() < least || most < words.len() {
-        return Ok(Text::new(alloc, b"none")?);
-    }
-    match native.call(alloc, words) {
-        Ok(text) | Err(Fault::Error(text)) => Ok(text),
-        Err(Fault::NoMemory) => Err(Fail::new("out of memory")),
-    }
 }
 
 /// Words that each end at a bar, and what they come to.
@@ -92,52 +62,76 @@ lsort|x|a b| => bad value "x" for "lsort"
 concat| a b~||c|  | => a b c
 concat| => `"#;
 
-/// The bytes that a part of a line writes: `~` is a newline, `^` a space, `_` a tab, `@` a carriage return
-/// and a backquote nothing.
-fn meant(alloc: Global, part: &str) -> Result<Text, NoMemory> {
-    let mut text = Text::empty(alloc);
-    for byte in part.as_bytes() {
-        match *byte {
-            b'~' => text.append(b"\n")?,
-            b'^' => text.append(b" ")?,
-            b'_' => text.append(b"\t")?,
-            b'@' => text.append(b"\r")?,
-            b'`' => {}
-            other => text.append(&[other])?,
-        }
-    }
-    Ok(text)
+/// What the natives answer to words.
+fn came(alloc: Global, natives: &[Native], words: &Words) -> Result<Text, Fail> {
+    called(alloc, find(natives, words), words)
+}
+
+/// Calls the natives on the words of a row.
+fn check_row<R: Abort + AllocGlobal>(rt: &R, natives: &[Native], line: &str) -> Result<(), Fail> {
+    let (words, want) = parts(line)?;
+    let came = came(rt.alloc(), natives, &words_meant(rt.alloc(), words, "|")?)?;
+    check_meant(rt, &came, want, line)
 }
 
 /// Calls the natives on the words of each row.
 fn check_rows<R: Abort + AllocGlobal>(rt: &R, natives: &[Native]) -> Result<(), Fail> {
     let mut count = 0u64;
     for line in ROWS.lines() {
-        let (words, want) = line.split_once(" => ").ok_or("a line has an arrow")?;
-        let words = words_of(rt.alloc(), meant(rt.alloc(), words)?.bytes())?;
-        let want = meant(rt.alloc(), want)?;
-        let came = came(rt.alloc(), natives, &words)?;
-        assert_eq!(rt; came.bytes(), want.bytes(), "{line}");
+        check_row(rt, natives, line)?;
         count = count.wrapping_add(1);
     }
     assert_eq!(rt; count, 40);
     Ok(())
 }
 
-#[test]
+/// Adds the natives that make a list of words, or take a part of one.
 #[tactic(auto, unfolding(natives::specs::Ranges::range_of))]
+fn add_parts(alloc: Global, natives: &mut Vec<Native>) -> Result<(), NoMemory> {
+    let list = Native::new(Text::new(alloc, b"list")?, 1, 200_001, list_command);
+    natives.push(list)?;
+    let lindex = Native::new(Text::new(alloc, b"lindex")?, 3, 3, lindex_command);
+    natives.push(lindex)?;
+    let lrange = Native::new(Text::new(alloc, b"lrange")?, 4, 4, lrange_command);
+    natives.push(lrange)?;
+    Ok(())
+}
+
+/// Adds the natives that change lists.
+#[tactic(auto, unfolding(natives::specs::Ranges::range_of))]
+fn add_changes(alloc: Global, natives: &mut Vec<Native>) -> Result<(), NoMemory> {
+    let linsert = Native::new(Text::new(alloc, b"linsert")?, 4, 200_001, linsert_command);
+    natives.push(linsert)?;
+    let lreplace = Native::new(Text::new(alloc, b"lreplace")?, 4, 200_001, lreplace_command);
+    natives.push(lreplace)?;
+    let concat = Native::new(Text::new(alloc, b"concat")?, 1, 200_001, concat_command);
+    natives.push(concat)?;
+    Ok(())
+}
+
+/// Adds the natives that look at all elements of a list.
+#[tactic(auto, unfolding(natives::specs::Ranges::range_of))]
+fn add_looks(alloc: Global, natives: &mut Vec<Native>) -> Result<(), NoMemory> {
+    let llength = Native::new(Text::new(alloc, b"llength")?, 2, 2, llength_command);
+    natives.push(llength)?;
+    let lsearch = Native::new(Text::new(alloc, b"lsearch")?, 3, 4, lsearch_command);
+    natives.push(lsearch)?;
+    let lsort = Native::new(Text::new(alloc, b"lsort")?, 2, 6, lsort_command);
+    natives.push(lsort)?;
+    Ok(())
+}
+
+/// The natives on lists.
+fn natives_on_lists(alloc: Global) -> Result<Vec<Native>, NoMemory> {
+    let mut natives = Vec::new(alloc);
+    add_parts(alloc, &mut natives)?;
+    add_changes(alloc, &mut natives)?;
+    add_looks(alloc, &mut natives)?;
+    Ok(natives)
+}
+
+#[test]
 fn commands_on_lists(rt: HostRuntime) -> Result<(), Fail> {
-    let alloc = rt.alloc();
-    let natives = [
-        Native::new(Text::new(alloc, b"list")?, 1, 200_001, list_command),
-        Native::new(Text::new(alloc, b"lindex")?, 3, 3, lindex_command),
-        Native::new(Text::new(alloc, b"llength")?, 2, 2, llength_command),
-        Native::new(Text::new(alloc, b"lrange")?, 4, 4, lrange_command),
-        Native::new(Text::new(alloc, b"linsert")?, 4, 200_001, linsert_command),
-        Native::new(Text::new(alloc, b"lreplace")?, 4, 200_001, lreplace_command),
-        Native::new(Text::new(alloc, b"lsearch")?, 3, 4, lsearch_command),
-        Native::new(Text::new(alloc, b"lsort")?, 2, 6, lsort_command),
-        Native::new(Text::new(alloc, b"concat")?, 1, 200_001, concat_command),
-    ];
+    let natives = natives_on_lists(rt.alloc())?;
     check_rows(&rt, natives.as_slice())
 }

@@ -1,6 +1,7 @@
 ghost use Rattle.std.specs.Prelude.{◌≡◌, ◌++◌, ◌∷◌, [], false, OnOk};
 ghost use Rattle.natives.specs.Names.{name_of, names_of, has_name};
 
+use crate::telling::{check_meant, check_same, parts, words_meant};
 use natives::{Fault, Native, Natives};
 use std::alloc::{AllocGlobal, Global};
 use std::process::Abort;
@@ -16,40 +17,6 @@ fn add(natives: &mut Natives, native: Native) -> Result<(), NoMemory>
     match natives.add(native) {
         Ok(()) => Ok(()),
         Err(_) => Err(NoMemory),
-    }
-}
-
-/// The texts that each end at an exclamation mark.
-fn words_of(alloc: Global, ended: &[u8]) -> Result<Words, Fail> {
-    let mut words = Words::new(alloc);
-    let mut word = Vec::new(alloc);
-    for b in ended {
-        if *b == b'!' {
-            words.push(Text::from_vec(word))?;
-            word = Vec::new(alloc);
-        } else {
-            word.push(*b)?;
-        }
-    }
-    Ok(words)
-}
-
-/// What words come to, a result or an error's text, or `none` where no native takes them.
-fn came(alloc: Global, natives: &Natives, words: &Words) -> Result<Text, Fail> {
-    let none = Text::new(alloc, b"none")?;
-    let Some(name) = words.get(0) else {
-        return Ok(none);
-    };
-    let Some(native) = natives.find(name) else {
-        return Ok(none);
-    };
-    let (least, most) = (native.least() as usize, native.most() as usize);
-    if words.len() < least || most < words.len() {
-        return Ok(none);
-    }
-    match native.call(alloc, words) {
-        Ok(text) | Err(Fault::Error(text)) => Ok(text),
-        Err(Fault::NoMemory) => Err(Fail::new("out of memory")),
     }
 }
 
@@ -107,58 +74,155 @@ join!a {b c} {}! => a b c^
 join!a {b c} d!, ! => a, b c, d
 join!a {b! => bad list at 2"#;
 
-/// The bytes that a part of a line writes: `~` is a newline, `^` a space, `_` a tab, `@` a carriage return
-/// and a backquote nothing.
-fn meant(alloc: Global, part: &str) -> Result<Text, NoMemory> {
-    let mut text = Text::empty(alloc);
-    for byte in part.as_bytes() {
-        match *byte {
-            b'~' => text.append(b"\n")?,
-            b'^' => text.append(b" ")?,
-            b'_' => text.append(b"\t")?,
-            b'@' => text.append(b"\r")?,
-            b'`' => {}
-            other => text.append(&[other])?,
-        }
+/// How often `%1000%` stands in a pattern, what stands behind it and the words, each ended by an
+/// exclamation mark, and the number of bytes or the error that `format` comes to.
+const LONG_ROWS: &str = r#"1!%%! => 1001
+1048!%576s!x! => 1048576
+1048!%577s!x! => value too long
+1048!%576s%%!x! => value too long
+1049!! => value too long
+1049!%s!x! => value too long
+1049!%d!-7! => value too long
+1049!%d!x! => expected integer but got "x"
+1049!%x!0y! => expected integer but got "0y"
+1049!%s%x%c!a!7!b! => expected integer but got "b"
+1049!%c!55296! => bad value "55296" for "format"
+1049!%s%d%d!x!y!z! => expected integer but got "y"
+1049!%d! => wrong number of words for "format"
+170000!%d!x! => expected integer but got "x"
+170000!! => value too long"#;
+
+/// What the natives answer to words, or `none` where there is no native of that name or the words are out
+/// of its range.
+fn came(alloc: Global, natives: &Natives, words: &Words) -> Result<Text, Fail> {
+    let none = Text::new(alloc, b"none")?;
+    let Some(name) = words.get(0) else {
+        return Ok(none);
+    };
+    let Some(native) = natives.find(name) else {
+        return Ok(none);
+    };
+    let (least, most) = (native.least() as usize, native.most() as usize);
+    if words.len() < least || most < words.len() {
+        return Ok(none);
     }
-    Ok(text)
+    match native.call(alloc, words) {
+        Ok(text) | Err(Fault::Error(text)) => Ok(text),
+        Err(Fault::NoMemory) => Err(Fail::new("out of memory")),
+    }
+}
+
+/// Calls the natives on the words of a row.
+fn check_row<R: Abort + AllocGlobal>(rt: &R, natives: &Natives, line: &str) -> Result<(), Fail> {
+    let (words, want) = parts(line)?;
+    let came = came(rt.alloc(), natives, &words_meant(rt.alloc(), words, "!")?)?;
+    check_meant(rt, &came, want, line)
 }
 
 /// Calls the natives on the words of each row.
 fn check_rows<R: Abort + AllocGlobal>(rt: &R, natives: &Natives) -> Result<(), Fail> {
     let mut count = 0u64;
     for line in ROWS.lines() {
-        let (words, want) = line.split_once(" => ").ok_or("a line has an arrow")?;
-        let words = words_of(rt.alloc(), meant(rt.alloc(), words)?.bytes())?;
-        let want = meant(rt.alloc(), want)?;
-        let came = came(rt.alloc(), natives, &words)?;
-        assert_eq!(rt; came.bytes(), want.bytes(), "{line}");
+        check_row(rt, natives, line)?;
         count = count.wrapping_add(1);
     }
     assert_eq!(rt; count, 52);
     Ok(())
 }
 
-#[test]
+/// A pattern in which `%1000%` stands so often, with a tail.
+fn long_pattern(alloc: Global, count: usize, tail: &[u8]) -> Result<Text, NoMemory> {
+    let mut pattern = Text::empty(alloc);
+    for _ in 0..count {
+        pattern.append(b"%1000%")?;
+    }
+    pattern.append(tail)?;
+    Ok(pattern)
+}
+
+/// A call of `format` with a pattern.
+fn format_of(alloc: Global, pattern: Text) -> Result<Words, NoMemory> {
+    let mut list = Words::new(alloc);
+    list.add(Text::new(alloc, b"format")?)?;
+    list.add(pattern)?;
+    Ok(list)
+}
+
+/// A call of `format` with a pattern and the words that a part of a line writes.
+fn format_with(alloc: Global, pattern: Text, words: &str) -> Result<Words, NoMemory> {
+    let mut list = format_of(alloc, pattern)?;
+    list.append_copies(alloc, words_meant(alloc, words, "!")?.as_slice())?;
+    Ok(list)
+}
+
+/// The words of a line of `LONG_ROWS`, with `format` before them.
+fn long_words(alloc: Global, line: &str) -> Result<Words, Fail> {
+    let (count, behind) = line.split_once("!").ok_or("a line has a count")?;
+    let (tail, words) = behind.split_once("!").ok_or("a line has a pattern")?;
+    let count = count.parse::<usize>().ok().ok_or("a count is a number")?;
+    let pattern = long_pattern(alloc, count, tail.as_bytes())?;
+    Ok(format_with(alloc, pattern, words)?)
+}
+
+/// A number in decimal.
+fn decimal(alloc: Global, number: usize) -> Result<Text, NoMemory> {
+    Ok(Text::from_vec(format!(in alloc; "{number}")?.into_bytes()))
+}
+
+/// How many bytes a result has, in decimal, or the error's text.
+fn length_or_error(alloc: Global, natives: &Natives, words: &Words) -> Result<Text, Fail> {
+    let came = came(alloc, natives, words)?;
+    if came.bytes().starts_with(b" ") {
+        Ok(decimal(alloc, came.len())?)
+    } else {
+        Ok(came)
+    }
+}
+
+/// Calls `format` on the words of a long row.
+fn check_long_row<R: Abort + AllocGlobal>(
+    rt: &R,
+    natives: &Natives,
+    line: &str,
+) -> Result<(), Fail> {
+    let (words, want) = parts(line)?;
+    let came = length_or_error(rt.alloc(), natives, &long_words(rt.alloc(), words)?)?;
+    check_same(rt, came.bytes(), want.as_bytes(), line)
+}
+
+/// Calls `format` on the words of each long row.
+fn check_long_rows<R: Abort + AllocGlobal>(rt: &R, natives: &Natives) -> Result<(), Fail> {
+    let mut count = 0u64;
+    for line in LONG_ROWS.lines() {
+        check_long_row(rt, natives, line)?;
+        count = count.wrapping_add(1);
+    }
+    assert_eq!(rt; count, 15);
+    Ok(())
+}
+
+/// The natives on texts.
 #[tactic(auto, unfolding(natives::specs::Ranges::range_of))]
-fn commands_by_name(rt: HostRuntime) -> Result<(), Fail> {
-    let alloc = rt.alloc();
+fn natives_on_texts(alloc: Global) -> Result<Natives, NoMemory> {
     let mut natives = Natives::new(alloc);
-    add(
-        &mut natives,
-        Native::new(Text::new(alloc, b"string")?, 3, 5, string_command),
-    )?;
-    add(
-        &mut natives,
-        Native::new(Text::new(alloc, b"format")?, 2, 200_001, format_command),
-    )?;
-    add(
-        &mut natives,
-        Native::new(Text::new(alloc, b"split")?, 2, 3, split_command),
-    )?;
-    add(
-        &mut natives,
-        Native::new(Text::new(alloc, b"join")?, 2, 3, join_command),
-    )?;
-    check_rows(&rt, &natives)
+    let string = Native::new(Text::new(alloc, b"string")?, 3, 5, string_command);
+    add(&mut natives, string)?;
+    let format = Native::new(Text::new(alloc, b"format")?, 2, 200_001, format_command);
+    add(&mut natives, format)?;
+    let split = Native::new(Text::new(alloc, b"split")?, 2, 3, split_command);
+    add(&mut natives, split)?;
+    let join = Native::new(Text::new(alloc, b"join")?, 2, 3, join_command);
+    add(&mut natives, join)?;
+    Ok(natives)
+}
+
+#[test]
+fn commands_by_name(rt: HostRuntime) -> Result<(), Fail> {
+    check_rows(&rt, &natives_on_texts(rt.alloc())?)
+}
+
+/// Of a result that would be over the limit nothing is kept, but each word is looked at.
+#[test]
+fn long_patterns(rt: HostRuntime) -> Result<(), Fail> {
+    check_long_rows(&rt, &natives_on_texts(rt.alloc())?)
 }

@@ -1,28 +1,37 @@
+use crate::telling::check_same;
 use natives::Fault;
-use std::alloc::Global;
+use std::alloc::{AllocGlobal, Global};
+use std::process::Abort;
 use std::test::Fail;
 use tcl_frame::Frames;
 use tcl_list::split;
 use tcl_varcmd::{is_var_command, var_command};
 use txt_core::{Known, NoMemory, Text, Words};
 
-/// What a command answers, whose words are the elements of a list: its result, or its error's text
-/// behind `error: `.
-fn answer(alloc: Global, frames: &mut Frames, command: &str) -> Result<Text, NoMemory> {
-    let Ok(words) = split(alloc, &Text::new(alloc, command.as_bytes())?) else {
-        return Text::new(alloc, b"no list");
-    };
-    if !is_var_command(&words) {
+/// An error's text behind `error: `.
+fn told(alloc: Global, text: &Text) -> Result<Text, NoMemory> {
+    let mut error = Text::new(alloc, b"error: ")?;
+    error.append(text.bytes())?;
+    Ok(error)
+}
+
+/// What a command of these words answers: its result, or its error's text behind `error: `.
+fn answer_to(alloc: Global, frames: &mut Frames, words: &Words) -> Result<Text, NoMemory> {
+    if !is_var_command(words) {
         return Text::new(alloc, b"no command");
     }
-    match var_command(alloc, frames, &words) {
+    match var_command(alloc, frames, words) {
         Ok(result) => Ok(result),
-        Err(Fault::Error(text)) => {
-            let mut error = Text::new(alloc, b"error: ")?;
-            error.append(text.bytes())?;
-            Ok(error)
-        }
+        Err(Fault::Error(text)) => told(alloc, &text),
         Err(Fault::NoMemory) => Err(NoMemory),
+    }
+}
+
+/// What a command answers, whose words are the elements of a list.
+fn answer(alloc: Global, frames: &mut Frames, command: &str) -> Result<Text, NoMemory> {
+    match split(alloc, &Text::new(alloc, command.as_bytes())?) {
+        Ok(words) => answer_to(alloc, frames, &words),
+        Err(_) => Text::new(alloc, b"no list"),
     }
 }
 
@@ -176,6 +185,16 @@ const LINKS: [(&str, &str); 14] = [
     ("append i 1", "1"),
 ];
 
+/// A command on a variable of the command's name, with a value.
+fn put_words(alloc: Global, command: &str, value: Text) -> Result<Words, NoMemory> {
+    let mut words = Words::new(alloc);
+    for _ in 0..2 {
+        words.add(Text::new(alloc, command.as_bytes())?)?;
+    }
+    words.add(value)?;
+    Ok(words)
+}
+
 /// Does a command on a variable of the command's name with so many bytes.
 fn put_bytes(
     alloc: Global,
@@ -183,25 +202,44 @@ fn put_bytes(
     command: &str,
     count: usize,
 ) -> Result<Text, Fault> {
-    let mut words = Words::new(alloc);
     let value = Text::from_vec(vec![in alloc; b'a'; count]?);
-    let name = Text::new(alloc, command.as_bytes())?;
-    for word in [Text::new(alloc, command.as_bytes())?, name, value] {
-        if words.push(word).is_err() {
-            return Err(Fault::NoMemory);
-        }
-    }
+    let words = put_words(alloc, command, value)?;
     if !is_var_command(&words) {
         return Err(Fault::NoMemory);
     }
     var_command(alloc, frames, &words)
 }
 
+/// How long a value is that came; 0 where it would be too long, and 1 where another error came.
+fn length_of(came: &Result<Text, Fault>) -> usize {
+    match came {
+        Ok(value) => value.len(),
+        Err(Fault::Error(text)) if text.bytes() == b"value too long".as_slice() => 0,
+        Err(_) => 1,
+    }
+}
+
+/// How long the value becomes by a command on a variable of the command's name with so many bytes.
+fn length_put(alloc: Global, frames: &mut Frames, command: &str, count: usize) -> usize {
+    length_of(&put_bytes(alloc, frames, command, count))
+}
+
+/// Does a command on a variable of the command's name with so many bytes.
+fn check_length<R: Abort + AllocGlobal>(
+    rt: &R,
+    frames: &mut Frames,
+    row: (&str, usize, usize),
+) -> Result<(), Fail> {
+    let (command, count, want) = row;
+    assert_eq!(rt; length_put(rt.alloc(), frames, command, count), want);
+    Ok(())
+}
+
 /// A value of 1,048,576 bytes is stored, and one byte more isn't.
 #[test]
 fn values_within_the_limit(rt: HostRuntime) -> Result<(), Fail> {
     let mut frames = Frames::new(rt.alloc())?;
-    for (command, count, want) in [
+    for row in [
         ("append", 1_048_000, 1_048_000),
         ("append", 577, 0),
         ("append", 576, 1_048_576),
@@ -213,15 +251,7 @@ fn values_within_the_limit(rt: HostRuntime) -> Result<(), Fail> {
         ("lappend", 575, 1_048_576),
         ("lappend", 1, 0),
     ] {
-        let length = match put_bytes(rt.alloc(), &mut frames, command, count) {
-            Ok(value) => value.len(),
-            Err(Fault::Error(text)) => {
-                assert_eq!(rt; text.bytes(), b"value too long".as_slice());
-                0
-            }
-            Err(Fault::NoMemory) => 1,
-        };
-        assert_eq!(rt; length, want);
+        check_length(&rt, &mut frames, row)?;
     }
     Ok(())
 }
@@ -235,60 +265,82 @@ fn known_of(alloc: Global, frames: &Frames, name: &str) -> Result<Option<Known>,
     }
 }
 
-/// A value to which elements were appended is known to be a list as it is written, the result too.
-#[test]
-fn lists_stay_known(rt: HostRuntime) -> Result<(), Fail> {
-    let alloc = rt.alloc();
-    let mut frames = Frames::new(alloc)?;
-    for (command, name) in [
-        ("lappend l a", "l"),
-        ("lappend l {b c}", "l"),
-        ("lappend e(k) a", "e(k)"),
-        ("lappend e(k) b", "e(k)"),
-    ] {
-        let result = answer(alloc, &mut frames, command)?;
-        assert_eq!(rt; result.known(), Known::WrittenList);
-        let known = known_of(alloc, &frames, name)?;
-        assert_eq!(rt; known, Some(Known::WrittenList));
-    }
-    let result = answer(alloc, &mut frames, "append l x")?;
-    assert_eq!(rt; result.known(), Known::Nothing);
-    assert_eq!(rt; known_of(alloc, &frames, "l")?, Some(Known::Nothing));
-    assert_eq!(rt; known_of(alloc, &frames, "none")?, None);
+/// Does a command, and looks at what is known of its result and of a variable.
+fn check_known<R: Abort + AllocGlobal>(
+    rt: &R,
+    frames: &mut Frames,
+    row: (&str, &str, Known),
+) -> Result<(), Fail> {
+    let (command, name, want) = row;
+    let known = answer(rt.alloc(), frames, command)?.known();
+    assert_eq!(rt; known, want);
+    let known = known_of(rt.alloc(), frames, name)?;
+    assert_eq!(rt; known, Some(want));
     Ok(())
 }
 
+/// A value to which elements were appended is known to be a list as it is written, the result too.
 #[test]
-fn commands_on_variables(rt: HostRuntime) -> Result<(), Fail> {
-    let alloc = rt.alloc();
-    let mut frames = Frames::new(alloc)?;
-    assert_eq!(rt; wrong_rows(alloc, &mut frames, SCALARS.as_slice())?, 0);
-    assert_eq!(rt; wrong_rows(alloc, &mut frames, GROWING.as_slice())?, 0);
-    assert_eq!(rt; wrong_rows(alloc, &mut frames, ARRAYS.as_slice())?, 0);
-    assert_eq!(rt;
-        answer(alloc, &mut frames, "set g 1")?.bytes(),
-        b"1".as_slice()
-    );
+fn lists_stay_known(rt: HostRuntime) -> Result<(), Fail> {
+    let mut frames = Frames::new(rt.alloc())?;
+    for row in [
+        ("lappend l a", "l", Known::WrittenList),
+        ("lappend l {b c}", "l", Known::WrittenList),
+        ("lappend e(k) a", "e(k)", Known::WrittenList),
+        ("lappend e(k) b", "e(k)", Known::WrittenList),
+        ("append l x", "l", Known::Nothing),
+    ] {
+        check_known(&rt, &mut frames, row)?;
+    }
+    assert_eq!(rt; known_of(rt.alloc(), &frames, "none")?, None);
+    Ok(())
+}
+
+/// Does commands in the global frame.
+fn check_global<R: Abort + AllocGlobal>(rt: &R, frames: &mut Frames) -> Result<(), Fail> {
+    assert_eq!(rt; wrong_rows(rt.alloc(), frames, SCALARS.as_slice())?, 0);
+    assert_eq!(rt; wrong_rows(rt.alloc(), frames, GROWING.as_slice())?, 0);
+    assert_eq!(rt; wrong_rows(rt.alloc(), frames, ARRAYS.as_slice())?, 0);
+    Ok(())
+}
+
+/// Does a command.
+fn check_answer<R: Abort + AllocGlobal>(
+    rt: &R,
+    frames: &mut Frames,
+    command: &str,
+    want: &str,
+) -> Result<(), Fail> {
+    let answer = answer(rt.alloc(), frames, command)?;
+    check_same(rt, answer.bytes(), want.as_bytes(), command)
+}
+
+/// Does commands in a frame above the global one, which is left then.
+fn check_above<R: Abort + AllocGlobal>(rt: &R, frames: &mut Frames) -> Result<(), Fail> {
     frames.push()?;
-    assert_eq!(rt; wrong_rows(alloc, &mut frames, LINKS.as_slice())?, 0);
+    assert_eq!(rt; wrong_rows(rt.alloc(), frames, LINKS.as_slice())?, 0);
     if frames.depth() > 0 {
         frames.pop();
     }
-    assert_eq!(rt;
-        answer(alloc, &mut frames, "set g")?.bytes(),
-        b"2".as_slice()
-    );
-    assert_eq!(rt;
-        answer(alloc, &mut frames, "set h(k)")?.bytes(),
-        b"v".as_slice()
-    );
-    assert_eq!(rt;
-        answer(alloc, &mut frames, "info exists i")?.bytes(),
-        b"0".as_slice()
-    );
-    assert_eq!(rt;
-        answer(alloc, &mut frames, "global a(x)")?.bytes(),
-        b"error: bad value \"a(x)\" for \"global\"".as_slice()
-    );
+    Ok(())
+}
+
+/// What is left of what was done above the global frame.
+const LEFT: [(&str, &str); 4] = [
+    ("set g", "2"),
+    ("set h(k)", "v"),
+    ("info exists i", "0"),
+    ("global a(x)", "error: bad value \"a(x)\" for \"global\""),
+];
+
+#[test]
+fn commands_on_variables(rt: HostRuntime) -> Result<(), Fail> {
+    let mut frames = Frames::new(rt.alloc())?;
+    check_global(&rt, &mut frames)?;
+    check_answer(&rt, &mut frames, "set g 1", "1")?;
+    check_above(&rt, &mut frames)?;
+    for (command, want) in LEFT {
+        check_answer(&rt, &mut frames, command, want)?;
+    }
     Ok(())
 }

@@ -40,8 +40,39 @@ fn undo<L: Ledger>(table: &mut CmdTable, mark: u64, steps: &mut Steps<L>) -> boo
     true
 }
 
+/// Removes a name of the table.
+fn remove<L: Ledger>(
+    alloc: Global,
+    table: &mut CmdTable,
+    steps: &mut Steps<L>,
+) -> Result<(), NoMemory> {
+    table.rename(&Text::new(alloc, b"set")?, &Text::empty(alloc), steps)?;
+    Ok(())
+}
+
 /// How many slots a new table has, with one name removed and many made, once these are taken back, and
 /// once the removal is.
+fn counts_of<L: Ledger>(
+    alloc: Global,
+    table: &mut CmdTable,
+    steps: &mut Steps<L>,
+) -> Result<[usize; 4], NoMemory> {
+    let new = table.slots();
+    let start = table.mark();
+    remove(alloc, table, steps)?;
+    let mark = table.mark();
+    put_all(alloc, table, steps)?;
+    let grown = table.slots();
+    let one = undo(table, mark, steps);
+    let back = table.slots();
+    let both = undo(table, start, steps);
+    if !one || !both {
+        return Ok([0, 0, 0, 0]);
+    }
+    Ok([new, grown, back, table.slots()])
+}
+
+/// The numbers of slots of a new table.
 fn counts<L: Ledger>(alloc: Global, blank: Blank) -> Result<[usize; 4], NoMemory>
     requires name { blank.name ≡ L.name }
     requires parts { blank.parts ≡ L.parts }
@@ -49,19 +80,7 @@ fn counts<L: Ledger>(alloc: Global, blank: Blank) -> Result<[usize; 4], NoMemory
 {
     let mut steps = Steps::<L>::new(blank);
     let mut table = CmdTable::new(alloc, &Natives::new(alloc), &mut steps)?;
-    let new = table.slots();
-    let start = table.mark();
-    table.rename(&Text::new(alloc, b"set")?, &Text::empty(alloc), &mut steps)?;
-    let mark = table.mark();
-    put_all(alloc, &mut table, &mut steps)?;
-    let grown = table.slots();
-    let one = undo(&mut table, mark, &mut steps);
-    let back = table.slots();
-    let both = undo(&mut table, start, &mut steps);
-    if !one || !both {
-        return Ok([0, 0, 0, 0]);
-    }
-    Ok([new, grown, back, table.slots()])
+    counts_of(alloc, &mut table, &mut steps)
 }
 
 #[test]

@@ -4,8 +4,9 @@ ghost use Rattle.natives.specs.Names.{name_of, names_of, has_name};
 ghost use Rattle.natives.specs.Pure.{pure_of};
 ghost use Rattle.natives.specs.Ranges.{InRange};
 
+use crate::telling::{called, check_same, words_meant};
 use natives::{Fault, Native, Natives, cut_place, index_in, read_index, within_limit, word_at};
-use std::alloc::Global;
+use std::alloc::{AllocGlobal, Global};
 use std::process::Abort;
 use std::test::Fail;
 use txt_core::{MOST_BYTES, NoMemory, Text, Words, trim};
@@ -58,21 +59,6 @@ fn add(natives: &mut Natives, native: Native) -> Result<(), NoMemory>
     }
 }
 
-/// The texts that each end at a bar.
-fn words_of(alloc: Global, ended: &[u8]) -> Result<Words, Fail> {
-    let mut words = Words::new(alloc);
-    let mut word = Vec::new(alloc);
-    for b in ended {
-        if *b == b'|' {
-            words.push(Text::from_vec(word))?;
-            word = Vec::new(alloc);
-        } else {
-            word.push(*b)?;
-        }
-    }
-    Ok(words)
-}
-
 /// The text of an error.
 fn text_of(fault: Fault) -> Result<Text, Fail> {
     match fault {
@@ -81,29 +67,18 @@ fn text_of(fault: Fault) -> Result<Text, Fail> {
     }
 }
 
-/// What words come to, or `none` where there is no native of the name or they are out of its range.
+/// What the natives answer to words.
 fn came(alloc: Global, natives: &Natives, words: &Words) -> Result<Text, Fail> {
-    let none = Text::new(alloc, b"none")?;
-    let Some(name) = words.get(0) else {
-        return Ok(none);
+    let native = match words.get(0) {
+        Some(name) => natives.find(name),
+        None => None,
     };
-    let Some(native) = natives.find(name) else {
-        return Ok(none);
-    };
-    let (least, most) = (native.least() as usize, native.most() as usize);
-    if words.len() < least || most < words.len() {
-        return Ok(none);
-    }
-    match native.call(alloc, words) {
-        Ok(text) => Ok(text),
-        Err(fault) => text_of(fault),
-    }
+    called(alloc, native, words)
 }
 
-#[test]
+/// Three natives.
 #[tactic(auto, unfolding(natives::specs::Ranges::range_of))]
-fn natives_by_name(rt: HostRuntime) -> Result<(), Fail> {
-    let alloc = rt.alloc();
+fn example(alloc: Global) -> Result<Natives, NoMemory> {
     let mut natives = Natives::new(alloc);
     let concat = Native::new(Text::new(alloc, b"concat")?, 1, 200_001, concat_one);
     add(&mut natives, concat)?;
@@ -111,19 +86,39 @@ fn natives_by_name(rt: HostRuntime) -> Result<(), Fail> {
     add(&mut natives, list)?;
     let string = Native::new(Text::new(alloc, b"string")?, 3, 5, string_repeat);
     add(&mut natives, string)?;
-    let rows: [(&[u8], &[u8]); 7] = [
-        (b"concat| a b\n|", b"a b"),
-        (b"list|", b""),
-        (b"string|repeat|a|", b"wrong number of words for \"string\""),
-        (b"string|repeat|", b"none"),
-        (b"string|repeat|a|b|c|d|", b"none"),
-        (b"split|a|", b"none"),
-        (b"", b"none"),
+    Ok(natives)
+}
+
+/// Calls the natives on words that each end at a bar.
+fn check_call<R: Abort + AllocGlobal>(
+    rt: &R,
+    natives: &Natives,
+    ended: &str,
+    want: &str,
+) -> Result<(), Fail> {
+    let came = came(rt.alloc(), natives, &words_meant(rt.alloc(), ended, "|")?)?;
+    check_same(rt, came.bytes(), want.as_bytes(), ended)
+}
+
+/// Calls the natives by their names.
+fn check_calls<R: Abort + AllocGlobal>(rt: &R, natives: &Natives) -> Result<(), Fail> {
+    let rows: [(&str, &str); 7] = [
+        ("concat| a b~|", "a b"),
+        ("list|", ""),
+        ("string|repeat|a|", "wrong number of words for \"string\""),
+        ("string|repeat|", "none"),
+        ("string|repeat|a|b|c|d|", "none"),
+        ("split|a|", "none"),
+        ("", "none"),
     ];
     for (words, want) in rows {
-        let words = words_of(alloc, words)?;
-        assert_eq!(rt; came(alloc, &natives, &words)?.bytes(), want);
+        check_call(rt, natives, words, want)?;
     }
+    Ok(())
+}
+
+/// Looks at the names of the natives.
+fn check_names<R: Abort + AllocGlobal>(rt: &R, natives: &Natives) -> Result<(), Fail> {
     let names: [&[u8]; 3] = [b"concat", b"list", b"string"];
     assert_eq!(rt; natives.len(), names.len());
     for (at, name) in names.iter().enumerate() {
@@ -136,41 +131,54 @@ fn natives_by_name(rt: HostRuntime) -> Result<(), Fail> {
 }
 
 #[test]
+fn natives_by_name(rt: HostRuntime) -> Result<(), Fail> {
+    let natives = example(rt.alloc())?;
+    check_calls(&rt, &natives)?;
+    check_names(&rt, &natives)
+}
+
+/// Looks at the text of an error.
+fn check_error<R: Abort + AllocGlobal>(rt: &R, fault: Fault, want: &[u8]) -> Result<(), Fail> {
+    let text = text_of(fault)?;
+    check_same(rt, text.bytes(), want, "an error")
+}
+
+/// The error of a value that is one byte too long.
+fn too_long(alloc: Global) -> Result<Fault, NoMemory> {
+    let long = Text::from_vec(vec![in alloc; b'a'; MOST_BYTES + 1]?);
+    Ok(
+        within_limit(alloc, Ok(long))
+            .err()
+            .unwrap_or(Fault::NoMemory),
+    )
+}
+
+/// The error of a word that is no index.
+fn no_index(alloc: Global) -> Result<Fault, NoMemory> {
+    let word = Text::new(alloc, b"w")?;
+    Ok(
+        index_in(alloc, &word, 3, "lindex")
+            .err()
+            .unwrap_or(Fault::NoMemory),
+    )
+}
+
+#[test]
 fn texts_of_errors(rt: HostRuntime) -> Result<(), Fail> {
     let alloc = rt.alloc();
-    let word = Text::new(alloc, b"w")?;
-    let long = Text::from_vec(vec![in alloc; b'a'; MOST_BYTES + 1]?);
-    let rows: [(Fault, &[u8]); 6] = [
-        (
-            Fault::bad_value(alloc, b"w", "lindex"),
-            b"bad value \"w\" for \"lindex\"",
-        ),
-        (
-            Fault::unknown_subcommand(alloc, b"w", "string"),
-            b"unknown subcommand \"w\" of \"string\"",
-        ),
-        (
-            Fault::no_integer(alloc, b"w"),
-            b"expected integer but got \"w\"",
-        ),
-        (Fault::no_list(alloc, 12), b"bad list at 12"),
-        (
-            within_limit(alloc, Ok(long))
-                .err()
-                .unwrap_or(Fault::NoMemory),
-            b"value too long",
-        ),
-        (
-            index_in(alloc, &word, 3, "lindex")
-                .err()
-                .unwrap_or(Fault::NoMemory),
-            b"bad value \"w\" for \"lindex\"",
-        ),
-    ];
-    for (fault, want) in rows {
-        assert_eq!(rt; text_of(fault)?.bytes(), want);
-    }
-    Ok(())
+    let bad_value = b"bad value \"w\" for \"lindex\"";
+    check_error(&rt, Fault::bad_value(alloc, b"w", "lindex"), bad_value)?;
+    let unknown = b"unknown subcommand \"w\" of \"string\"";
+    check_error(
+        &rt,
+        Fault::unknown_subcommand(alloc, b"w", "string"),
+        unknown,
+    )?;
+    let no_integer = b"expected integer but got \"w\"";
+    check_error(&rt, Fault::no_integer(alloc, b"w"), no_integer)?;
+    check_error(&rt, Fault::no_list(alloc, 12), b"bad list at 12")?;
+    check_error(&rt, too_long(alloc)?, b"value too long")?;
+    check_error(&rt, no_index(alloc)?, bad_value)
 }
 
 #[test]

@@ -96,6 +96,25 @@ fn is_own(table: &CmdTable, name: &Text) -> bool {
     }
 }
 
+/// Puts a name at the end of a text with a space behind it; with what else it stands for, where it doesn't
+/// stand for its own built-in.
+fn list_name(table: &CmdTable, name: &Text, all: &mut Text) -> Result<(), NoMemory> {
+    if !is_own(table, name) {
+        return show_command(table, name, all);
+    }
+    all.append(name.bytes())?;
+    all.append(b" ")
+}
+
+/// The names of a table, as `list_name` puts them.
+fn names_listed(alloc: Global, table: &CmdTable) -> Result<Text, NoMemory> {
+    let mut all = Text::empty(alloc);
+    for name in table.names()?.as_slice() {
+        list_name(table, name, &mut all)?;
+    }
+    Ok(all)
+}
+
 /// The names of a new table without natives, with a space behind each; with what else it stands for, where
 /// a name doesn't stand for its own built-in.
 fn new_listing<L: Ledger>(alloc: Global, blank: Blank) -> Result<Text, NoMemory>
@@ -105,16 +124,7 @@ fn new_listing<L: Ledger>(alloc: Global, blank: Blank) -> Result<Text, NoMemory>
 {
     let mut steps = Steps::<L>::new(blank);
     let table = CmdTable::new(alloc, &Natives::new(alloc), &mut steps)?;
-    let mut all = Text::empty(alloc);
-    for name in table.names()?.as_slice() {
-        if is_own(&table, name) {
-            all.append(name.bytes())?;
-            all.append(b" ")?;
-        } else {
-            show_command(&table, name, &mut all)?;
-        }
-    }
-    Ok(all)
+    names_listed(alloc, &table)
 }
 
 /// Renames a command, and puts what is answered at the end of a text.
@@ -135,6 +145,35 @@ fn rename<L: Ledger>(
     }
 }
 
+/// Puts a built-in `c` into a table, and then a procedure in its place.
+fn put_c<L: Ledger>(
+    alloc: Global,
+    table: &mut CmdTable,
+    steps: &mut Steps<L>,
+) -> Result<(), NoMemory> {
+    let first = Cmd::Built(Text::new(alloc, b"1")?);
+    table.put(Text::new(alloc, b"c")?, first, steps)?;
+    define(alloc, table, "2", steps)
+}
+
+/// Renames on a table, one after the other: what is shown of the table, and behind it what each answers
+/// and what is shown of the table after it.
+fn listing_on<L: Ledger>(
+    alloc: Global,
+    table: &mut CmdTable,
+    natives: &Natives,
+    renames: &[(&str, &str)],
+    steps: &mut Steps<L>,
+) -> Result<Text, NoMemory> {
+    let mut all = Text::empty(alloc);
+    show(table, natives, &mut all)?;
+    for (old, new) in renames {
+        rename(alloc, table, old, new, steps, &mut all)?;
+        show(table, natives, &mut all)?;
+    }
+    Ok(all)
+}
+
 /// Renames on the table of `example` with a procedure `c`, one after the other: what each answers,
 /// and what is shown of the table after it.
 fn listing<L: Ledger>(
@@ -149,16 +188,8 @@ fn listing<L: Ledger>(
 {
     let mut steps = Steps::<L>::new(blank);
     let mut table = example(alloc, natives, &mut steps)?;
-    let first = Cmd::Built(Text::new(alloc, b"1")?);
-    table.put(Text::new(alloc, b"c")?, first, &mut steps)?;
-    define(alloc, &mut table, "2", &mut steps)?;
-    let mut all = Text::empty(alloc);
-    show(&table, natives, &mut all)?;
-    for (old, new) in renames {
-        rename(alloc, &mut table, old, new, &mut steps, &mut all)?;
-        show(&table, natives, &mut all)?;
-    }
-    Ok(all)
+    put_c(alloc, &mut table, &mut steps)?;
+    listing_on(alloc, &mut table, natives, renames, &mut steps)
 }
 
 #[test]
@@ -169,45 +200,48 @@ fn built_ins_stand_for_themselves(rt: HostRuntime) -> Result<(), Fail> {
     Ok(())
 }
 
-#[test]
+/// Two natives.
 #[tactic(auto, unfolding(natives::specs::Ranges::range_of))]
-fn renames(rt: HostRuntime) -> Result<(), Fail> {
-    let alloc = rt.alloc();
+fn two_natives(alloc: Global) -> Result<Natives, NoMemory> {
     let mut natives = Natives::new(alloc);
     let list = Native::new(Text::new(alloc, b"list")?, 1, 200_001, gives_up);
     add(&mut natives, list)?;
     let join = Native::new(Text::new(alloc, b"join")?, 2, 3, gives_up);
     add(&mut natives, join)?;
-    let rows = [
-        ("d", "a"),
-        ("d", ""),
-        ("a", "b"),
-        ("a", "a"),
-        ("a", "d"),
-        ("b", ""),
-        ("b", "c"),
-        ("c", "b"),
-        ("list", "e"),
-        ("join", ""),
-    ];
-    let came = listing::<Brand>(alloc, Blank::new(1), &natives, &rows)?;
-    let want = [
-        "aa bb c2 joinjoin listlist ",
-        "absent aa bb c2 joinjoin listlist ",
-        "absent aa bb c2 joinjoin listlist ",
-        "taken aa bb c2 joinjoin listlist ",
-        "taken aa bb c2 joinjoin listlist ",
-        "done bb c2 da joinjoin listlist ",
-        "done c2 da joinjoin listlist ",
-        "absent c2 da joinjoin listlist ",
-        "done b2 da joinjoin listlist ",
-        "done b2 da elist joinjoin ",
-        "done b2 da elist ",
-    ];
-    let mut all = Text::empty(alloc);
-    for part in want {
-        all.append(part.as_bytes())?;
-    }
-    assert_eq!(rt; came.bytes(), all.bytes());
+    Ok(natives)
+}
+
+/// The renames that are made.
+const OLD_AND_NEW: [(&str, &str); 10] = [
+    ("d", "a"),
+    ("d", ""),
+    ("a", "b"),
+    ("a", "a"),
+    ("a", "d"),
+    ("b", ""),
+    ("b", "c"),
+    ("c", "b"),
+    ("list", "e"),
+    ("join", ""),
+];
+
+/// What is shown before them, and what each answers and what is shown after it.
+const SHOWN: &str = "aa bb c2 joinjoin listlist \
+    absent aa bb c2 joinjoin listlist \
+    absent aa bb c2 joinjoin listlist \
+    taken aa bb c2 joinjoin listlist \
+    taken aa bb c2 joinjoin listlist \
+    done bb c2 da joinjoin listlist \
+    done c2 da joinjoin listlist \
+    absent c2 da joinjoin listlist \
+    done b2 da joinjoin listlist \
+    done b2 da elist joinjoin \
+    done b2 da elist ";
+
+#[test]
+fn renames(rt: HostRuntime) -> Result<(), Fail> {
+    let natives = two_natives(rt.alloc())?;
+    let came = listing::<Brand>(rt.alloc(), Blank::new(1), &natives, OLD_AND_NEW.as_slice())?;
+    assert_eq!(rt; came.bytes(), SHOWN.as_bytes());
     Ok(())
 }

@@ -208,7 +208,27 @@ fn turn<L: Ledger>(
     }
 }
 
-/// How many of the random turns agree; at each thousandth one all names are to.
+/// How many of the random turns on a table agree; at each thousandth one all names are to.
+fn agreeing_on<L: Ledger>(
+    alloc: Global,
+    table: &mut CmdTable,
+    names: &Words,
+    twin: &mut Twin,
+    steps: &mut Steps<L>,
+) -> Result<u32, NoMemory> {
+    let mut random = 31;
+    let mut count: u32 = 0;
+    for number in 1..=TURNS {
+        random = next(random);
+        let same = turn(alloc, table, names, twin, random, steps)?;
+        if same && (number % ALL_EACH != 0 || agree(table, names, &twin.now)) {
+            count = count.saturating_add(1);
+        }
+    }
+    Ok(count)
+}
+
+/// How many of the random turns agree.
 fn agreeing<L: Ledger>(alloc: Global, blank: Blank) -> Result<u32, NoMemory>
     requires name { blank.name ≡ L.name }
     requires parts { blank.parts ≡ L.parts }
@@ -221,16 +241,7 @@ fn agreeing<L: Ledger>(alloc: Global, blank: Blank) -> Result<u32, NoMemory>
         now: [NOTHING; 8],
         copies: Vec::new(alloc),
     };
-    let mut random = 31;
-    let mut count: u32 = 0;
-    for number in 1..=TURNS {
-        random = next(random);
-        let same = turn(alloc, &mut table, &names, &mut twin, random, &mut steps)?;
-        if same && (number % ALL_EACH != 0 || agree(&table, &names, &twin.now)) {
-            count = count.saturating_add(1);
-        }
-    }
-    Ok(count)
+    agreeing_on(alloc, &mut table, &names, &mut twin, &mut steps)
 }
 
 #[test]

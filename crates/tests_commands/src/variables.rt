@@ -1,5 +1,7 @@
+use crate::telling::check_same;
 use VarFault::{Exists, IsArray, NoVariable, NotArray};
-use std::alloc::Global;
+use std::alloc::{AllocGlobal, Global};
+use std::process::Abort;
 use std::test::Fail;
 use tcl_frame::{Frames, VarFault, is_element_name};
 use txt_core::{Known, Text, Words, write_int};
@@ -35,14 +37,20 @@ fn yes(alloc: Global, is: bool) -> Result<Text, VarFault> {
     Ok(Text::new(alloc, if is { b"yes" } else { b"no" })?)
 }
 
+/// Adds a pair as `index=value;`.
+fn add_pair(all: &mut Text, index: &[u8], value: &[u8]) -> Result<(), VarFault> {
+    all.append(index)?;
+    all.append(b"=")?;
+    all.append(value)?;
+    all.append(b";")?;
+    Ok(())
+}
+
 /// The indexes and values of an array, each pair as `index=value;`.
 fn listed(alloc: Global, frames: &Frames, name: &Text) -> Result<Text, VarFault> {
     let mut all = Text::empty(alloc);
-    for pair in frames.elements(name)?.as_slice() {
-        all.append(pair.0.bytes())?;
-        all.append(b"=")?;
-        all.append(pair.1.bytes())?;
-        all.append(b";")?;
+    for (index, value) in frames.elements(name)?.as_slice() {
+        add_pair(&mut all, index.bytes(), value.bytes())?;
     }
     Ok(all)
 }
@@ -74,8 +82,9 @@ fn split(alloc: Global, text: &str) -> Result<Words, VarFault> {
 }
 
 /// Keeps a base scalar, in frames that are cleared first.
-fn keep(alloc: Global, frames: &mut Frames, name: Text, value: &str) -> Result<(), VarFault> {
+fn keep(alloc: Global, frames: &mut Frames, name: &str, value: &str) -> Result<(), VarFault> {
     frames.clear();
+    let name = Text::new(alloc, name.as_bytes())?;
     if !is_element_name(&name) {
         frames.keep(name, Text::new(alloc, value.as_bytes())?)?;
     }
@@ -90,6 +99,59 @@ fn unkeep(frames: &mut Frames, kept: u64) {
     }
 }
 
+/// Makes a call that writes or removes a variable.
+fn change(
+    alloc: Global,
+    frames: &mut Frames,
+    act: Act,
+    name: &Text,
+    value: &str,
+) -> Result<(), VarFault> {
+    match act {
+        Act::Write => frames.write(name, Text::new(alloc, value.as_bytes())?)?,
+        Act::WriteGlobal => frames.write_global(name, Text::new(alloc, value.as_bytes())?)?,
+        Act::WriteArray => frames.write_array(name, split(alloc, value)?.as_slice())?,
+        Act::Remove => frames.remove(name)?,
+        Act::Link if !is_element_name(name) => frames.link(name)?,
+        Act::Unlink => frames.unlink(name),
+        _ => {}
+    }
+    Ok(())
+}
+
+/// What a question about a variable, or a call that appends to one, answers.
+fn look(
+    alloc: Global,
+    frames: &mut Frames,
+    act: Act,
+    name: &Text,
+    value: &str,
+) -> Result<Text, VarFault> {
+    match act {
+        Act::Read => frames.read(name),
+        Act::Value => Ok(Text::new(alloc, frames.value(name)?.bytes())?),
+        Act::Append => frames.append(name, value.as_bytes(), Known::Nothing),
+        Act::IsLinked => yes(alloc, frames.is_linked(name)),
+        Act::Has => yes(alloc, frames.has(name)),
+        Act::IsArray => yes(alloc, frames.is_array(name)),
+        Act::Elements => listed(alloc, frames, name),
+        Act::Count => marks(alloc, frames.count(name)),
+        _ => Ok(Text::empty(alloc)),
+    }
+}
+
+/// Makes a call on the frames themselves.
+fn move_frames(frames: &mut Frames, act: Act, value: &str) -> Result<(), VarFault> {
+    match act {
+        Act::Push => frames.push()?,
+        Act::Pop if frames.depth() > 0 => frames.pop(),
+        Act::Clear => frames.clear(),
+        Act::Unkeep => unkeep(frames, value.len() as u64),
+        _ => {}
+    }
+    Ok(())
+}
+
 /// What a call answers, as a text.
 fn answer(
     alloc: Global,
@@ -98,31 +160,26 @@ fn answer(
     name: &str,
     value: &str,
 ) -> Result<Text, VarFault> {
-    let name = Text::new(alloc, name.as_bytes())?;
     match act {
-        Act::Push => frames.push()?,
-        Act::Pop if frames.depth() > 0 => frames.pop(),
-        Act::Pop => {}
-        Act::Read => return frames.read(&name),
-        Act::Value => return Ok(Text::new(alloc, frames.value(&name)?.bytes())?),
-        Act::Write => frames.write(&name, Text::new(alloc, value.as_bytes())?)?,
-        Act::WriteGlobal => frames.write_global(&name, Text::new(alloc, value.as_bytes())?)?,
-        Act::Append => return frames.append(&name, value.as_bytes(), Known::Nothing),
-        Act::Remove => frames.remove(&name)?,
-        Act::Link if !is_element_name(&name) => frames.link(&name)?,
-        Act::Link => {}
-        Act::Unlink => frames.unlink(&name),
-        Act::IsLinked => return yes(alloc, frames.is_linked(&name)),
-        Act::WriteArray => frames.write_array(&name, split(alloc, value)?.as_slice())?,
-        Act::Has => return yes(alloc, frames.has(&name)),
-        Act::IsArray => return yes(alloc, frames.is_array(&name)),
-        Act::Elements => return listed(alloc, frames, &name),
-        Act::Count => return marks(alloc, frames.count(&name)),
-        Act::Depth => return marks(alloc, frames.depth()),
-        Act::Clear => frames.clear(),
+        Act::Push | Act::Pop | Act::Clear | Act::Unkeep => move_frames(frames, act, value)?,
+        Act::Write | Act::WriteGlobal | Act::WriteArray | Act::Remove | Act::Link | Act::Unlink => {
+            let name = Text::new(alloc, name.as_bytes())?;
+            change(alloc, frames, act, &name, value)?;
+        }
         Act::Keep => keep(alloc, frames, name, value)?,
+        Act::Depth => return marks(alloc, frames.depth()),
         Act::Kept => return marks(alloc, frames.kept() as usize),
-        Act::Unkeep => unkeep(frames, value.len() as u64),
+        Act::Read
+        | Act::Value
+        | Act::Append
+        | Act::IsLinked
+        | Act::Has
+        | Act::IsArray
+        | Act::Elements
+        | Act::Count => {
+            let name = Text::new(alloc, name.as_bytes())?;
+            return look(alloc, frames, act, &name, value);
+        }
     }
     Ok(Text::empty(alloc))
 }
@@ -261,26 +318,58 @@ fn values_that_grow(rt: HostRuntime) -> Result<(), Fail> {
     Ok(())
 }
 
+/// Appends to a variable, and keeps what comes of it.
+fn append(frames: &mut Frames, name: &Text, bytes: &[u8], all: &mut Words) -> Result<(), VarFault> {
+    all.add(frames.append(name, bytes, Known::Nothing)?)?;
+    Ok(())
+}
+
+/// Appends to a variable three times, and changes what is read of it behind the first; what comes of each
+/// of these, that of the reading behind the second.
+fn grow(frames: &mut Frames, name: &Text, all: &mut Words) -> Result<(), VarFault> {
+    append(frames, name, b"ab", all)?;
+    let mut read = frames.read(name)?;
+    append(frames, name, b"cd", all)?;
+    read.append(b"-")?;
+    all.add(read)?;
+    append(frames, name, b"ef", all)
+}
+
+/// Texts with a bar behind each.
+fn ended(alloc: Global, words: &Words) -> Result<Text, VarFault> {
+    let mut all = Text::empty(alloc);
+    for word in words.as_slice() {
+        all.append(word.bytes())?;
+        all.append(b"|")?;
+    }
+    Ok(all)
+}
+
+/// What comes of a variable that grows, each text with a bar behind it.
+fn grown(alloc: Global, frames: &mut Frames, name: &Text) -> Result<Text, VarFault> {
+    let mut all = Words::new(alloc);
+    grow(frames, name, &mut all)?;
+    ended(alloc, &all)
+}
+
+/// Looks at a variable that grows.
+fn check_grown<R: Abort + AllocGlobal>(
+    rt: &R,
+    frames: &mut Frames,
+    name: &Text,
+) -> Result<(), Fail> {
+    let want = b"ab|abcd|ab-|abcdef|";
+    check_same(rt, grown(rt.alloc(), frames, name)?.bytes(), want, "grown")?;
+    check_same(rt, frames.value(name)?.bytes(), b"abcdef", "value")
+}
+
 /// What was taken out of a variable stays as it was while the variable grows, and the other way
 /// round.
 #[test]
 fn values_grow_apart(rt: HostRuntime) -> Result<(), Fail> {
-    let alloc = rt.alloc();
-    let mut frames = Frames::new(alloc)?;
-    for name in ["x", "a(k)"] {
-        let name = Text::new(alloc, name.as_bytes())?;
-        let first = frames.append(&name, b"ab", Known::Nothing)?;
-        let mut read = frames.read(&name)?;
-        let second = frames.append(&name, b"cd", Known::Nothing)?;
-        read.append(b"-")?;
-        let third = frames.append(&name, b"ef", Known::Nothing)?;
-        assert_eq!(rt; first.bytes(), b"ab".as_slice());
-        assert_eq!(rt; read.bytes(), b"ab-".as_slice());
-        assert_eq!(rt; second.bytes(), b"abcd".as_slice());
-        assert_eq!(rt; third.bytes(), b"abcdef".as_slice());
-        assert_eq!(rt; frames.value(&name)?.bytes(), b"abcdef".as_slice());
-    }
-    Ok(())
+    let mut frames = Frames::new(rt.alloc())?;
+    check_grown(&rt, &mut frames, &Text::new(rt.alloc(), b"x")?)?;
+    check_grown(&rt, &mut frames, &Text::new(rt.alloc(), b"a(k)")?)
 }
 
 #[test]
@@ -346,18 +435,29 @@ fn frames_and_links(rt: HostRuntime) -> Result<(), Fail> {
     Ok(())
 }
 
+/// Writes ten thousand variables, each with its name as its value.
+fn write_many(alloc: Global, frames: &mut Frames) -> Result<(), VarFault> {
+    frames.push()?;
+    for number in 0..10_000i64 {
+        let name = write_int(alloc, number)?;
+        frames.write(&name, write_int(alloc, number)?)?;
+    }
+    Ok(())
+}
+
+/// Reads one of the variables.
+fn check_one<R: Abort + AllocGlobal>(rt: &R, frames: &Frames, number: i64) -> Result<(), Fail> {
+    let name = write_int(rt.alloc(), number)?;
+    check_same(rt, frames.read(&name)?.bytes(), name.bytes(), "many")
+}
+
 /// A frame with ten thousand variables.
 #[test]
 fn many_variables(rt: HostRuntime) -> Result<(), Fail> {
     let mut frames = Frames::new(rt.alloc())?;
-    frames.push()?;
-    for number in 0..10_000i64 {
-        let name = write_int(rt.alloc(), number)?;
-        frames.write(&name, write_int(rt.alloc(), number)?)?;
-    }
+    write_many(rt.alloc(), &mut frames)?;
     for number in [0, 4711, 9_999] {
-        let name = write_int(rt.alloc(), number)?;
-        assert_eq!(rt; frames.read(&name)?.bytes(), name.bytes());
+        check_one(&rt, &frames, number)?;
     }
     assert_eq!(rt; frames.has(&write_int(rt.alloc(), 10_000)?), false);
     Ok(())

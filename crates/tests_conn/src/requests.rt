@@ -1,8 +1,8 @@
 //! Whole requests, by their bytes: what commands tell of them, and the replies to those that are refused.
 
 use crate::rows::{CHUNKS, REQUESTS};
-use crate::telling::{came, on, spelled, text};
-use http_req::{Carry, Got, read_request};
+use crate::telling::{came, on, parts, spelled, text};
+use http_req::{Carry, Got, Request, read_request};
 use http_resp::{plain, response_bytes};
 use outside::MemSource;
 use std::alloc::{AllocGlobal, Global};
@@ -16,31 +16,42 @@ const CHUNKED: &str = "POST /x HTTP/1.1^Host: l^Transfer-Encoding: chunked^^";
 /// How many bytes it has.
 const CHUNKED_LENGTH: usize = 57;
 
+/// An input that comes in pieces of so many bytes.
+fn source(alloc: Global, input: &Text, piece: usize) -> Result<MemSource, NoMemory> {
+    let content = input.copy(alloc)?;
+    Ok(MemSource::new(content, piece.max(1), Vec::new(alloc)))
+}
+
 /// The answer to an input that comes in pieces of so many bytes.
 fn read(alloc: Global, input: &Text, piece: usize) -> Result<Got, NoMemory> {
-    let content = input.copy(alloc)?;
-    let mut source = MemSource::new(content, piece.max(1), Vec::new(alloc));
     let peer = text(alloc, "127.0.0.1")?;
+    let mut source = source(alloc, input, piece)?;
     Ok(read_request(alloc, &mut source, &mut Carry::new(alloc), &peer))
 }
 
 /// The refusal of a status, and in how many bytes it is replied.
 fn refused(alloc: Global, status: u16) -> Result<Text, NoMemory> {
-    let reply = plain(alloc, status)?;
-    let length = response_bytes(alloc, &reply, 0, false, true)?.len();
-    let told = format!(in alloc; "refused {status} in {length} bytes")?;
-    Text::new(alloc, told.as_bytes())
+    let length = response_bytes(alloc, &plain(alloc, status)?, 0, false, true)?.len();
+    Ok(Text::from_vec(format!(in alloc; "refused {status} in {length} bytes")?.into_bytes()))
+}
+
+/// How many bytes came of a request that isn't whole.
+fn truncated(alloc: Global, have: u64) -> Result<Text, NoMemory> {
+    Ok(Text::from_vec(format!(in alloc; "truncated {have}")?.into_bytes()))
+}
+
+/// What a command on a request comes to.
+fn of_request(alloc: Global, request: Request, line: &str) -> Result<Text, NoMemory> {
+    let mut host = on(alloc, request)?;
+    came(alloc, &mut host, line)
 }
 
 /// What a command on a request comes to, or why there is none.
 fn told(alloc: Global, got: Got, line: &str) -> Result<Text, NoMemory> {
     match got {
-        Got::Request(request) => came(alloc, &mut on(alloc, request)?, line),
+        Got::Request(request) => of_request(alloc, request, line),
         Got::Refused { status } => refused(alloc, status),
-        Got::Truncated { have } => {
-            let told = format!(in alloc; "truncated {have}")?;
-            Text::new(alloc, told.as_bytes())
-        }
+        Got::Truncated { have } => truncated(alloc, have),
         Got::End => text(alloc, "end"),
         Got::ReadFault => text(alloc, "fault"),
         Got::NoMemory => Err(NoMemory),
@@ -55,14 +66,20 @@ struct Row<'a> {
     want: &'a str,
 }
 
+/// The bytes that a head spells, and those that what follows it spells.
+fn spelled_behind(alloc: Global, head: &str, sent: &str) -> Result<Text, NoMemory> {
+    let mut input = spelled(alloc, head, b"\r\n")?;
+    input.append(spelled(alloc, sent, b"\r\n")?.bytes())?;
+    Ok(input)
+}
+
 /// A row, whose input follows a head.
 fn row_of<'a>(alloc: Global, head: &str, text: &'a str) -> Result<Row<'a>, Fail> {
-    let (front, want) = text.split_once(" => ").ok_or("a row has an arrow")?;
+    let (front, want) = parts(text)?;
     let (sent, line) = front
         .split_once(" then ")
         .unwrap_or((front, "ns_conn|content"));
-    let mut input = spelled(alloc, head, b"\r\n")?;
-    input.append(spelled(alloc, sent, b"\r\n")?.bytes())?;
+    let input = spelled_behind(alloc, head, sent)?;
     Ok(Row { input, line, want })
 }
 
@@ -79,26 +96,36 @@ fn check<R: Abort + AllocGlobal>(rt: &R, row: &Row<'_>, piece: usize) -> Result<
     Ok(())
 }
 
-#[test]
-fn requests_in_pieces(rt: HostRuntime) -> Result<(), Fail> {
-    for line in REQUESTS.lines() {
-        let row = row_of(rt.alloc(), "", line)?;
-        for piece in [1, 7, 5_000] {
-            check(&rt, &row, piece)?;
-        }
+/// Reads the input of a row in pieces of some sizes.
+fn check_in_pieces<R: Abort + AllocGlobal>(rt: &R, row: &Row<'_>) -> Result<(), Fail> {
+    for piece in [1, 7, 5_000] {
+        check(rt, row, piece)?;
     }
     Ok(())
 }
 
-/// The first piece ends behind the head, or behind one of the bytes that follow it.
+#[test]
+fn requests_in_pieces(rt: HostRuntime) -> Result<(), Fail> {
+    for line in REQUESTS.lines() {
+        check_in_pieces(&rt, &row_of(rt.alloc(), "", line)?)?;
+    }
+    Ok(())
+}
+
+/// Reads the input of a row byte by byte, and with a first piece that ends behind the head, or behind one
+/// of the bytes that follow it.
+fn check_at_each_byte<R: Abort + AllocGlobal>(rt: &R, row: &Row<'_>) -> Result<(), Fail> {
+    check(rt, row, 1)?;
+    for piece in CHUNKED_LENGTH..=row.input.len() {
+        check(rt, row, piece)?;
+    }
+    Ok(())
+}
+
 #[test]
 fn bodies_in_chunks_cut_at_each_byte(rt: HostRuntime) -> Result<(), Fail> {
     for line in CHUNKS.lines() {
-        let row = row_of(rt.alloc(), CHUNKED, line)?;
-        check(&rt, &row, 1)?;
-        for piece in CHUNKED_LENGTH..=row.input.len() {
-            check(&rt, &row, piece)?;
-        }
+        check_at_each_byte(&rt, &row_of(rt.alloc(), CHUNKED, line)?)?;
     }
     Ok(())
 }

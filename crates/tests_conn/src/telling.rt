@@ -83,55 +83,71 @@ pub fn on(alloc: Global, request: Request) -> Result<ConnHost, NoMemory> {
     ConnHost::new(alloc, request, MOMENT)
 }
 
+/// A host on a request with these fields, this query and this body.
+pub fn on_request(
+    alloc: Global,
+    lines: &str,
+    query: &str,
+    body: &str,
+) -> Result<ConnHost, NoMemory> {
+    on(alloc, request(alloc, lines, query, body)?)
+}
+
 /// A host on the request of a form of three pairs, with three fields.
 pub fn on_form(alloc: Global) -> Result<ConnHost, NoMemory> {
     let lines = "Host: l^Content-Type: application/x-www-form-urlencoded^X-A: v";
-    on(alloc, request(alloc, lines, "a=0", "a=1&a=2")?)
+    on_request(alloc, lines, "a=0", "a=1&a=2")
 }
 
-/// Texts with a bar between each two.
-fn tell_all(told: &mut Text, words: &Words) -> Result<(), NoMemory> {
-    let mut first = true;
-    for word in words.as_slice() {
-        if !first {
-            told.append(b"|")?;
-        }
-        told.append(word.bytes())?;
-        first = false;
+/// Adds a bar and a text.
+pub fn add_part(told: &mut Text, part: &[u8]) -> Result<(), NoMemory> {
+    told.append(b"|")?;
+    told.append(part)
+}
+
+/// A mark and a text.
+fn marked(alloc: Global, mark: &[u8], part: &[u8]) -> Result<Text, NoMemory> {
+    let mut told = Text::new(alloc, mark)?;
+    told.append(part)?;
+    Ok(told)
+}
+
+/// What a question says: its words, with a bar between each two.
+fn tell_question(alloc: Global, words: &[Text]) -> Result<Text, NoMemory> {
+    let Some((first, others)) = words.split_first() else {
+        return Text::new(alloc, b"?");
+    };
+    let mut told = marked(alloc, b"?", first.bytes())?;
+    for word in others {
+        add_part(&mut told, word.bytes())?;
     }
-    Ok(())
+    Ok(told)
+}
+
+/// What a variable to be stored says: its name, its value and what comes of it, with a bar between each two.
+fn tell_store(alloc: Global, name: &Text, value: &Text, done: &Text) -> Result<Text, NoMemory> {
+    let mut told = marked(alloc, b"$", name.bytes())?;
+    add_part(&mut told, value.bytes())?;
+    add_part(&mut told, done.bytes())?;
+    Ok(told)
 }
 
 /// What a reply says.
 fn tell(alloc: Global, reply: &HostReply) -> Result<Text, NoMemory> {
-    let mut told = Text::empty(alloc);
     match reply {
-        HostReply::Done { code, result } => {
-            told.append(if *code == 0 { b"=" } else { b"!" })?;
-            told.append(result.bytes())?;
-        }
-        HostReply::Ask(question) => {
-            told.append(b"?")?;
-            tell_all(&mut told, &question.words)?;
-        }
+        HostReply::Done { code: 0, result } => marked(alloc, b"=", result.bytes()),
+        HostReply::Done { result, .. } => marked(alloc, b"!", result.bytes()),
+        HostReply::Ask(question) => tell_question(alloc, question.words.as_slice()),
         HostReply::Store {
             name,
             value,
             result,
-        } => {
-            told.append(b"$")?;
-            told.append(name.bytes())?;
-            told.append(b"|")?;
-            told.append(value.bytes())?;
-            told.append(b"|")?;
-            told.append(result.bytes())?;
-        }
-        HostReply::Enter(_) => told.append(b"enter")?,
-        HostReply::Define(_) => told.append(b"define")?,
-        HostReply::NotMine => told.append(b"-")?,
-        HostReply::NoMemory => return Err(NoMemory),
+        } => tell_store(alloc, name, value, result),
+        HostReply::Enter(_) => Text::new(alloc, b"enter"),
+        HostReply::Define(_) => Text::new(alloc, b"define"),
+        HostReply::NotMine => Text::new(alloc, b"-"),
+        HostReply::NoMemory => Err(NoMemory),
     }
-    Ok(told)
 }
 
 /// A page of so many bytes.
@@ -139,27 +155,82 @@ fn long_page(alloc: Global, count: usize) -> Result<Answer, NoMemory> {
     Ok(Answer::Page(Text::from_vec(vec![in alloc; b'x'; count]?)))
 }
 
-/// The answer that a part of a row names.
-fn answer(alloc: Global, named: &str) -> Result<Answer, NoMemory> {
-    let (kind, said) = named.split_once("|").unwrap_or((named, ""));
+/// The answer of a kind that says a text.
+fn saying(kind: &str, said: Text) -> Answer {
     match kind {
-        "page" => Ok(Answer::Page(text(alloc, said)?)),
+        "page" => Answer::Page(said),
+        "failed" => Answer::Failed(said),
+        _ => Answer::Said(said),
+    }
+}
+
+/// The answer of a kind that is named without a text.
+fn saying_nothing(alloc: Global, kind: &str) -> Result<Answer, NoMemory> {
+    match kind {
         "fault" => Ok(Answer::PageFault),
-        "failed" => Ok(Answer::Failed(text(alloc, said)?)),
-        "said" => Ok(Answer::Said(text(alloc, said)?)),
         "longest" => long_page(alloc, MOST_OF_A_PAGE),
         "longer" => long_page(alloc, MOST_OF_A_PAGE + 1),
         _ => Ok(Answer::NoPage),
     }
 }
 
+/// The answer that a part of a row names.
+fn answer(alloc: Global, named: &str) -> Result<Answer, NoMemory> {
+    match named.split_once("|") {
+        Some((kind, said)) => Ok(saying(kind, text(alloc, said)?)),
+        None => saying_nothing(alloc, named),
+    }
+}
+
+/// What comes of the answer behind a command.
+fn of_answer(
+    alloc: Global,
+    host: &mut ConnHost,
+    asked: &Words,
+    named: &str,
+) -> Result<Text, NoMemory> {
+    let answer = answer(alloc, named)?;
+    tell(alloc, &host.answered(asked, &answer))
+}
+
 /// What a command comes to, or what comes of the answer behind it.
 pub fn came(alloc: Global, host: &mut ConnHost, line: &str) -> Result<Text, NoMemory> {
-    let reply = match line.split_once(" <- ") {
-        Some((asked, named)) => host.answered(&words(alloc, asked)?, &answer(alloc, named)?),
-        None => host.call(&words(alloc, line)?),
-    };
-    tell(alloc, &reply)
+    match line.split_once(" <- ") {
+        Some((asked, named)) => of_answer(alloc, host, &words(alloc, asked)?, named),
+        None => tell(alloc, &host.call(&words(alloc, line)?)),
+    }
+}
+
+/// The two parts of a row, before its arrow and behind it.
+pub fn parts(row: &str) -> Result<(&str, &str), Fail> {
+    Ok(row.split_once(" => ").ok_or("a row has an arrow")?)
+}
+
+/// Compares what came of a row with what was to come.
+pub fn check_same<R: Abort>(rt: &R, came: &[u8], want: &[u8], row: &str) -> Result<(), Fail> {
+    assert_eq!(rt; came, want, "{row}");
+    Ok(())
+}
+
+/// Compares a text with the one that a part of a row spells.
+pub fn check_text<R: Abort + AllocGlobal>(
+    rt: &R,
+    told: &Text,
+    want: &str,
+    row: &str,
+) -> Result<(), Fail> {
+    let want = text(rt.alloc(), want)?;
+    check_same(rt, told.bytes(), want.bytes(), row)
+}
+
+/// Does the command of a row.
+fn check_command<R: Abort + AllocGlobal>(
+    rt: &R,
+    host: &mut ConnHost,
+    row: &str,
+) -> Result<(), Fail> {
+    let (line, want) = parts(row)?;
+    check_text(rt, &came(rt.alloc(), host, line)?, want, row)
 }
 
 /// Does the commands of the rows in order. Each has an arrow behind it, and what it comes to.
@@ -169,10 +240,7 @@ pub fn check_commands<R: Abort + AllocGlobal>(
     rows: &str,
 ) -> Result<(), Fail> {
     for row in rows.lines() {
-        let (line, want) = row.split_once(" => ").ok_or("a row has an arrow")?;
-        let told = came(rt.alloc(), host, line)?;
-        let want = text(rt.alloc(), want)?;
-        assert_eq!(rt; told.bytes(), want.bytes(), "{row}");
+        check_command(rt, host, row)?;
     }
     Ok(())
 }

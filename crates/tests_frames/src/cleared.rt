@@ -96,13 +96,12 @@ fn one(alloc: Global, byte: u8) -> Result<Text, NoMemory> {
 
 /// The name of a place.
 fn text(alloc: Global, place: Place) -> Result<Text, NoMemory> {
-    let mut name = one(alloc, b'a' + place.name % NAMES)?;
-    if place.index < WHOLE {
-        name.append(b"(")?;
-        name.append(one(alloc, b'x' + place.index % 2)?.bytes())?;
-        name.append(b")")?;
+    let variable = b'a' + place.name % NAMES;
+    if place.index >= WHOLE {
+        return one(alloc, variable);
     }
-    Ok(name)
+    let element: [u8; 4] = [variable, b'(', b'x' + place.index % 2, b')'];
+    Text::new(alloc, &element)
 }
 
 /// Why a call was refused.
@@ -310,6 +309,15 @@ fn write_global(
     Ok(answered(answer) == plain_write(&mut twin.global, place, value))
 }
 
+/// Both elements of an array with this value.
+fn both_elements(alloc: Global, value: u8) -> Result<Words, NoMemory> {
+    let mut pairs = Words::new(alloc);
+    for byte in [b'x', value, b'y', value] {
+        pairs.add(one(alloc, byte)?)?;
+    }
+    Ok(pairs)
+}
+
 /// Writes both elements of an array of both.
 fn write_array(
     alloc: Global,
@@ -318,13 +326,9 @@ fn write_array(
     place: Place,
     value: u8,
 ) -> Result<bool, NoMemory> {
-    let pairs: [Text; 4] = [
-        one(alloc, b'x')?,
-        one(alloc, value)?,
-        one(alloc, b'y')?,
-        one(alloc, value)?,
-    ];
-    let answer = frames.write_array(&text(alloc, place)?, &pairs);
+    let name = text(alloc, place)?;
+    let pairs = both_elements(alloc, value)?;
+    let answer = frames.write_array(&name, pairs.as_slice());
     Ok(answered(answer) == plain_write_array(table(twin, place), place, value))
 }
 
@@ -421,25 +425,35 @@ fn turn(
 }
 
 /// How many of the random turns agree; at each thousandth one all places are to.
+fn count_agreeing(
+    alloc: Global,
+    frames: &mut Frames,
+    names: &Words,
+    twin: &mut Twin,
+) -> Result<u32, NoMemory> {
+    let mut random = 31;
+    let mut count: u32 = 0;
+    for number in 1..=TURNS {
+        random = next(random);
+        let same = turn(alloc, frames, names, twin, random)?;
+        if same && (number % ALL_EACH != 0 || agree(frames, names, twin)) {
+            count = count.saturating_add(1);
+        }
+    }
+    Ok(count)
+}
+
+/// How many of the random turns on new frames agree.
 fn agreeing(alloc: Global) -> Result<u32, NoMemory> {
-    let mut frames = Frames::new(alloc)?;
     let names = all_names(alloc)?;
+    let mut frames = Frames::new(alloc)?;
     let mut twin = Twin {
         global: [FREE; 16],
         above: Vec::new(alloc),
         base: [FREE; 16],
         copies: Vec::new(alloc),
     };
-    let mut random = 31;
-    let mut count: u32 = 0;
-    for number in 1..=TURNS {
-        random = next(random);
-        let same = turn(alloc, &mut frames, &names, &mut twin, random)?;
-        if same && (number % ALL_EACH != 0 || agree(&frames, &names, &mut twin)) {
-            count = count.saturating_add(1);
-        }
-    }
-    Ok(count)
+    count_agreeing(alloc, &mut frames, &names, &mut twin)
 }
 
 #[test]

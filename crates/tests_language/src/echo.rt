@@ -1,13 +1,12 @@
 //! A host that the tests stand on.
 
-ghost use Rattle.std.specs.Prelude.{◌≡◌, ◌++◌, [], IfOk, OnOk};
+ghost use Rattle.std.specs.Prelude.{◌≡◌, [], IfOk};
 ghost use Rattle.adp_parse.specs.PiecesOf.{pieces_of};
 ghost use Rattle.natives.specs.Words.{arg};
-ghost use Rattle.tcl_host.specs.Answers.{Replies, RepliesTo};
+ghost use Rattle.tcl_host.specs.Answers.{Replies, RepliesTo, Ends};
+ghost use Rattle.tcl_host.specs.Leaf.{says, wants, defines, stores, goes, enters};
 ghost use Rattle.tests_language.specs.Echo.{sent, calls, answers};
-ghost use Rattle.tcl_host.specs.declared.host.HostReply.{HostReply};
 ghost use Rattle.cmd_table.specs.declared.definition.Def.{Def};
-ghost use Rattle.outside.specs.declared.question.Service.{Service};
 
 use adp_parse::pieces;
 use cmd_table::Def;
@@ -60,7 +59,8 @@ impl Echo {
     }
 
     fn ask(&self, service: Service, words: &Words) -> Result<HostReply, NoMemory>
-        ensures { IfOk result (λ reply. reply ≡ HostReply.Ask (record { service = service; words = words.now })) }
+        ensures call { IfOk result (λ reply. Replies reply self.now (wants (record { service = service; words = words.now }) self.now)) }
+        ensures answer { IfOk result (λ reply. RepliesTo reply self.now (goes (wants (record { service = service; words = words.now }) self.now))) }
     {
         Ok(HostReply::Ask(Question {
             service,
@@ -69,7 +69,7 @@ impl Echo {
     }
 
     fn keep(&self, words: &Words) -> Result<HostReply, NoMemory>
-        ensures { IfOk result (λ reply. reply ≡ HostReply.Store (arg words.now 1) (arg words.now 2) (arg words.now 2)) }
+        ensures { IfOk result (λ reply. Replies reply self.now (stores (arg words.now 1) (arg words.now 2) (arg words.now 2) self.now)) }
     {
         Ok(HostReply::Store {
             name: copy_word(self.alloc, words, 1)?,
@@ -79,7 +79,7 @@ impl Echo {
     }
 
     fn note(&self, words: &Words) -> Result<HostReply, NoMemory>
-        ensures { IfOk result (λ reply. reply ≡ HostReply.Define (Def.Cleanup (arg words.now 1))) }
+        ensures { IfOk result (λ reply. Replies reply self.now (defines (Def.Cleanup (arg words.now 1)) self.now)) }
     {
         Ok(HostReply::Define(Def::Cleanup {
             script: copy_word(self.alloc, words, 1)?,
@@ -87,7 +87,8 @@ impl Echo {
     }
 
     fn say(&self, code: u8, text: &[u8]) -> Result<HostReply, NoMemory>
-        ensures { IfOk result (λ reply. reply ≡ HostReply.Done code text.now) }
+        ensures call { IfOk result (λ reply. Replies reply self.now (says code text.now self.now)) }
+        ensures answer { IfOk result (λ reply. RepliesTo reply self.now (goes (says code text.now self.now))) }
     {
         Ok(HostReply::Done {
             code,
@@ -97,14 +98,16 @@ impl Echo {
 
     /// Puts a text at the end of the output.
     fn send(&mut self, text: &[u8]) -> Result<HostReply, NoMemory>
-        ensures reply { IfOk result (λ reply. reply ≡ HostReply.Done 0 []) }
-        ensures sent { OnOk result (self.new ≡ sent self.old text.now) }
+        ensures call { IfOk result (λ reply. Replies reply self.new (says 0 [] (sent self.old text.now))) }
+        ensures end { IfOk result (λ reply. Ends reply self.new (record { code = 0; result = []; host = sent self.old text.now })) }
     {
-        self.output.append(text)?;
-        Ok(HostReply::Done {
-            code: 0,
-            result: Text::empty(self.alloc),
-        })
+        match self.output.append(text) {
+            Ok(()) => Ok(HostReply::Done {
+                code: 0,
+                result: Text::empty(self.alloc),
+            }),
+            Err(NoMemory) => Err(NoMemory),
+        }
     }
 
     /// What the host says of a command. Its only error is want of memory.
@@ -113,43 +116,35 @@ impl Echo {
     {
         let name = word_at(words, 0);
         if name == b"ask".as_slice() {
-            let reply = self.ask(Service::Inner, words)?;
-            return Ok(reply);
+            return self.ask(Service::Inner, words);
         }
         if name == b"page".as_slice() {
-            let reply = self.ask(Service::Page, words)?;
-            return Ok(reply);
+            return self.ask(Service::Page, words);
         }
         if name == b"keep".as_slice() {
-            let reply = self.keep(words)?;
-            return Ok(reply);
+            return self.keep(words);
         }
         if name == b"note".as_slice() {
-            let reply = self.note(words)?;
-            return Ok(reply);
+            return self.note(words);
         }
         if name == b"ns_adp_append".as_slice() {
-            let reply = self.send(word_at(words, 1))?;
-            return Ok(reply);
+            return self.send(word_at(words, 1));
         }
         if name == b"ns_adp_return".as_slice() {
-            let reply = self.say(5, &[])?;
-            return Ok(reply);
+            return self.say(5, &[]);
         }
         if name == b"ns_adp_break".as_slice() {
-            let reply = self.say(6, &[])?;
-            return Ok(reply);
+            return self.say(6, &[]);
         }
         if name == b"ns_adp_abort".as_slice() {
-            let reply = self.say(7, &[])?;
-            return Ok(reply);
+            return self.say(7, &[]);
         }
         Ok(HostReply::NotMine)
     }
 
     /// A page that is entered.
     fn enter(&self, words: &Words, page: &Text) -> Result<HostReply, NoMemory>
-        ensures { IfOk result (λ reply. reply ≡ HostReply.Enter (record { list = pieces_of page.now; args = words.now })) }
+        ensures { IfOk result (λ reply. RepliesTo reply self.now (enters (record { list = pieces_of page.now; args = words.now }) self.now)) }
     {
         let args = copy_words(self.alloc, words)?;
         Ok(HostReply::Enter(pieces(self.alloc, page, args)?))
@@ -160,22 +155,10 @@ impl Echo {
         ensures { IfOk result (λ reply. RepliesTo reply self.now (answers words.now answer.now self.now)) }
     {
         match answer {
-            Answer::Said(text) => {
-                let reply = self.say(0, text.bytes())?;
-                Ok(reply)
-            }
-            Answer::Failed(text) => {
-                let reply = self.say(1, text.bytes())?;
-                Ok(reply)
-            }
-            Answer::Page(page) => {
-                let reply = self.enter(words, page)?;
-                Ok(reply)
-            }
-            Answer::NoPage => {
-                let reply = self.ask(Service::Inner, words)?;
-                Ok(reply)
-            }
+            Answer::Said(text) => self.say(0, text.bytes()),
+            Answer::Failed(text) => self.say(1, text.bytes()),
+            Answer::Page(page) => self.enter(words, page),
+            Answer::NoPage => self.ask(Service::Inner, words),
             Answer::PageFault => Ok(HostReply::NotMine),
         }
     }

@@ -30,8 +30,11 @@ struct Case<'a> {
 }
 
 /// What stands before and behind so many times `$a` in one word, the answers, and what the script comes to with 100
-/// left. An error is caught, so that the script goes on.
-const TOO_LONG: [(&str, u32, &str, &str, &str); 21] = [
+/// left.
+type TooLong = (&'static str, u32, &'static str, &'static str, &'static str);
+
+/// An error is caught, so that the script goes on.
+const TOO_LONG: [TooLong; 21] = [
     (
         "catch {set b ",
         10_000,
@@ -165,7 +168,16 @@ const TOO_LONG: [(&str, u32, &str, &str, &str); 21] = [
 
 /// What stands before and behind so many words `$a`, what is left of the budget, the answers, and what the script
 /// comes to.
-const TOO_COSTLY: [(&str, u32, &str, u64, &str, &str); 14] = [
+type TooCostly = (
+    &'static str,
+    u32,
+    &'static str,
+    u64,
+    &'static str,
+    &'static str,
+);
+
+const TOO_COSTLY: [TooCostly; 14] = [
     ("list", 300, "", 200_000, "", "spent 200000|"),
     ("catch {list", 100, "} m", 5_000, "", "spent 4999|"),
     ("ns_adp_append", 1, "", 1_025, "", "0  0|"),
@@ -219,14 +231,14 @@ fn script(alloc: Global, case: &Case<'_>) -> Result<Text, NoMemory> {
     Ok(script)
 }
 
-/// Runs the script of a case, and checks what it comes to.
-fn check<L: Ledger, R: Abort + AllocGlobal>(
-    rt: &R,
+/// What the script of a case comes to.
+fn came_of<L: Ledger>(
+    alloc: Global,
     natives: &Natives,
     case: &Case<'_>,
     steps: &mut Steps<L>,
-) -> Result<(), Fail> {
-    let script = script(rt.alloc(), case)?;
+) -> Result<Text, NoMemory> {
+    let script = script(alloc, case)?;
     let run = Run {
         script: script.bytes(),
         budget: MAKING.saturating_add(case.left),
@@ -234,11 +246,60 @@ fn check<L: Ledger, R: Abort + AllocGlobal>(
         answers: case.answers,
         tells: false,
     };
-    let came = played(rt.alloc(), natives, &run, steps)?;
+    played(alloc, natives, &run, steps)
+}
+
+/// Runs the script of a case, and checks what it comes to.
+fn check<L: Ledger, R: Abort + AllocGlobal>(
+    rt: &R,
+    natives: &Natives,
+    case: &Case<'_>,
+    steps: &mut Steps<L>,
+) -> Result<(), Fail> {
+    let came = came_of(rt.alloc(), natives, case, steps)?;
     let (front, behind) = (case.front, case.behind);
     assert_eq!(rt; came.bytes(), case.want.as_bytes(), "{front}..{behind}");
     Ok(())
 }
+
+/// The case of words that are too long.
+fn too_long(row: &TooLong) -> Case<'static> {
+    let (front, count, behind, answers, want) = *row;
+    Case {
+        front,
+        unit: "$a",
+        count,
+        behind,
+        left: 100,
+        answers,
+        want,
+    }
+}
+
+/// The case of a command whose words cost more than is left.
+fn too_costly(row: &TooCostly) -> Case<'static> {
+    let (front, count, behind, left, answers, want) = *row;
+    Case {
+        front,
+        unit: " $a",
+        count,
+        behind,
+        left,
+        answers,
+        want,
+    }
+}
+
+/// What is left of a value's budget is too little for so many results in one word.
+const RESULTS: Case<'static> = Case {
+    front: "set b ",
+    unit: "[set a]",
+    count: 10_000,
+    behind: "",
+    left: 5_000,
+    answers: "",
+    want: "spent 899|",
+};
 
 /// Checks words that are too long.
 fn check_too_long<L: Ledger, R: Abort + AllocGlobal>(
@@ -246,40 +307,22 @@ fn check_too_long<L: Ledger, R: Abort + AllocGlobal>(
     natives: &Natives,
     steps: &mut Steps<L>,
 ) -> Result<(), Fail> {
-    for (front, count, behind, answers, want) in TOO_LONG {
-        let case = Case {
-            front,
-            unit: "$a",
-            count,
-            behind,
-            left: 100,
-            answers,
-            want,
-        };
-        check(rt, natives, &case, steps)?;
+    for row in TOO_LONG {
+        check(rt, natives, &too_long(&row), steps)?;
     }
     Ok(())
 }
 
-/// Checks commands whose words cost more than is left.
+/// Checks commands whose words, and results in a word, cost more than is left.
 fn check_too_costly<L: Ledger, R: Abort + AllocGlobal>(
     rt: &R,
     natives: &Natives,
     steps: &mut Steps<L>,
 ) -> Result<(), Fail> {
-    for (front, count, behind, left, answers, want) in TOO_COSTLY {
-        let case = Case {
-            front,
-            unit: " $a",
-            count,
-            behind,
-            left,
-            answers,
-            want,
-        };
-        check(rt, natives, &case, steps)?;
+    for row in TOO_COSTLY {
+        check(rt, natives, &too_costly(&row), steps)?;
     }
-    Ok(())
+    check(rt, natives, &RESULTS, steps)
 }
 
 /// Checks words that are too long over a counter of their own.
@@ -301,17 +344,7 @@ fn check_commands<L: Ledger, R: Abort + AllocGlobal>(rt: &R, blank: Blank) -> Re
 {
     let mut steps = Steps::<L>::new(blank);
     let natives = Natives::new(rt.alloc());
-    check_too_costly(rt, &natives, &mut steps)?;
-    let results = Case {
-        front: "set b ",
-        unit: "[set a]",
-        count: 10_000,
-        behind: "",
-        left: 5_000,
-        answers: "",
-        want: "spent 899|",
-    };
-    check(rt, &natives, &results, &mut steps)
+    check_too_costly(rt, &natives, &mut steps)
 }
 
 #[test]

@@ -4,9 +4,10 @@ ghost use Rattle.std.specs.Prelude.{◌≡◌, ◌≤◌, IfOk, OnOk, codes};
 ghost use Rattle.cmd_table.specs.Table.{mark_of};
 ghost use Rattle.cmd_table.specs.declared.definition.Def.{Def};
 ghost use Rattle.tcl_eval.specs.Engine.{IsIdle};
+ghost use Rattle.tcl_frame.specs.Frames.{fresh};
 
 use crate::echo::Echo;
-use crate::runs::{engine, run_and_abandon, show};
+use crate::runs::{engine, run_script, show, show_number};
 use cmd_table::{Def, Steps};
 use natives::Natives;
 use std::alloc::Global;
@@ -25,6 +26,17 @@ fn message(alloc: Global) -> Result<Def, NoMemory>
     })
 }
 
+/// Keeps `motd` in an engine whose frames are new.
+fn keep_message<L: Ledger>(engine: &mut Engine<Echo>, steps: &mut Steps<L>) -> Result<(), NoMemory>
+    requires idle { IsIdle engine.old }
+    requires frames { engine.old.frames ≡ fresh }
+    ensures { IsIdle engine.new }
+{
+    base_scalars_stand();
+    let def = message(engine.host().alloc)?;
+    engine.define(&def, steps)
+}
+
 /// An engine that keeps `motd`.
 fn engine_with_message<L: Ledger>(
     alloc: Global,
@@ -33,10 +45,8 @@ fn engine_with_message<L: Ledger>(
 ) -> Result<Engine<Echo>, NoMemory>
     ensures { IfOk result (λ made. IsIdle made) }
 {
-    base_scalars_stand();
     let mut engine = engine(alloc, natives, steps)?;
-    let def = message(alloc)?;
-    engine.define(&def, steps)?;
+    keep_message(&mut engine, steps)?;
     Ok(engine)
 }
 
@@ -65,21 +75,6 @@ fn take_all_back<L: Ledger>(engine: &mut Engine<Echo>, mark: u64, steps: &mut St
     engine.unkeep(0);
 }
 
-/// Runs a script to its end, and appends what it came to.
-fn run<L: Ledger>(
-    engine: &mut Engine<Echo>,
-    natives: &Natives,
-    script: &str,
-    steps: &mut Steps<L>,
-    all: &mut Text,
-) -> Result<(), NoMemory>
-    requires { IsIdle engine.old }
-    ensures { OnOk result (IsIdle engine.new) }
-{
-    let work = Work::Script(Text::new(engine.host().alloc, script.as_bytes())?);
-    run_and_abandon(engine, natives, work, steps, all)
-}
-
 /// Takes back all that was kept, and appends what is left of the base scalar.
 fn forget<L: Ledger>(
     engine: &mut Engine<Echo>,
@@ -89,7 +84,7 @@ fn forget<L: Ledger>(
 ) -> Result<(), NoMemory> {
     let mark = engine.mark();
     take_all_back(engine, mark, steps);
-    run(engine, natives, "set motd", steps, all)
+    run_script(engine, natives, "set motd", steps, all)
 }
 
 /// Changes commands and variables, asks, and takes all of it back.
@@ -107,16 +102,31 @@ fn change_and_clear<L: Ledger>(
     let script =
         "set motd bye; set x 1; proc g {} {}; rename keep held; ns_adp_append a; ask $motd";
     let outcome = run_from_mark(engine, natives, script, steps)?;
-    show(&outcome, engine.left(), alloc, all)?;
+    let left = engine.left();
     engine.clear(mark, steps);
+    show(&outcome, left, alloc, all)?;
     all.append(engine.host().output.bytes())
 }
 
 /// Appends how many base scalars were kept.
 fn show_kept(engine: &Engine<Echo>, all: &mut Text) -> Result<(), NoMemory> {
-    let alloc = engine.host().alloc;
-    let kept = engine.kept();
-    all.append(format!(in alloc; "{kept}|")?.as_bytes())
+    show_number(engine.kept(), b"|", engine.host().alloc, all)
+}
+
+/// Changes commands and variables and takes that back, and then the base scalar; runs scripts behind each.
+fn take_back<L: Ledger>(
+    engine: &mut Engine<Echo>,
+    natives: &Natives,
+    steps: &mut Steps<L>,
+    all: &mut Text,
+) -> Result<(), NoMemory>
+    requires { IsIdle engine.old }
+{
+    change_and_clear(engine, natives, steps, all)?;
+    run_script(engine, natives, "keep x $motd", steps, all)?;
+    run_script(engine, natives, "g", steps, all)?;
+    show_kept(engine, all)?;
+    forget(engine, natives, steps, all)
 }
 
 /// What stands behind a run that changed commands and variables and was left at a question, once it was
@@ -126,12 +136,8 @@ pub fn taken_back<L: Ledger>(
     natives: &Natives,
     steps: &mut Steps<L>,
 ) -> Result<Text, NoMemory> {
-    let mut all = Text::empty(alloc);
     let mut engine = engine_with_message(alloc, natives, steps)?;
-    change_and_clear(&mut engine, natives, steps, &mut all)?;
-    run(&mut engine, natives, "keep x $motd", steps, &mut all)?;
-    run(&mut engine, natives, "g", steps, &mut all)?;
-    show_kept(&engine, &mut all)?;
-    forget(&mut engine, natives, steps, &mut all)?;
+    let mut all = Text::empty(alloc);
+    take_back(&mut engine, natives, steps, &mut all)?;
     Ok(all)
 }

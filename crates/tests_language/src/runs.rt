@@ -88,6 +88,32 @@ fn put_echo<L: Ledger>(
     Ok(())
 }
 
+/// Gives a command another name.
+fn rename<L: Ledger>(
+    alloc: Global,
+    table: &mut CmdTable,
+    old: &Text,
+    new: &str,
+    steps: &mut Steps<L>,
+) -> Result<(), NoMemory> {
+    let new = Text::new(alloc, new.as_bytes())?;
+    table.rename(old, &new, steps)?;
+    Ok(())
+}
+
+/// Puts the commands of the host into a table, and gives `error` the name `wrong`.
+fn put_commands<L: Ledger>(
+    alloc: Global,
+    table: &mut CmdTable,
+    steps: &mut Steps<L>,
+) -> Result<(), NoMemory> {
+    for name in ECHOES {
+        put_echo(alloc, table, name, steps)?;
+    }
+    let old = Text::new(alloc, b"error")?;
+    rename(alloc, table, &old, "wrong", steps)
+}
+
 /// The built-ins, these natives and the host's commands, where `error` has the name `wrong`.
 fn commands<L: Ledger>(
     alloc: Global,
@@ -95,11 +121,7 @@ fn commands<L: Ledger>(
     steps: &mut Steps<L>,
 ) -> Result<CmdTable, NoMemory> {
     let mut table = CmdTable::new(alloc, natives, steps)?;
-    for name in ECHOES {
-        put_echo(alloc, &mut table, name, steps)?;
-    }
-    let old = Text::new(alloc, b"error")?;
-    table.rename(&old, &Text::new(alloc, b"wrong")?, steps)?;
+    put_commands(alloc, &mut table, steps)?;
     Ok(table)
 }
 
@@ -130,6 +152,20 @@ fn start<L: Ledger>(
     ensures { Leaves result engine.new }
 {
     engine.start(natives, work, budget, depth.clamp(1, 200), steps)
+}
+
+/// Starts a run of a script.
+fn start_script<L: Ledger>(
+    engine: &mut Engine<Echo>,
+    natives: &Natives,
+    run: &Run<'_>,
+    steps: &mut Steps<L>,
+) -> Result<Outcome, NoMemory>
+    requires { IsIdle engine.old }
+    ensures { IfOk result (λ outcome. Leaves outcome engine.new) }
+{
+    let work = Work::Script(Text::new(engine.host().alloc, run.script)?);
+    Ok(start(engine, natives, work, run.budget, run.depth, steps))
 }
 
 /// Answers the question at which a run stands, if it does.
@@ -165,26 +201,49 @@ fn charge_three(engine: &mut Engine<Echo>, service: Service)
     }
 }
 
-/// Appends what an engine came to: its code and result, the words of its question, or how it ended;
-/// and what is left of its budget.
-pub fn show(outcome: &Outcome, left: u64, alloc: Global, all: &mut Text) -> Result<(), NoMemory> {
+/// Appends a number and what stands behind it.
+pub fn show_number(
+    number: u64,
+    behind: &[u8],
+    alloc: Global,
+    all: &mut Text,
+) -> Result<(), NoMemory> {
+    all.append(format!(in alloc; "{number}")?.as_bytes())?;
+    all.append(behind)
+}
+
+/// Appends words, each behind a blank.
+fn show_words(words: &Words, all: &mut Text) -> Result<(), NoMemory> {
+    for word in words.as_slice() {
+        all.append(b" ")?;
+        all.append(word.bytes())?;
+    }
+    Ok(())
+}
+
+/// Appends the code and result of a run, the words of its question, or how it ended.
+fn show_end(outcome: &Outcome, alloc: Global, all: &mut Text) -> Result<(), NoMemory> {
     match outcome {
         Outcome::Done { code, result } => {
-            all.append(format!(in alloc; "{code} ")?.as_bytes())?;
-            all.append(result.bytes())?;
+            show_number(u64::from(*code), b" ", alloc, all)?;
+            all.append(result.bytes())
         }
         Outcome::Asks(question) => {
             all.append(b"asks")?;
-            for word in question.words.as_slice() {
-                all.append(b" ")?;
-                all.append(word.bytes())?;
-            }
+            show_words(&question.words, all)
         }
-        Outcome::Spent => all.append(b"spent")?,
-        Outcome::TooDeep => all.append(b"deep")?,
-        Outcome::NoMemory => return Err(NoMemory),
+        Outcome::Spent => all.append(b"spent"),
+        Outcome::TooDeep => all.append(b"deep"),
+        Outcome::NoMemory => Err(NoMemory),
     }
-    all.append(format!(in alloc; " {left}|")?.as_bytes())
+}
+
+/// Appends what an engine came to: its code and result, the words of its question, or how it ended;
+/// and what is left of its budget.
+pub fn show(outcome: &Outcome, left: u64, alloc: Global, all: &mut Text) -> Result<(), NoMemory> {
+    show_end(outcome, alloc, all)?;
+    all.append(b" ")?;
+    show_number(left, b"|", alloc, all)
 }
 
 /// Charges 3 to a run that stands at a question.
@@ -197,12 +256,30 @@ fn charge(engine: &mut Engine<Echo>, outcome: &Outcome)
     }
 }
 
+/// Tells of a question and charges it, or doesn't.
+fn tell(
+    engine: &mut Engine<Echo>,
+    outcome: &Outcome,
+    tells: bool,
+    all: &mut Text,
+) -> Result<(), NoMemory>
+    requires { Leaves outcome.now engine.old }
+    ensures { OnOk result (Leaves outcome.now engine.new) }
+{
+    if !tells {
+        return Ok(());
+    }
+    show(outcome, engine.left(), engine.host().alloc, all)?;
+    charge(engine, outcome);
+    Ok(())
+}
+
 /// Answers the question at which a run stands, if it does, and tells of it first, or doesn't.
 fn go_on<L: Ledger>(
     engine: &mut Engine<Echo>,
     natives: &Natives,
     outcome: Outcome,
-    said: Text,
+    said: &str,
     tells: bool,
     steps: &mut Steps<L>,
     all: &mut Text,
@@ -210,13 +287,9 @@ fn go_on<L: Ledger>(
     requires { Leaves outcome engine.old }
     ensures { IfOk result (λ after. Leaves after engine.new) }
 {
-    if !tells {
-        return Ok(answer(engine, natives, outcome, Answer::Said(said), steps));
-    }
-    let alloc = engine.host().alloc;
-    show(&outcome, engine.left(), alloc, all)?;
-    charge(engine, &outcome);
-    Ok(answer(engine, natives, outcome, Answer::Said(said), steps))
+    tell(engine, &outcome, tells, all)?;
+    let said = Answer::Said(Text::new(engine.host().alloc, said.as_bytes())?);
+    Ok(answer(engine, natives, outcome, said, steps))
 }
 
 /// A script with its budget and depth, and the answers that it is given, with `<-` between them. Each question
@@ -230,6 +303,26 @@ pub struct Run<'a> {
     pub tells: bool,
 }
 
+/// Plays a run on an engine, and appends what it comes to.
+fn play<L: Ledger>(
+    engine: &mut Engine<Echo>,
+    natives: &Natives,
+    run: &Run<'_>,
+    steps: &mut Steps<L>,
+    all: &mut Text,
+) -> Result<(), NoMemory>
+    requires { IsIdle engine.old }
+{
+    let mut outcome = start_script(engine, natives, run, steps)?;
+    'answers: for said in run.answers.split(" <- ") {
+        if said.is_empty() {
+            continue;
+        }
+        outcome = go_on(engine, natives, outcome, said, run.tells, steps, all)?;
+    }
+    show(&outcome, engine.left(), engine.host().alloc, all)
+}
+
 /// What a run comes to.
 pub fn played<L: Ledger>(
     alloc: Global,
@@ -237,27 +330,41 @@ pub fn played<L: Ledger>(
     run: &Run<'_>,
     steps: &mut Steps<L>,
 ) -> Result<Text, NoMemory> {
-    let mut all = Text::empty(alloc);
     let mut engine = engine(alloc, natives, steps)?;
-    let work = Work::Script(Text::new(alloc, run.script)?);
-    let mut outcome = start(&mut engine, natives, work, run.budget, run.depth, steps);
-    'answers: for said in run.answers.split(" <- ") {
-        if said.is_empty() {
-            continue;
-        }
-        let said = Text::new(alloc, said.as_bytes())?;
-        outcome = go_on(
-            &mut engine,
-            natives,
-            outcome,
-            said,
-            run.tells,
-            steps,
-            &mut all,
-        )?;
-    }
-    show(&outcome, engine.left(), alloc, &mut all)?;
+    let mut all = Text::empty(alloc);
+    play(&mut engine, natives, run, steps, &mut all)?;
     Ok(all)
+}
+
+/// Checks what came of a line or a script.
+fn check_came<R: Abort + AllocGlobal>(
+    rt: &R,
+    came: &Text,
+    want: &str,
+    of: &str,
+) -> Result<(), Fail> {
+    assert_eq!(rt; came.bytes(), want.as_bytes(), "{of}");
+    Ok(())
+}
+
+/// Runs the script of a line.
+fn check_line<L: Ledger, R: Abort + AllocGlobal>(
+    rt: &R,
+    natives: &Natives,
+    line: &str,
+    steps: &mut Steps<L>,
+) -> Result<(), Fail> {
+    let (front, want) = line.split_once(" => ").ok_or("a line has an arrow")?;
+    let (script, answers) = front.split_once(" <- ").unwrap_or((front, ""));
+    let run = Run {
+        script: script.as_bytes(),
+        budget: 100,
+        depth: 1,
+        answers,
+        tells: true,
+    };
+    let came = played(rt.alloc(), natives, &run, steps)?;
+    check_came(rt, &came, want, line)
 }
 
 /// Runs the script of each line, and checks how many lines there are.
@@ -270,21 +377,51 @@ fn check_lines<L: Ledger, R: Abort + AllocGlobal>(
 ) -> Result<(), Fail> {
     let mut count = 0u64;
     for line in lines.lines() {
-        let (front, want) = line.split_once(" => ").ok_or("a line has an arrow")?;
-        let (script, answers) = front.split_once(" <- ").unwrap_or((front, ""));
-        let run = Run {
-            script: script.as_bytes(),
-            budget: 100,
-            depth: 1,
-            answers,
-            tells: true,
-        };
-        let came = played(rt.alloc(), natives, &run, steps)?;
-        assert_eq!(rt; came.bytes(), want.as_bytes(), "{line}");
+        check_line(rt, natives, line, steps)?;
         count = count.wrapping_add(1);
     }
     assert_eq!(rt; count, number);
     Ok(())
+}
+
+/// The pieces of a page without arguments.
+fn page_of(alloc: Global, page: &str) -> Result<Work, NoMemory> {
+    let page = Text::new(alloc, page.as_bytes())?;
+    Ok(Work::Page(pieces(alloc, &page, Words::new(alloc))?))
+}
+
+/// Appends what an engine came to and what its host was told.
+fn show_page(engine: &Engine<Echo>, outcome: &Outcome, all: &mut Text) -> Result<(), NoMemory> {
+    let alloc = engine.host().alloc;
+    show(outcome, engine.left(), alloc, all)?;
+    all.append(engine.host().output.bytes())?;
+    all.append(b"|")?;
+    show_number(engine.host().told, b"", alloc, all)
+}
+
+/// Runs a first page, and the pages that it includes in turn, at a depth; appends what they come to.
+fn turn_pages<L: Ledger>(
+    engine: &mut Engine<Echo>,
+    natives: &Natives,
+    front: &str,
+    depth: u32,
+    steps: &mut Steps<L>,
+    all: &mut Text,
+) -> Result<(), NoMemory>
+    requires { IsIdle engine.old }
+{
+    let alloc = engine.host().alloc;
+    let (first, others) = front.split_once(" <- ").unwrap_or((front, ""));
+    let work = page_of(alloc, first)?;
+    let mut outcome = start(engine, natives, work, 100, depth, steps);
+    'pages: for page in others.split(" <- ") {
+        if page.is_empty() {
+            continue;
+        }
+        let page = Answer::Page(Text::new(alloc, page.as_bytes())?);
+        outcome = answer(engine, natives, outcome, page, steps);
+    }
+    show_page(engine, &outcome, all)
 }
 
 /// What a first page, and the pages that it includes in turn, come to at a depth.
@@ -295,24 +432,23 @@ fn paged<L: Ledger>(
     depth: u32,
     steps: &mut Steps<L>,
 ) -> Result<Text, NoMemory> {
-    let mut all = Text::empty(alloc);
     let mut engine = engine(alloc, natives, steps)?;
-    let (first, others) = front.split_once(" <- ").unwrap_or((front, ""));
-    let first = Text::new(alloc, first.as_bytes())?;
-    let work = Work::Page(pieces(alloc, &first, Words::new(alloc))?);
-    let mut outcome = start(&mut engine, natives, work, 100, depth, steps);
-    'pages: for page in others.split(" <- ") {
-        if page.is_empty() {
-            continue;
-        }
-        let page = Answer::Page(Text::new(alloc, page.as_bytes())?);
-        outcome = answer(&mut engine, natives, outcome, page, steps);
-    }
-    show(&outcome, engine.left(), alloc, &mut all)?;
-    all.append(engine.host().output.bytes())?;
-    let told = engine.host().told;
-    all.append(format!(in alloc; "|{told}")?.as_bytes())?;
+    let mut all = Text::empty(alloc);
+    turn_pages(&mut engine, natives, front, depth, steps, &mut all)?;
     Ok(all)
+}
+
+/// Runs the pages of a line at a depth.
+fn check_page<L: Ledger, R: Abort + AllocGlobal>(
+    rt: &R,
+    natives: &Natives,
+    line: &str,
+    depth: u32,
+    steps: &mut Steps<L>,
+) -> Result<(), Fail> {
+    let (front, want) = line.split_once(" => ").ok_or("a line has an arrow")?;
+    let came = paged(rt.alloc(), natives, front, depth, steps)?;
+    check_came(rt, &came, want, line)
 }
 
 /// Runs the pages of each line at a depth, and checks how many lines there are.
@@ -326,17 +462,17 @@ fn check_pages<L: Ledger, R: Abort + AllocGlobal>(
 ) -> Result<(), Fail> {
     let mut count = 0u64;
     for line in lines.lines() {
-        let (front, want) = line.split_once(" => ").ok_or("a line has an arrow")?;
-        let came = paged(rt.alloc(), natives, front, depth, steps)?;
-        assert_eq!(rt; came.bytes(), want.as_bytes(), "{line}");
+        check_page(rt, natives, line, depth, steps)?;
         count = count.wrapping_add(1);
     }
     assert_eq!(rt; count, number);
     Ok(())
 }
 
-/// Scripts, their budgets, the answers that they are given, and what they come to at the end.
-const ANSWERED: [(&str, u64, &str, &str); 6] = [
+/// A script, its budget, the answers that it is given, and what it comes to at the end.
+type Answered = (&'static str, u64, &'static str, &'static str);
+
+const ANSWERED: [Answered; 6] = [
     (
         "while {[ask] < 3} {append s x}; return $s",
         100,
@@ -365,23 +501,23 @@ const ANSWERED: [(&str, u64, &str, &str); 6] = [
     ("proc hi {} {if 1 hi}; hi", 2_000, "", "deep 1699|"),
 ];
 
+/// Runs a script that is answered.
 fn check_answered<L: Ledger, R: Abort + AllocGlobal>(
     rt: &R,
     natives: &Natives,
+    row: &Answered,
     steps: &mut Steps<L>,
 ) -> Result<(), Fail> {
-    for (script, budget, answers, want) in ANSWERED {
-        let run = Run {
-            script: script.as_bytes(),
-            budget,
-            depth: 1,
-            answers,
-            tells: false,
-        };
-        let came = played(rt.alloc(), natives, &run, steps)?;
-        assert_eq!(rt; came.bytes(), want.as_bytes(), "{script}");
-    }
-    Ok(())
+    let (script, budget, answers, want) = *row;
+    let run = Run {
+        script: script.as_bytes(),
+        budget,
+        depth: 1,
+        answers,
+        tells: false,
+    };
+    let came = played(rt.alloc(), natives, &run, steps)?;
+    check_came(rt, &came, want, script)
 }
 
 /// A script: `front`, then so often `unit`, and then as often `close`.
@@ -445,6 +581,37 @@ const LIMITS: [Limit; 12] = [
     (("keep a x; return $a", "", "", 0), 1, 1, "spent 0|"),
 ];
 
+/// What the script of a limit comes to.
+fn limited<L: Ledger>(
+    alloc: Global,
+    natives: &Natives,
+    limit: &Limit,
+    steps: &mut Steps<L>,
+) -> Result<Text, NoMemory> {
+    let ((front, unit, close, count), budget, depth, _) = *limit;
+    let script = repeated(alloc, front, unit, close, count)?;
+    let run = Run {
+        script: script.bytes(),
+        budget,
+        depth,
+        answers: "",
+        tells: false,
+    };
+    played(alloc, natives, &run, steps)
+}
+
+/// Runs the script of a limit.
+fn check_limit<L: Ledger, R: Abort + AllocGlobal>(
+    rt: &R,
+    natives: &Natives,
+    limit: &Limit,
+    steps: &mut Steps<L>,
+) -> Result<(), Fail> {
+    let ((front, _, _, _), _, _, want) = *limit;
+    let came = limited(rt.alloc(), natives, limit, steps)?;
+    check_came(rt, &came, want, front)
+}
+
 fn check_limits<L: Ledger, R: Abort + AllocGlobal>(rt: &R, blank: Blank) -> Result<(), Fail>
     requires name { blank.name ≡ L.name }
     requires parts { blank.parts ≡ L.parts }
@@ -452,17 +619,8 @@ fn check_limits<L: Ledger, R: Abort + AllocGlobal>(rt: &R, blank: Blank) -> Resu
 {
     let mut steps = Steps::<L>::new(blank);
     let natives = Natives::new(rt.alloc());
-    for ((front, unit, close, count), budget, depth, want) in LIMITS {
-        let script = repeated(rt.alloc(), front, unit, close, count)?;
-        let run = Run {
-            script: script.bytes(),
-            budget,
-            depth,
-            answers: "",
-            tells: false,
-        };
-        let came = played(rt.alloc(), &natives, &run, &mut steps)?;
-        assert_eq!(rt; came.bytes(), want.as_bytes());
+    for limit in LIMITS {
+        check_limit(rt, &natives, &limit, &mut steps)?;
     }
     Ok(())
 }
@@ -483,6 +641,19 @@ fn procedure(alloc: Global, name: &str, params: &str, body: &str) -> Result<Def,
     })
 }
 
+/// Defines a procedure `f`.
+fn define_procedure<L: Ledger>(
+    engine: &mut Engine<Echo>,
+    steps: &mut Steps<L>,
+) -> Result<(), NoMemory>
+    requires { IsIdle engine.old }
+    ensures { IsIdle engine.new }
+{
+    let alloc = engine.host().alloc;
+    let def = procedure(alloc, "f", "v", "note $v; proc g {} {}; ask")?;
+    engine.define(&def, steps)
+}
+
 /// An engine with a procedure `f`, which lists a cleanup script, makes a procedure `g` and asks.
 fn engine_with_procedure<L: Ledger>(
     alloc: Global,
@@ -492,22 +663,22 @@ fn engine_with_procedure<L: Ledger>(
     ensures { IfOk result (λ made. IsIdle made) }
 {
     let mut engine = engine(alloc, natives, steps)?;
-    let def = procedure(alloc, "f", "v", "note $v; proc g {} {}; ask")?;
-    engine.define(&def, steps)?;
+    define_procedure(&mut engine, steps)?;
     Ok(engine)
 }
 
 /// A call of `f` with 1.
 fn call_of_procedure(alloc: Global) -> Result<Work, NoMemory> {
     let mut words = Words::new(alloc);
-    words.add(Text::new(alloc, b"f")?)?;
-    words.add(Text::new(alloc, b"1")?)?;
+    for word in ["f", "1"] {
+        words.add(Text::new(alloc, word.as_bytes())?)?;
+    }
     Ok(Work::Call(words))
 }
 
 /// Runs this and abandons what is left of it; appends what it came to, and how many definitions are
 /// listed as made.
-pub fn run_and_abandon<L: Ledger>(
+fn run_and_abandon<L: Ledger>(
     engine: &mut Engine<Echo>,
     natives: &Natives,
     work: Work,
@@ -519,46 +690,177 @@ pub fn run_and_abandon<L: Ledger>(
 {
     let alloc = engine.host().alloc;
     let outcome = start(engine, natives, work, 100, 1, steps);
-    show(&outcome, engine.left(), alloc, all)?;
+    let left = engine.left();
     engine.abandon();
-    let made = engine.made().len();
-    all.append(format!(in alloc; "{made}|")?.as_bytes())
+    show(&outcome, left, alloc, all)?;
+    show_number(engine.made().len() as u64, b"|", alloc, all)
+}
+
+/// Runs a script and abandons what is left of it; appends what it came to.
+pub fn run_script<L: Ledger>(
+    engine: &mut Engine<Echo>,
+    natives: &Natives,
+    script: &str,
+    steps: &mut Steps<L>,
+    all: &mut Text,
+) -> Result<(), NoMemory>
+    requires { IsIdle engine.old }
+    ensures { OnOk result (IsIdle engine.new) }
+{
+    let work = Work::Script(Text::new(engine.host().alloc, script.as_bytes())?);
+    run_and_abandon(engine, natives, work, steps, all)
 }
 
 /// Stands at a question in `f`, which is abandoned, and runs on after that.
+fn leave_alone<L: Ledger>(
+    engine: &mut Engine<Echo>,
+    natives: &Natives,
+    steps: &mut Steps<L>,
+    all: &mut Text,
+) -> Result<(), NoMemory>
+    requires { IsIdle engine.old }
+{
+    let call = call_of_procedure(engine.host().alloc)?;
+    run_and_abandon(engine, natives, call, steps, all)?;
+    run_script(engine, natives, "g; return $v", steps, all)
+}
+
+/// What comes of a call of `f` that is abandoned at its question, and of a run after that.
 fn left_alone<L: Ledger>(
     alloc: Global,
     natives: &Natives,
     steps: &mut Steps<L>,
 ) -> Result<Text, NoMemory> {
-    let mut all = Text::empty(alloc);
     let mut engine = engine_with_procedure(alloc, natives, steps)?;
-    let call = call_of_procedure(alloc)?;
-    run_and_abandon(&mut engine, natives, call, steps, &mut all)?;
-    let script = Work::Script(Text::new(alloc, b"g; return $v")?);
-    run_and_abandon(&mut engine, natives, script, steps, &mut all)?;
+    let mut all = Text::empty(alloc);
+    leave_alone(&mut engine, natives, steps, &mut all)?;
     Ok(all)
 }
 
-/// Stands at a question whose answer costs more than is left, which ends the run, and runs on after
-/// that.
+/// Starts a script that asks, with a budget of 3.
+fn ask_with_three<L: Ledger>(
+    engine: &mut Engine<Echo>,
+    natives: &Natives,
+    steps: &mut Steps<L>,
+) -> Result<Outcome, NoMemory>
+    requires { IsIdle engine.old }
+    ensures { IfOk result (λ outcome. Leaves outcome engine.new) }
+{
+    let run = Run {
+        script: b"keep a 1; ask",
+        budget: 3,
+        depth: 1,
+        answers: "",
+        tells: false,
+    };
+    start_script(engine, natives, &run, steps)
+}
+
+/// Answers the question of a run with 2,048 bytes.
+fn answer_long<L: Ledger>(
+    engine: &mut Engine<Echo>,
+    natives: &Natives,
+    outcome: Outcome,
+    steps: &mut Steps<L>,
+) -> Result<Outcome, NoMemory>
+    requires { Leaves outcome engine.old }
+{
+    let long = repeated(engine.host().alloc, "", "sixteen.bytes.xx", "", 128)?;
+    Ok(answer(engine, natives, outcome, Answer::Said(long), steps))
+}
+
+/// Stands at a question whose answer costs more than is left, which ends the run. Appends both.
+fn ask_unpaid<L: Ledger>(
+    engine: &mut Engine<Echo>,
+    natives: &Natives,
+    steps: &mut Steps<L>,
+    all: &mut Text,
+) -> Result<(), NoMemory>
+    requires { IsIdle engine.old }
+{
+    let alloc = engine.host().alloc;
+    let outcome = ask_with_three(engine, natives, steps)?;
+    show(&outcome, engine.left(), alloc, all)?;
+    let ended = answer_long(engine, natives, outcome, steps)?;
+    show(&ended, engine.left(), alloc, all)
+}
+
+/// Runs on after a run whose answer wasn't paid.
+fn go_unpaid<L: Ledger>(
+    engine: &mut Engine<Echo>,
+    natives: &Natives,
+    steps: &mut Steps<L>,
+    all: &mut Text,
+) -> Result<(), NoMemory>
+    requires { IsIdle engine.old }
+{
+    ask_unpaid(engine, natives, steps, all)?;
+    engine.abandon();
+    run_script(engine, natives, "return $a", steps, all)
+}
+
+/// What comes of a question whose answer costs more than is left, and of a run after that.
 fn unpaid<L: Ledger>(
     alloc: Global,
     natives: &Natives,
     steps: &mut Steps<L>,
 ) -> Result<Text, NoMemory> {
-    let mut all = Text::empty(alloc);
     let mut engine = engine(alloc, natives, steps)?;
-    let asking = Work::Script(Text::new(alloc, b"keep a 1; ask")?);
-    let outcome = start(&mut engine, natives, asking, 3, 1, steps);
-    show(&outcome, engine.left(), alloc, &mut all)?;
-    let long = repeated(alloc, "", "sixteen.bytes.xx", "", 128)?;
-    let ended = answer(&mut engine, natives, outcome, Answer::Said(long), steps);
-    show(&ended, engine.left(), alloc, &mut all)?;
-    engine.abandon();
-    let script = Work::Script(Text::new(alloc, b"return $a")?);
-    run_and_abandon(&mut engine, natives, script, steps, &mut all)?;
+    let mut all = Text::empty(alloc);
+    go_unpaid(&mut engine, natives, steps, &mut all)?;
     Ok(all)
+}
+
+/// Checks scripts, answers and pages by their tables.
+fn check_tables<L: Ledger, R: Abort + AllocGlobal>(
+    rt: &R,
+    natives: &Natives,
+    steps: &mut Steps<L>,
+) -> Result<(), Fail> {
+    check_lines(rt, natives, ROWS, 50, steps)?;
+    check_lines(rt, natives, EXPRESSIONS, 25, steps)?;
+    check_lines(rt, natives, TURNS, 36, steps)?;
+    check_lines(rt, natives, PICKS, 28, steps)?;
+    check_lines(rt, natives, COMMANDS, 19, steps)?;
+    for row in ANSWERED {
+        check_answered(rt, natives, &row, steps)?;
+    }
+    check_pages(rt, natives, PAGES, 1, 20, steps)?;
+    check_pages(rt, natives, DEEP_PAGES, 200, 3, steps)
+}
+
+/// Checks a run that is abandoned at a question.
+fn check_left_alone<L: Ledger, R: Abort + AllocGlobal>(
+    rt: &R,
+    natives: &Natives,
+    steps: &mut Steps<L>,
+) -> Result<(), Fail> {
+    let came = left_alone(rt.alloc(), natives, steps)?;
+    let want = "asks ask 3 96|2|1 can't read \"v\": no such variable 99|2|";
+    check_came(rt, &came, want, "left alone")
+}
+
+/// Checks a run whose answer costs more than is left.
+fn check_unpaid<L: Ledger, R: Abort + AllocGlobal>(
+    rt: &R,
+    natives: &Natives,
+    steps: &mut Steps<L>,
+) -> Result<(), Fail> {
+    let came = unpaid(rt.alloc(), natives, steps)?;
+    let want = "asks ask 2 1|spent 1|2 1 99|0|";
+    check_came(rt, &came, want, "unpaid")
+}
+
+/// Checks an engine that is taken back to a mark.
+fn check_taken_back<L: Ledger, R: Abort + AllocGlobal>(
+    rt: &R,
+    natives: &Natives,
+    steps: &mut Steps<L>,
+) -> Result<(), Fail> {
+    let came = taken_back(rt.alloc(), natives, steps)?;
+    let want =
+        "asks ask bye 2 94|0 hello 99|0|1 invalid command name \"g\" 99|0|1|1 can't read \"motd\": no such variable 99|0|";
+    check_came(rt, &came, want, "taken back")
 }
 
 fn check_all<L: Ledger, R: Abort + AllocGlobal>(
@@ -571,25 +873,10 @@ fn check_all<L: Ledger, R: Abort + AllocGlobal>(
     requires some { 0 < blank.parts }
 {
     let mut steps = Steps::<L>::new(blank);
-    check_lines(rt, natives, ROWS, 50, &mut steps)?;
-    check_lines(rt, natives, EXPRESSIONS, 25, &mut steps)?;
-    check_lines(rt, natives, TURNS, 36, &mut steps)?;
-    check_lines(rt, natives, PICKS, 28, &mut steps)?;
-    check_lines(rt, natives, COMMANDS, 19, &mut steps)?;
-    check_answered(rt, natives, &mut steps)?;
-    check_pages(rt, natives, PAGES, 1, 20, &mut steps)?;
-    check_pages(rt, natives, DEEP_PAGES, 200, 3, &mut steps)?;
-    let came = left_alone(rt.alloc(), natives, &mut steps)?;
-    let want = "asks ask 3 96|2|1 can't read \"v\": no such variable 99|2|";
-    assert_eq!(rt; came.bytes(), want.as_bytes());
-    let came = unpaid(rt.alloc(), natives, &mut steps)?;
-    let want = "asks ask 2 1|spent 1|2 1 99|0|";
-    assert_eq!(rt; came.bytes(), want.as_bytes());
-    let came = taken_back(rt.alloc(), natives, &mut steps)?;
-    let want =
-        "asks ask bye 2 94|0 hello 99|0|1 invalid command name \"g\" 99|0|1|1 can't read \"motd\": no such variable 99|0|";
-    assert_eq!(rt; came.bytes(), want.as_bytes());
-    Ok(())
+    check_tables(rt, natives, &mut steps)?;
+    check_left_alone(rt, natives, &mut steps)?;
+    check_unpaid(rt, natives, &mut steps)?;
+    check_taken_back(rt, natives, &mut steps)
 }
 
 #[test]

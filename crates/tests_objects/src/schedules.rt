@@ -3,6 +3,7 @@ ghost use Rattle.turn_cell.specs.Cells.{IsOf};
 
 use sched_core::{DueList, SchedCall, SchedReply, Schedule, steps_are_determined};
 use std::alloc::Global;
+use std::process::Abort;
 use std::sync::Wait;
 use std::test::*;
 use std::thread::{Threads, join};
@@ -77,16 +78,31 @@ fn is(reply: &SchedReply, want: Want) -> bool {
     }
 }
 
-/// Whether a new schedule answers each of these calls so.
-fn answers(alloc: Global, rows: &[(Ask, Want)]) -> Result<bool, Fail> {
-    let mut schedule = Schedule::new(alloc);
+/// Whether a schedule answers a call so.
+fn answers_one(
+    alloc: Global,
+    schedule: &mut Schedule,
+    call: Ask,
+    want: Want,
+) -> Result<bool, Fail> {
+    let reply = reply_to(alloc, schedule, call)?;
+    Ok(is(&reply, want))
+}
+
+/// Whether a schedule answers each of these calls so.
+fn answers_all(alloc: Global, schedule: &mut Schedule, rows: &[(Ask, Want)]) -> Result<bool, Fail> {
     for (call, want) in rows {
-        let reply = reply_to(alloc, &mut schedule, *call)?;
-        if !is(&reply, *want) {
+        if !answers_one(alloc, schedule, *call, *want)? {
             return Ok(false);
         }
     }
     Ok(true)
+}
+
+/// Whether a new schedule answers each of these calls so.
+fn answers(alloc: Global, rows: &[(Ask, Want)]) -> Result<bool, Fail> {
+    let mut schedule = Schedule::new(alloc);
+    answers_all(alloc, &mut schedule, rows)
 }
 
 #[test]
@@ -170,19 +186,33 @@ fn limits(rt: HostRuntime) -> Result<(), Fail> {
     Ok(())
 }
 
+/// Asserts that exactly these scripts are due at a moment.
+fn check_due(
+    rt: &(impl Abort + AllocGlobal),
+    schedule: &mut Schedule,
+    now: u64,
+    scripts: &[&[u8]],
+) -> Result<(), Fail> {
+    let reply = reply_to(rt.alloc(), schedule, Due(now))?;
+    assert_eq!(rt; due_count(&reply), scripts.len());
+    for (at, script) in scripts.iter().enumerate() {
+        assert!(rt; script_is(&reply, at, script));
+    }
+    Ok(())
+}
+
+/// Asserts that a schedule keeps the scripts of its entries.
+fn check_scripts(rt: &(impl Abort + AllocGlobal), schedule: &mut Schedule) -> Result<(), Fail> {
+    let two = [(Every(0, 5), Id(0)), (Once(0, 5), Id(1))];
+    assert!(rt; answers_all(rt.alloc(), schedule, &two)?);
+    check_due(rt, schedule, 5, &[b"every".as_slice(), b"once".as_slice()])?;
+    check_due(rt, schedule, 10, &[b"every".as_slice()])
+}
+
 #[test]
 fn scripts(rt: HostRuntime) -> Result<(), Fail> {
-    let alloc = rt.alloc();
-    let mut schedule = Schedule::new(alloc);
-    assert!(rt; is(&reply_to(alloc, &mut schedule, Every(0, 5))?, Id(0)));
-    assert!(rt; is(&reply_to(alloc, &mut schedule, Once(0, 5))?, Id(1)));
-    let reply = reply_to(alloc, &mut schedule, Due(5))?;
-    assert!(rt; script_is(&reply, 0, b"every"));
-    assert!(rt; script_is(&reply, 1, b"once"));
-    let reply = reply_to(alloc, &mut schedule, Due(10))?;
-    assert!(rt; script_is(&reply, 0, b"every"));
-    assert_eq!(rt; due_count(&reply), 1);
-    Ok(())
+    let mut schedule = Schedule::new(rt.alloc());
+    check_scripts(&rt, &mut schedule)
 }
 
 fn script_is(reply: &SchedReply, at: usize, script: &[u8]) -> bool {
@@ -195,22 +225,34 @@ fn script_is(reply: &SchedReply, at: usize, script: &[u8]) -> bool {
     }
 }
 
+/// How many entries are due at a moment.
+fn count_due(alloc: Global, schedule: &mut Schedule, now: u64) -> Result<usize, Fail> {
+    let reply = reply_to(alloc, schedule, Due(now))?;
+    Ok(due_count(&reply))
+}
+
+/// Asserts that a new schedule takes ten thousand entries, and no more until one is cancelled.
+fn check_full(rt: &(impl Abort + AllocGlobal), schedule: &mut Schedule) -> Result<(), Fail> {
+    for id in 0..10_000 {
+        assert!(rt; answers_one(rt.alloc(), schedule, Every(0, 5), Id(id))?);
+    }
+    assert!(rt; answers_one(rt.alloc(), schedule, Every(0, 5), Full)?);
+    for (now, count) in [(5, 10_000), (100, 10_000), (101, 0)] {
+        assert_eq!(rt; count_due(rt.alloc(), schedule, now)?, count);
+    }
+    let after = [
+        (Cancel(7), Cancelled),
+        (Every(0, 5), Id(10_000)),
+        (Once(0, 5), Full),
+    ];
+    assert!(rt; answers_all(rt.alloc(), schedule, &after)?);
+    Ok(())
+}
+
 #[test]
 fn ten_thousand(rt: HostRuntime) -> Result<(), Fail> {
-    let alloc = rt.alloc();
-    let mut schedule = Schedule::new(alloc);
-    for id in 0..10_000 {
-        assert!(rt; is(&reply_to(alloc, &mut schedule, Every(0, 5))?, Id(id)));
-    }
-    assert!(rt; is(&reply_to(alloc, &mut schedule, Every(0, 5))?, Full));
-    for now in [5, 100, 101] {
-        let reply = reply_to(alloc, &mut schedule, Due(now))?;
-        assert_eq!(rt; due_count(&reply), if now == 101 { 0 } else { 10_000 });
-    }
-    assert!(rt; is(&reply_to(alloc, &mut schedule, Cancel(7))?, Cancelled));
-    assert!(rt; is(&reply_to(alloc, &mut schedule, Every(0, 5))?, Id(10_000)));
-    assert!(rt; is(&reply_to(alloc, &mut schedule, Once(0, 5))?, Full));
-    Ok(())
+    let mut schedule = Schedule::new(rt.alloc());
+    check_full(&rt, &mut schedule)
 }
 
 fn due_count(reply: &SchedReply) -> usize {

@@ -1,12 +1,13 @@
 //! Four threads on the shared arrays: what no clause says of the calls.
 
-ghost use Rattle.std.specs.Prelude.{ℕ, ◌≡◌, ◌+◌, ◌-◌, ◌<◌, ◌≤◌, length, IfOk};
+ghost use Rattle.std.specs.Prelude.{ℕ, ◌≡◌, ◌+◌, ◌-◌, ◌<◌, ◌≤◌, length};
 ghost use Rattle.std.specs.Thread.{IsSync};
 ghost use Rattle.nsv_shared.specs.Cells.{AreOf, HaveJust};
 
 use nsv_bucket::{Buckets, NsvReply};
 use nsv_shared::{Nsv, NsvPass};
 use std::alloc::Global;
+use std::process::Abort;
 use std::sync::Wait;
 use std::test::*;
 use std::thread::{Threads, join};
@@ -19,9 +20,7 @@ const TIMES: usize = 10_000;
 fn increment(alloc: Global, array: &[u8]) -> Result<Words, NoMemory> {
     let mut words = Words::new(alloc);
     for word in [b"nsv_incr".as_slice(), array, b"n".as_slice()] {
-        if words.push(Text::new(alloc, word)?).is_err() {
-            return Err(NoMemory);
-        }
+        words.add(Text::new(alloc, word)?)?;
     }
     Ok(words)
 }
@@ -34,20 +33,16 @@ fn number(reply: &NsvReply) -> i64 {
     }
 }
 
-/// Asks once, and gives the number that is replied.
-fn ask<R: Wait>(
-    rt: &R,
-    alloc: Global,
-    nsv: &Nsv,
-    pass: &mut NsvPass,
-    array: &[u8],
-) -> Result<i64, NoMemory>
+/// Asks once, and gives the number that is replied; 0 for want of memory.
+fn ask<R: Wait>(rt: &R, alloc: Global, nsv: &Nsv, pass: &mut NsvPass, array: &[u8]) -> i64
     requires { AreOf nsv.now pass.old }
     ensures cells { AreOf nsv.now pass.new }
     ensures units { (units : ℕ) → HaveJust units pass.old → HaveJust units pass.new }
 {
-    let words = increment(alloc, array)?;
-    Ok(number(&nsv.ask(rt, pass, words).reply))
+    match increment(alloc, array) {
+        Ok(words) => number(&nsv.ask(rt, pass, words).reply),
+        Err(_) => 0,
+    }
 }
 
 /// The passes of a thread that has asked, and whether each number was greater than the one before it
@@ -58,7 +53,7 @@ struct Asked {
     rising: bool,
 }
 
-/// Asks of these arrays, at most eight, in turn.
+/// Asks of these arrays, at most eight, in turn. For want of memory the numbers don't rise.
 fn ask_in_turn<R: Wait>(
     rt: &R,
     alloc: Global,
@@ -66,33 +61,36 @@ fn ask_in_turn<R: Wait>(
     pass: NsvPass,
     units: u64,
     arrays: &[&[u8]],
-) -> Result<Asked, NoMemory>
+) -> Asked
     requires cells { AreOf nsv.now pass }
     requires units { HaveJust units pass }
     requires some { (0 < length arrays.now) × (length arrays.now ≤ 8) }
-    ensures { IfOk result (λ asked. AreOf nsv.now asked.pass × HaveJust units asked.pass) }
+    ensures { AreOf nsv.now result.pass × HaveJust units result.pass }
 {
     let mut pass = pass;
     let mut rising = true;
     let mut last = [0; 8];
     for turn in 0..TIMES {
         let at = turn % arrays.len();
-        let number = ask(rt, alloc, nsv, &mut pass, arrays[at])?;
+        let number = ask(rt, alloc, nsv, &mut pass, arrays[at]);
         rising = rising && last[at] < number;
         last[at] = number;
     }
-    Ok(Asked { pass, rising })
+    Asked { pass, rising }
 }
 
 /// Passes for another thread.
-fn part(nsv: &Nsv, pass: &mut NsvPass, units: u64) -> Result<NsvPass, NoMemory>
+fn part(nsv: &Nsv, pass: &mut NsvPass, units: u64) -> NsvPass
     requires cells { AreOf nsv.now pass.old }
     requires units { (2 ≤ units) × HaveJust units pass.old }
-    ensures cells { AreOf nsv.now pass.new }
+    ensures cells { AreOf nsv.now pass.new × AreOf nsv.now result }
     ensures left { HaveJust (units - 1) pass.new }
-    ensures right { IfOk result (λ parts. AreOf nsv.now parts × HaveJust 1 parts) }
+    ensures right { HaveJust 1 result }
 {
-    nsv.split(pass)
+    match nsv.split(pass) {
+        Ok(parts) => parts,
+        Err(_) => unreachable!(),
+    }
 }
 
 /// The passes take in others.
@@ -105,6 +103,24 @@ fn take_in(nsv: &Nsv, pass: &mut NsvPass, other: NsvPass, units: u64, more: u64)
     nsv.join(pass, other);
 }
 
+/// What two threads found, with the passes of both.
+fn joined(nsv: &Nsv, one: Asked, other: Asked, units: u64, more: u64) -> Asked
+    requires cells { AreOf nsv.now one.pass × AreOf nsv.now other.pass }
+    requires units { HaveJust units one.pass × HaveJust more other.pass }
+    ensures { AreOf nsv.now result.pass × HaveJust (units + more) result.pass }
+{
+    let Asked { mut pass, rising } = one;
+    let Asked {
+        pass: second,
+        rising: also,
+    } = other;
+    take_in(nsv, &mut pass, second, units, more);
+    Asked {
+        pass,
+        rising: rising && also,
+    }
+}
+
 /// Two threads ask at once, and their passes are joined.
 fn ask_in_two<R: Threads + Wait + Sync>(
     rt: &R,
@@ -114,33 +130,24 @@ fn ask_in_two<R: Threads + Wait + Sync>(
     other: NsvPass,
     units: u64,
     arrays: &[&[u8]],
-) -> Result<Asked, NoMemory>
+) -> Asked
     requires cells { AreOf nsv.now one × AreOf nsv.now other }
     requires units { HaveJust units one × HaveJust 1 other }
     requires some { (0 < length arrays.now) × (length arrays.now ≤ 8) }
-    ensures { IfOk result (λ asked. AreOf nsv.now asked.pass × HaveJust (units + 1) asked.pass) }
+    ensures { AreOf nsv.now result.pass × HaveJust (units + 1) result.pass }
 {
     let (one, other) = join(
         rt,
         move ||
             requires { IsSync R.row × AreOf nsv.now one × HaveJust units one × ((0 < length arrays.now) × (length arrays.now ≤ 8)) }
-            ensures { IfOk result (λ asked. AreOf nsv.entry.now asked.pass × HaveJust units asked.pass) }
+            ensures { AreOf nsv.entry.now result.pass × HaveJust units result.pass }
         { ask_in_turn(rt, alloc, nsv, one, units, arrays) },
         move ||
             requires { IsSync R.row × AreOf nsv.now other × HaveJust 1 other × ((0 < length arrays.now) × (length arrays.now ≤ 8)) }
-            ensures { IfOk result (λ asked. AreOf nsv.entry.now asked.pass × HaveJust 1 asked.pass) }
+            ensures { AreOf nsv.entry.now result.pass × HaveJust 1 result.pass }
         { ask_in_turn(rt, alloc, nsv, other, 1, arrays) },
     );
-    let Asked { mut pass, rising } = one?;
-    let Asked {
-        pass: second,
-        rising: also,
-    } = other?;
-    take_in(nsv, &mut pass, second, units, 1);
-    Ok(Asked {
-        pass,
-        rising: rising && also,
-    })
+    joined(nsv, one, other, units, 1)
 }
 
 /// Four threads ask at once: what the buckets hold at the end, and whether each thread's numbers rose.
@@ -152,28 +159,23 @@ fn ask_in_four<R: Threads + Wait + Sync>(
     requires some { (0 < length arrays.now) × (length arrays.now ≤ 8) }
 {
     let (nsv, mut first) = Nsv::new(alloc)?;
-    let second = part(&nsv, &mut first, 65_536)?;
-    let third = part(&nsv, &mut first, 65_535)?;
-    let fourth = part(&nsv, &mut first, 65_534)?;
+    let second = part(&nsv, &mut first, 65_536);
+    let third = part(&nsv, &mut first, 65_535);
+    let fourth = part(&nsv, &mut first, 65_534);
     let shared = &nsv;
     let (front, back) = join(
         rt,
         move ||
             requires { IsSync R.row × AreOf shared.now first × AreOf shared.now second × (HaveJust 65533 first × HaveJust 1 second) × ((0 < length arrays.now) × (length arrays.now ≤ 8)) }
-            ensures { IfOk result (λ asked. AreOf shared.entry.now asked.pass × HaveJust 65534 asked.pass) }
+            ensures { AreOf shared.entry.now result.pass × HaveJust 65534 result.pass }
         { ask_in_two(rt, alloc, shared, first, second, 65_533, arrays) },
         move ||
             requires { IsSync R.row × AreOf shared.now third × AreOf shared.now fourth × (HaveJust 1 third × HaveJust 1 fourth) × ((0 < length arrays.now) × (length arrays.now ≤ 8)) }
-            ensures { IfOk result (λ asked. AreOf shared.entry.now asked.pass × HaveJust 2 asked.pass) }
+            ensures { AreOf shared.entry.now result.pass × HaveJust 2 result.pass }
         { ask_in_two(rt, alloc, shared, third, fourth, 1, arrays) },
     );
-    let Asked { mut pass, rising } = front?;
-    let Asked {
-        pass: rest,
-        rising: also,
-    } = back?;
-    take_in(&nsv, &mut pass, rest, 65_534, 2);
-    Ok((nsv.close(rt, pass), rising && also))
+    let Asked { pass, rising } = joined(&nsv, front, back, 65_534, 2);
+    Ok((nsv.close(rt, pass), rising))
 }
 
 /// Whether the bucket with this number holds this number for the array.
@@ -233,16 +235,27 @@ fn place<R: Wait>(
     requires { AreOf nsv.now pass.old }
     ensures { AreOf nsv.now pass.new }
 {
-    let turn = nsv.ask(rt, pass, increment(alloc, array)?);
+    let words = increment(alloc, array)?;
+    let turn = nsv.ask(rt, pass, words);
     Ok((turn.bucket, turn.place))
+}
+
+/// Asserts where three arrays lie, and that the turns of each bucket are counted by themselves.
+fn check_places(
+    rt: &(impl Wait + Abort + AllocGlobal),
+    nsv: &Nsv,
+    pass: &mut NsvPass,
+) -> Result<(), Fail>
+    requires { AreOf nsv.now pass.old }
+{
+    assert_eq!(rt; place(rt, rt.alloc(), nsv, pass, b"c")?, (3, 0));
+    assert_eq!(rt; place(rt, rt.alloc(), nsv, pass, b"a")?, (1, 0));
+    assert_eq!(rt; place(rt, rt.alloc(), nsv, pass, b"ab")?, (3, 1));
+    Ok(())
 }
 
 #[test]
 fn places_by_bucket(rt: HostRuntime) -> Result<(), Fail> {
-    let alloc = rt.alloc();
-    let (nsv, mut pass) = Nsv::new(alloc)?;
-    assert_eq!(rt; place(&rt, alloc, &nsv, &mut pass, b"c")?, (3, 0));
-    assert_eq!(rt; place(&rt, alloc, &nsv, &mut pass, b"a")?, (1, 0));
-    assert_eq!(rt; place(&rt, alloc, &nsv, &mut pass, b"ab")?, (3, 1));
-    Ok(())
+    let (nsv, mut pass) = Nsv::new(rt.alloc())?;
+    check_places(&rt, &nsv, &mut pass)
 }

@@ -94,7 +94,7 @@ fn check_many<L: Ledger, R: Abort + AllocGlobal>(rt: &R, steps: &mut Steps<L>) -
             bytes: 99 * 156 + 151,
         };
         assert_eq!(rt;
-            counted(rt.alloc(), file.bytes(), steps)?,
+            counted(rt.alloc(), file.bytes(), &[], steps)?,
             Counted::Done(want)
         );
     }
@@ -133,14 +133,17 @@ const MISSED: &[&str] = &[
     "closed 0 ended",
 ];
 
-/// A head of 16,384 bytes without an end is refused, and so is one of 101 fields, but not one of 100.
+/// A head of 16,384 bytes without an end is refused, and so is one of 101 fields, but not one of 100; and
+/// of the largest input no more than that is looked at.
 fn check_heads<L: Ledger, R: Abort + AllocGlobal>(
     rt: &R,
     steps: &mut Steps<L>,
 ) -> Result<(), Fail> {
     let front = b"GET /x HTTP/1.1\r\nHost: l\r\n".as_slice();
-    let cases: [(&[u8], &[u8], u64, &[u8], &[&str]); 3] = [
+    let cases: [(&[u8], &[u8], u64, &[u8], &[&str]); 4] = [
         (b"", b"AAAAAAAAAAAAAAAA", 1024, b"", TOO_LARGE),
+        // 16,777,216 bytes
+        (b"", b"AAAAAAAAAAAAAAAA", 1_048_576, b"", TOO_LARGE),
         (front, b"A: b\r\n", 99, b"\r\n", MISSED),
         (front, b"A: b\r\n", 100, b"\r\n", TOO_LARGE),
     ];
@@ -271,7 +274,7 @@ fn check_nesting<L: Ledger, R: Abort + AllocGlobal>(
     Ok(())
 }
 
-/// What is counted: responses of two statuses, and the bytes of all.
+/// What is counted: responses of two statuses, and the bytes of all; nothing where a read fails.
 fn check_counts<L: Ledger, R: Abort + AllocGlobal>(
     rt: &R,
     steps: &mut Steps<L>,
@@ -291,11 +294,18 @@ fn check_counts<L: Ledger, R: Abort + AllocGlobal>(
         missing: 1,
         bytes: 156 + 176 + 175,
     };
-    assert_eq!(rt; counted(alloc, file.bytes(), steps)?, Counted::Done(want));
+    assert_eq!(rt;
+        counted(alloc, file.bytes(), &[], steps)?,
+        Counted::Done(want)
+    );
+    for bad_read in [0u64, 1] {
+        let came = counted(alloc, file.bytes(), &[bad_read], steps)?;
+        assert_eq!(rt; came, Counted::ReadFault);
+    }
     let lines = b"requests 3\nstatus 200 1\nstatus 404 1\nbytes 507\n".as_slice();
     assert_eq!(rt; want.summary(alloc, 3)?.bytes(), lines);
     let bad = Counted::BadEvent { event: 2 };
-    assert_eq!(rt; counted(alloc, b"run 0\nrun 1\n", steps)?, bad);
+    assert_eq!(rt; counted(alloc, b"run 0\nrun 1\n", &[], steps)?, bad);
     Ok(())
 }
 

@@ -134,14 +134,17 @@ pub fn rehearsed_at_once<L: Ledger>(
     rehearsed(alloc, input, &AT_ONCE, steps)
 }
 
-/// What is counted of the listing of a file.
+/// What is counted of the listing of a file, which comes in one piece but for the reads that fail.
 pub fn counted<L: Ledger>(
     alloc: Global,
     input: &[u8],
+    bad_reads: &[u64],
     steps: &mut Steps<L>,
 ) -> Result<Counted, NoMemory> {
     let natives = Natives::new(alloc);
-    Ok(count_listing(alloc, &natives, Text::new(alloc, input)?, steps))
+    let bad_reads = Vec::from_slice(alloc, bad_reads)?;
+    let mut source = MemSource::new(Text::new(alloc, input)?, AT_ONCE.gives.max(1), bad_reads);
+    Ok(count_listing(alloc, &natives, &mut source, steps))
 }
 
 /// How a rehearsal ends, as the lines write it.

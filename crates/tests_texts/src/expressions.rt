@@ -207,31 +207,62 @@ fn evaluated(alloc: Global, expr: &Expr) -> Result<Text, ExprFault> {
     }
 }
 
+/// A bad place, as the cases write it.
+fn bad_place(alloc: Global, at: u64) -> Result<Text, AllocError> {
+    let shown = format!(in alloc; "Bad {at}")?;
+    Ok(Text::from_vec(shown.into_bytes()))
+}
+
+/// A fault, as the cases write it.
+fn fault_text(alloc: Global, fault: ExprFault) -> Result<Text, AllocError> {
+    let shown = format!(in alloc; "{fault:?}")?;
+    Ok(Text::from_vec(shown.into_bytes()))
+}
+
+/// The value of an expression or its fault, as the cases write it.
+fn value_text(alloc: Global, expr: &Expr) -> Result<Text, Fail> {
+    match evaluated(alloc, expr) {
+        Err(fault) => Ok(fault_text(alloc, fault)?),
+        Ok(value) => Ok(expression_value(alloc, &value)?),
+    }
+}
+
 /// What a text is, as the cases write it.
 fn answer(alloc: Global, text: Vec<u8>) -> Result<Text, Fail> {
-    let shown = match parse_expr(alloc, &Text::from_vec(text)) {
-        Err(ExprText::NoMemory) => format!(in alloc; "no memory")?,
-        Err(ExprText::Bad { at }) => format!(in alloc; "Bad {at}")?,
-        Ok(expr) => match evaluated(alloc, &expr) {
-            Err(fault) => format!(in alloc; "{fault:?}")?,
-            Ok(value) => return Ok(expression_value(alloc, &value)?),
-        },
-    };
-    Ok(Text::from_vec(shown.into_bytes()))
+    match parse_expr(alloc, &Text::from_vec(text)) {
+        Err(ExprText::NoMemory) => Ok(Text::new(alloc, b"no memory")?),
+        Err(ExprText::Bad { at }) => Ok(bad_place(alloc, at)?),
+        Ok(expr) => value_text(alloc, &expr),
+    }
+}
+
+/// The bytes of a case's expression.
+fn meant(alloc: Global, text: &str) -> Result<Vec<u8>, AllocError> {
+    let mut bytes = Vec::new(alloc);
+    for b in text.as_bytes() {
+        bytes.push(if *b == b';' { b'\n' } else { *b })?;
+    }
+    Ok(bytes)
+}
+
+/// Whether this is what a text is.
+fn is_answer(alloc: Global, text: Vec<u8>, want: &[u8]) -> Result<bool, Fail> {
+    let got = answer(alloc, text)?;
+    Ok(got.bytes() == want)
+}
+
+/// Whether this is what a case's expression is.
+fn is_case(alloc: Global, text: &str, want: &str) -> Result<bool, Fail> {
+    let text = meant(alloc, text)?;
+    is_answer(alloc, text, want.as_bytes())
 }
 
 #[test]
 fn cases(rt: HostRuntime) -> Result<(), Fail> {
-    let alloc = rt.alloc();
     let mut count = 0u64;
     for line in CASES.lines() {
         let (text, want) = line.split_once(" => ").ok_or("a case has an arrow")?;
-        let mut bytes = Vec::new(alloc);
-        for b in text.as_bytes() {
-            bytes.push(if *b == b';' { b'\n' } else { *b })?;
-        }
-        let got = answer(alloc, bytes)?;
-        assert_eq!(rt; got.bytes(), want.as_bytes(), "{line}");
+        assert!(rt; is_case(rt.alloc(), text, want)?, "{line}");
         count = count.wrapping_add(1);
     }
     assert_eq!(rt; count, 165);
@@ -249,57 +280,74 @@ fn repeated(alloc: Global, units: [(&str, u32); 3]) -> Result<Vec<u8>, AllocErro
     Ok(text)
 }
 
+/// Three units, each repeated, and what the text of them is.
+const LIMITS: [([(&str, u32); 3], &[u8]); 19] = [
+    ([("(", 200), ("1", 1), (")", 200)], b"1"),
+    ([("(", 201), ("1", 1), (")", 201)], b"Bad 200"),
+    ([("(", 100_000), ("", 0), ("", 0)], b"Bad 200"),
+    ([("1", 1), ("+1", 1000), ("", 0)], b"1001"),
+    ([("1", 1), ("+1", 1001), ("", 0)], b"Bad 2001"),
+    ([("1", 1), ("+1", 100_000), ("", 0)], b"Bad 2001"),
+    ([("1", 1), ("+1", 1000), ("=", 1)], b"Bad 2001"),
+    ([("-", 1000), ("1", 1), ("", 0)], b"1"),
+    ([("-", 1001), ("1", 1), ("", 0)], b"Bad 1000"),
+    ([("1?1:", 1000), ("1", 1), ("", 0)], b"1"),
+    ([("1?1:", 1001), ("1", 1), ("", 0)], b"Bad 4001"),
+    ([("1?", 1000), ("1", 1), (":0", 1000)], b"1"),
+    ([("1?", 1001), ("1", 1), (":0", 1001)], b"Bad 2001"),
+    ([("(-", 200), ("1", 1), (")+0", 200)], b"1"),
+    ([("(1+1)+", 500), ("1", 1), ("", 0)], b"1001"),
+    ([("(1+1)+", 500), ("1", 1), ("-1", 1)], b"Bad 3001"),
+    ([("0", 1_000_000), ("", 0), ("", 0)], b"0"),
+    (
+        [("0", 1_000_000), ("8", 1), ("0", 1_000_000)],
+        b"Bad 1000000",
+    ),
+    ([(" ", 1_000_000), ("1", 1), (" ", 1_000_000)], b"1"),
+];
+
+/// Whether this is what the text of three units is.
+fn is_limit(alloc: Global, units: [(&str, u32); 3], want: &[u8]) -> Result<bool, Fail> {
+    let text = repeated(alloc, units)?;
+    is_answer(alloc, text, want)
+}
+
 #[test]
 fn limits(rt: HostRuntime) -> Result<(), Fail> {
-    let alloc = rt.alloc();
-    for (units, want) in [
-        ([("(", 200), ("1", 1), (")", 200)], b"1".as_slice()),
-        ([("(", 201), ("1", 1), (")", 201)], b"Bad 200".as_slice()),
-        ([("(", 100_000), ("", 0), ("", 0)], b"Bad 200".as_slice()),
-        ([("1", 1), ("+1", 1000), ("", 0)], b"1001".as_slice()),
-        ([("1", 1), ("+1", 1001), ("", 0)], b"Bad 2001".as_slice()),
-        ([("1", 1), ("+1", 100_000), ("", 0)], b"Bad 2001".as_slice()),
-        ([("1", 1), ("+1", 1000), ("=", 1)], b"Bad 2001".as_slice()),
-        ([("-", 1000), ("1", 1), ("", 0)], b"1".as_slice()),
-        ([("-", 1001), ("1", 1), ("", 0)], b"Bad 1000".as_slice()),
-        ([("1?1:", 1000), ("1", 1), ("", 0)], b"1".as_slice()),
-        ([("1?1:", 1001), ("1", 1), ("", 0)], b"Bad 4001".as_slice()),
-        ([("1?", 1000), ("1", 1), (":0", 1000)], b"1".as_slice()),
-        (
-            [("1?", 1001), ("1", 1), (":0", 1001)],
-            b"Bad 2001".as_slice(),
-        ),
-        ([("(-", 200), ("1", 1), (")+0", 200)], b"1".as_slice()),
-        ([("(1+1)+", 500), ("1", 1), ("", 0)], b"1001".as_slice()),
-        (
-            [("(1+1)+", 500), ("1", 1), ("-1", 1)],
-            b"Bad 3001".as_slice(),
-        ),
-        ([("0", 1_000_000), ("", 0), ("", 0)], b"0".as_slice()),
-        (
-            [("0", 1_000_000), ("8", 1), ("0", 1_000_000)],
-            b"Bad 1000000".as_slice(),
-        ),
-        (
-            [(" ", 1_000_000), ("1", 1), (" ", 1_000_000)],
-            b"1".as_slice(),
-        ),
-    ] {
-        let got = answer(alloc, repeated(alloc, units)?)?;
-        assert_eq!(rt; got.bytes(), want);
+    for (units, want) in LIMITS {
+        assert!(rt; is_limit(rt.alloc(), units, want)?, "{units:?}");
     }
     Ok(())
 }
 
-#[test]
-fn other_operators(rt: HostRuntime) -> Result<(), Fail> {
-    let alloc = rt.alloc();
-    let one = Text::new(alloc, b"1")?;
+/// Whether a value of an operator is refused as no number.
+fn is_no_number(value: &Result<Text, ExprFault>) -> bool {
+    matches!(value, Err(ExprFault::NotNumber))
+}
+
+/// Whether an operator of two operands is refused with one.
+fn refused_with_one(alloc: Global, op: Op, one: &Text) -> bool {
+    is_no_number(&apply_unary(alloc, op, one))
+}
+
+/// Whether an operator of one operand is refused with two.
+fn refused_with_two(alloc: Global, op: Op, one: &Text) -> bool {
+    is_no_number(&apply_binary(alloc, op, one, one))
+}
+
+/// Asserts that operators with another number of operands are refused.
+fn check_operators(rt: &(impl Abort + AllocGlobal), one: &Text) {
     for op in [Op::Mul, Op::EqText, Op::And] {
-        assert!(rt; apply_unary(alloc, op, &one).err() == Some(ExprFault::NotNumber));
+        assert!(rt; refused_with_one(rt.alloc(), op, one));
     }
     for op in [Op::Minus, Op::Plus, Op::Invert, Op::Not] {
-        assert!(rt; apply_binary(alloc, op, &one, &one).err() == Some(ExprFault::NotNumber));
+        assert!(rt; refused_with_two(rt.alloc(), op, one));
     }
+}
+
+#[test]
+fn other_operators(rt: HostRuntime) -> Result<(), Fail> {
+    let one = Text::new(rt.alloc(), b"1")?;
+    check_operators(&rt, &one);
     Ok(())
 }

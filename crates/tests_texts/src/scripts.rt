@@ -177,16 +177,26 @@ fn show_script(script: &Script, out: &mut Vec<u8>) -> Result<(), AllocError> {
     Ok(())
 }
 
+/// Appends a fault and its place.
+fn show_fault(alloc: Global, kind: Kind, at: u64, out: &mut Vec<u8>) -> Result<(), AllocError> {
+    let fault = format!(in alloc; "{kind:?} {at}")?;
+    out.extend_from_slice(fault.as_bytes())
+}
+
+/// Appends what parsing a text answers.
+fn show_answer(alloc: Global, text: &Text, out: &mut Vec<u8>) -> Result<(), AllocError> {
+    match parse(alloc, text) {
+        Ok(script) => show_script(&script, out),
+        Err(ParseFault::Unclosed { at, kind }) => show_fault(alloc, kind, at, out),
+        Err(ParseFault::NoMemory) => out.extend_from_slice(b"no memory"),
+    }
+}
+
 /// What parsing a text answers, as the cases write it.
 fn shown(alloc: Global, text: Vec<u8>) -> Result<Vec<u8>, Fail> {
+    let text = Text::from_vec(text);
     let mut out = Vec::new(alloc);
-    match parse(alloc, &Text::from_vec(text)) {
-        Ok(script) => show_script(&script, &mut out)?,
-        Err(ParseFault::Unclosed { at, kind }) => {
-            out.extend_from_slice(format!(in alloc; "{kind:?} {at}")?.as_bytes())?;
-        }
-        Err(ParseFault::NoMemory) => out.extend_from_slice(b"no memory")?,
-    }
+    show_answer(alloc, &text, &mut out)?;
     Ok(out)
 }
 
@@ -203,15 +213,25 @@ fn meant(alloc: Global, part: &str) -> Result<Vec<u8>, AllocError> {
     Ok(bytes)
 }
 
+/// Whether parsing a text answers this.
+fn is_answer(alloc: Global, text: Vec<u8>, want: &[u8]) -> Result<bool, Fail> {
+    let got = shown(alloc, text)?;
+    Ok(got.as_slice() == want)
+}
+
+/// Whether parsing the text of a line answers what the line says.
+fn is_case(alloc: Global, text: &str, want: &str) -> Result<bool, Fail> {
+    let want = meant(alloc, want)?;
+    let text = meant(alloc, text)?;
+    is_answer(alloc, text, &want)
+}
+
 #[test]
 fn cases(rt: HostRuntime) -> Result<(), Fail> {
-    let alloc = rt.alloc();
     let mut count = 0u64;
     for line in CASES.lines() {
         let (text, want) = line.split_once(" => ").ok_or("a case has an arrow")?;
-        let got = shown(alloc, meant(alloc, text)?)?;
-        let want = meant(alloc, want)?;
-        assert_eq!(rt; got.as_slice(), want.as_slice(), "{line}");
+        assert!(rt; is_case(rt.alloc(), text, want)?, "{line}");
         count = count.wrapping_add(1);
     }
     assert_eq!(rt; count, 98);
@@ -226,30 +246,58 @@ fn repeated(alloc: Global, unit: &[u8], count: u32) -> Result<Vec<u8>, AllocErro
     Ok(text)
 }
 
-fn check_repeated(
-    rt: &(impl Abort + AllocGlobal),
-    unit: &[u8],
-    count: u32,
-    want: &[u8],
-) -> Result<(), Fail> {
-    let got = shown(rt.alloc(), repeated(rt.alloc(), unit, count)?)?;
-    assert_eq!(rt; got.as_slice(), want);
-    Ok(())
+/// Whether parsing a unit again and again answers this.
+fn is_depth(alloc: Global, unit: &[u8], count: u32, want: &[u8]) -> Result<bool, Fail> {
+    let text = repeated(alloc, unit, count)?;
+    is_answer(alloc, text, want)
+}
+
+/// Units, how often they stand in a text, and what parsing it answers.
+const DEPTHS: [(&[u8], u32, &[u8]); 7] = [
+    (b"[", 200, b"Bracket 199"),
+    (b"[", 201, b"Deep 200"),
+    (b"[", 100_000, b"Deep 200"),
+    (b"$x(", 200, b"Variable 597"),
+    (b"$x(", 201, b"Deep 602"),
+    (b"$x([", 101, b"Deep 402"),
+    (b"{", 100_000, b"Brace 0"),
+];
+
+/// So many brackets, one in another, all of which are closed.
+fn nested(alloc: Global, count: u32) -> Result<Text, AllocError> {
+    let mut text = repeated(alloc, b"[", count)?;
+    for _ in 0..count {
+        text.push(b']')?;
+    }
+    Ok(Text::from_vec(text))
+}
+
+/// Whether so many brackets, one in another, are a script.
+fn is_script(alloc: Global, count: u32) -> Result<bool, Fail> {
+    let text = nested(alloc, count)?;
+    Ok(parse(alloc, &text).is_ok())
 }
 
 #[test]
 fn depths(rt: HostRuntime) -> Result<(), Fail> {
-    check_repeated(&rt, b"[", 200, b"Bracket 199")?;
-    check_repeated(&rt, b"[", 201, b"Deep 200")?;
-    check_repeated(&rt, b"[", 100_000, b"Deep 200")?;
-    check_repeated(&rt, b"$x(", 200, b"Variable 597")?;
-    check_repeated(&rt, b"$x(", 201, b"Deep 602")?;
-    check_repeated(&rt, b"$x([", 101, b"Deep 402")?;
-    check_repeated(&rt, b"{", 100_000, b"Brace 0")?;
-    let mut text = repeated(rt.alloc(), b"[", 200)?;
-    text.extend_from_slice(repeated(rt.alloc(), b"]", 200)?.as_slice())?;
-    assert!(rt; parse(rt.alloc(), &Text::from_vec(text)).is_ok());
+    for (unit, count, want) in DEPTHS {
+        assert!(rt; is_depth(rt.alloc(), unit, count, want)?, "not {want:?}");
+    }
+    assert!(rt; is_script(rt.alloc(), 200)?);
     Ok(())
+}
+
+/// How many bytes stand as they are in a command's words.
+fn plain_bytes(command: &Command) -> u64 {
+    let mut bytes = 0u64;
+    for word in &command.words {
+        for piece in &word.pieces {
+            if let Piece::Bytes(text) = piece {
+                bytes = bytes.wrapping_add(text.len() as u64);
+            }
+        }
+    }
+    bytes
 }
 
 /// How many commands a text has, and how many bytes stand as they are in its words.
@@ -257,31 +305,47 @@ fn size_of(alloc: Global, text: Vec<u8>) -> Result<(usize, u64), Fail> {
     let script = parse(alloc, &Text::from_vec(text)).map_err(|_| "no script")?;
     let mut bytes = 0u64;
     for command in &script.commands {
-        for word in &command.words {
-            for piece in &word.pieces {
-                if let Piece::Bytes(text) = piece {
-                    bytes = bytes.wrapping_add(text.len() as u64);
-                }
-            }
-        }
+        bytes = bytes.wrapping_add(plain_bytes(command));
     }
     Ok((script.commands.len(), bytes))
 }
 
+/// A text, and a unit again and again, and a text behind it.
+fn framed(
+    alloc: Global,
+    front: &[u8],
+    unit: &[u8],
+    count: u32,
+    back: &[u8],
+) -> Result<Vec<u8>, AllocError> {
+    let mut text = Vec::from_slice(alloc, front)?;
+    for _ in 0..count {
+        text.extend_from_slice(unit)?;
+    }
+    text.extend_from_slice(back)?;
+    Ok(text)
+}
+
+/// Large texts in parts, a unit and how often it stands there between them, how many commands they
+/// have, and how many bytes stand as they are.
+const LARGE: [(&[u8], &[u8], u32, &[u8], (usize, u64)); 3] = [
+    (
+        b"",
+        b"set x [f $a(b) {c d}] \"e f\"\n",
+        36_000,
+        b"",
+        (36_000, 252_000),
+    ),
+    (b"{", b"a {b} \\c", 128_000, b"}", (1, 1_024_000)),
+    (b"", b"\\", 100_000, b"", (1, 50_000)),
+];
+
 #[test]
 fn large_texts(rt: HostRuntime) -> Result<(), Fail> {
-    let alloc = rt.alloc();
-    let code = repeated(alloc, b"set x [f $a(b) {c d}] \"e f\"\n", 36_000)?;
-    assert_eq!(rt; size_of(alloc, code)?, (36_000, 252_000));
-    let mut word = Vec::new(alloc);
-    word.push(b'{')?;
-    word.extend_from_slice(repeated(alloc, b"a {b} \\c", 128_000)?.as_slice())?;
-    word.push(b'}')?;
-    assert_eq!(rt; size_of(alloc, word)?, (1, 1_024_000));
-    assert_eq!(rt;
-        size_of(alloc, repeated(alloc, b"\\", 100_000)?)?,
-        (1, 50_000)
-    );
+    for (front, unit, count, back, want) in LARGE {
+        let text = framed(rt.alloc(), front, unit, count, back)?;
+        assert_eq!(rt; size_of(rt.alloc(), text)?, want);
+    }
     Ok(())
 }
 
@@ -305,28 +369,38 @@ fn substituted(alloc: Global, text: &[u8]) -> Result<Vec<u8>, Fail> {
     Ok(out)
 }
 
+/// Whether this is a word at the front of a text, and what is left.
+fn is_enclosed(alloc: Global, text: &[u8], want: &[u8]) -> Result<bool, Fail> {
+    let out = enclosed(alloc, text)?;
+    Ok(out.as_slice() == want)
+}
+
+/// Whether this is what is substituted at the front of a text, and what is left.
+fn is_substituted(alloc: Global, text: &[u8], want: &[u8]) -> Result<bool, Fail> {
+    let out = substituted(alloc, text)?;
+    Ok(out.as_slice() == want)
+}
+
+/// Whether a word at the front of a text is open, with this fault.
+fn is_open(alloc: Global, text: &[u8], fault: Stop) -> bool {
+    match read_enclosed(alloc, MOST_NESTED, text) {
+        Ok(_word) => false,
+        Err(stop) => stop == fault,
+    }
+}
+
 #[test]
 fn parts_of_other_texts(rt: HostRuntime) -> Result<(), Fail> {
-    let alloc = rt.alloc();
-    assert_eq!(rt;
-        enclosed(alloc, b"{1}+2")?.as_slice(),
-        b"('1')+2".as_slice()
-    );
-    assert_eq!(rt;
-        enclosed(alloc, b"\"$x\"eq")?.as_slice(),
-        b"($x)eq".as_slice()
-    );
-    assert_eq!(rt; enclosed(alloc, b"x{}")?.as_slice(), b"".as_slice());
-    assert_eq!(rt; substituted(alloc, b"$x+1")?.as_slice(), b"$x+1".as_slice());
-    assert_eq!(rt;
-        substituted(alloc, b"[f]*2")?.as_slice(),
-        b"[('f')]*2".as_slice()
-    );
-    assert_eq!(rt; substituted(alloc, b"$+1")?.as_slice(), b"".as_slice());
+    assert!(rt; is_enclosed(rt.alloc(), b"{1}+2", b"('1')+2")?);
+    assert!(rt; is_enclosed(rt.alloc(), b"\"$x\"eq", b"($x)eq")?);
+    assert!(rt; is_enclosed(rt.alloc(), b"x{}", b"")?);
+    assert!(rt; is_substituted(rt.alloc(), b"$x+1", b"$x+1")?);
+    assert!(rt; is_substituted(rt.alloc(), b"[f]*2", b"[('f')]*2")?);
+    assert!(rt; is_substituted(rt.alloc(), b"$+1", b"")?);
     let open = Stop::Fault {
         kind: Kind::Quote,
         left: 2,
     };
-    assert!(rt; read_enclosed(alloc, MOST_NESTED, b"\"a").err() == Some(open));
+    assert!(rt; is_open(rt.alloc(), b"\"a", open));
     Ok(())
 }

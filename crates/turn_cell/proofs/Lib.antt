@@ -8,4 +8,3 @@ pub mod Saying
 pub mod Chains
 pub mod Joins
 pub mod Rows
-pub mod Counting

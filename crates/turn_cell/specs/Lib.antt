@@ -7,5 +7,4 @@ pub mod Points
 pub mod Steps
 pub mod Chains
 pub mod Joins
-pub mod Counts
 pub mod Cells

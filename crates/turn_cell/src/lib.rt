@@ -15,8 +15,6 @@ mod cell;
 mod laws;
 mod object;
 mod rule;
-#[cfg(test)]
-mod tests;
 mod view;
 
 pub use cell::{Pass, TurnCell, Turned};

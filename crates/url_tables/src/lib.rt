@@ -12,6 +12,3 @@ pub use filters::WordsList;
 pub use law::routes_are_best;
 pub use routes::Routes;
 pub use site::Route;
-
-#[cfg(test)]
-mod tests;

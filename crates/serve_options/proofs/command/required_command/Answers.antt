@@ -1,12 +1,10 @@
-use Rattle.std.proofs.Common.{◌≡◌, ◌∙◌, ap₂, rules}
-use Rattle.clap.specs.Words.{app_of, with_rule}
-use Rattle.serve_options.specs.Command.{bare_app}
+use Rattle.std.proofs.Common.{◌∙◌, ap₂}
+use Rattle.clap.specs.Words.{with_rule}
 use Rattle.serve_options.proofs.command.required_command.Goals as goal
 
 pub returns : goal.returns
 returns c =
-    let bare_is : app_of c.version-bare.result ≡ bare_app = search rules in
     c.in_ok-listening.ensures
     ∙ ap₂ with_rule (c.in_ok-started.ensures
-    ∙ ap₂ with_rule (c.in_ok-rooted.ensures ∙ ap₂ with_rule bare_is c.required_option.ensures.rule) c.required_option-2.ensures.rule)
-    c.required_option-3.ensures.rule
+    ∙ ap₂ with_rule (c.in_ok-rooted.ensures ∙ ap₂ with_rule c.bare_command.ensures (c.told.ensures.rule ∙ c.required_option-root.ensures.rule)) (c.told-2.ensures.rule ∙ c.required_option-start.ensures.rule))
+    (c.told-3.ensures.rule ∙ c.required_option-listen.ensures.rule)

@@ -6,5 +6,5 @@ pub returns : goal.returns
 returns c =
     c.in_ok-whole.ensures
     ∙ ap₂ with_rule (c.in_ok-queued.ensures
-    ∙ ap₂ with_rule (c.in_ok-staffed.ensures ∙ ap₂ with_rule c.in_ok-required.ensures c.number_option.ensures.rule) c.number_option-2.ensures.rule)
-    c.number_option-3.ensures.rule
+    ∙ ap₂ with_rule (c.in_ok-staffed.ensures ∙ ap₂ with_rule c.in_ok-required.ensures (c.told.ensures.rule ∙ c.number_option-workers.ensures.rule)) (c.told-2.ensures.rule ∙ c.number_option-queue.ensures.rule))
+    (c.told-3.ensures.rule ∙ c.number_option-connections.ensures.rule)

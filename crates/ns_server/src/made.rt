@@ -1,0 +1,107 @@
+//! The file of a load as a source.
+
+ghost use Rattle.std.specs.Prelude.{◌≡◌, ◌<◌, ◌≤◌, ◌++◌, [], length, take, OnOk, OnErr};
+ghost use Rattle.outside.specs.Faults.{Rose};
+ghost use Rattle.load_gen.specs.Load.{load_file, most_requests};
+
+use load_gen::Pieces;
+use outside::{ReadAnswer, Source};
+use std::alloc::Global;
+use std::marker::Model;
+use std::mem;
+use txt_core::{NoMemory, Text};
+
+/// The file of a load, which is made piece by piece as it is read: one piece is held, and the file isn't.
+/// It fails for want of memory alone, which counts as a fault. Contracts see what is at hand, what is made
+/// behind it, and the faults.
+#[derive(Debug, Drop)]
+pub struct MadeFile {
+    alloc: Global,
+    pieces: Pieces,
+    /// The piece that was made last, and how much of it was given.
+    piece: Text,
+    given: usize,
+    faults: u64,
+}
+
+impl Model for MadeFile {
+    ghost use Rattle.std.specs.Prelude.{◌≤◌, drop, length};
+    ghost use Rattle.ns_server.specs.Made.{Made};
+
+    ghost Value = { Made };
+
+    ghost view = { λ a. record { at_hand = drop a.given a.piece; behind = a.pieces; faults = a.faults } };
+
+    ghost invariant = { λ a. a.given ≤ length a.piece };
+}
+
+impl MadeFile {
+    /// The file of so many connections, from 1 to 100,000, of which nothing was made.
+    pub fn new(alloc: Global, requests: u32) -> MadeFile
+        requires { requests ≤ most_requests }
+        ensures { result ≡ record { at_hand = []; behind = load_file requests; faults = 0 } }
+    {
+        MadeFile {
+            alloc,
+            pieces: Pieces::new(requests),
+            piece: Text::empty(alloc),
+            given: 0,
+            faults: 0,
+        }
+    }
+
+    /// Makes the next piece, where nothing is at hand. The only error is want of memory, which counts as a
+    /// fault.
+    fn fill(&mut self) -> Result<(), NoMemory>
+        ensures rest { self.new.at_hand ++ self.new.behind ≡ self.old.at_hand ++ self.old.behind }
+        ensures some { OnOk result (self.new.at_hand ≡ [] → self.new.behind ≡ []) }
+        ensures kept { self.old.faults ≤ self.new.faults }
+        ensures rose { OnErr result (Rose self.old.faults self.new.faults) }
+    {
+        if self.given < self.piece.len() {
+            return Ok(());
+        }
+        match self.pieces.next_piece(self.alloc) {
+            Ok(piece) => {
+                drop(mem::replace(&mut self.piece, piece));
+                self.given = 0;
+                Ok(())
+            }
+            Err(want) => {
+                self.faults = self.faults.saturating_add(1);
+                Err(want)
+            }
+        }
+    }
+
+    /// Puts what is at hand at the front of the buffer, as much as fits.
+    fn give(&mut self, into: &mut [u8]) -> usize
+        requires room { 0 < length into.old }
+        ensures fits { result ≤ length into.old }
+        ensures length { length into.new ≡ length into.old }
+        ensures gives { self.old.at_hand ≡ take result into.new ++ self.new.at_hand }
+        ensures some { result ≡ 0 → self.old.at_hand ≡ [] }
+        ensures behind { (self.new.behind ≡ self.old.behind) × (self.new.faults ≡ self.old.faults) }
+    {
+        let rest = &self.piece.bytes()[self.given..];
+        let count = into.len().min(rest.len());
+        into[..count].copy_from_slice(&rest[..count]);
+        self.given += count;
+        count
+    }
+}
+
+impl Source for MadeFile {
+    ghost use Rattle.std.specs.Prelude.{◌++◌, Some};
+
+    ghost rest = { λ s. Some (s.at_hand ++ s.behind) };
+
+    ghost faults = { λ s. s.faults };
+
+    fn read(&mut self, into: &mut [u8]) -> ReadAnswer {
+        match self.fill() {
+            Ok(()) => ReadAnswer::Bytes(self.give(into)),
+            Err(NoMemory) => ReadAnswer::Failed,
+        }
+    }
+}

@@ -1,7 +1,0 @@
-use Rattle.shared_state.proofs.tests.take_turns.Goals as goal
-
-pub turns-preserved : goal.turns-preserved
-turns-preserved g c = record {
-  cells = c.in_ok-numbers.ensures.cells;
-  units = c.in_ok-numbers.ensures.units c.args.units c.turns.invariant.units;
-}

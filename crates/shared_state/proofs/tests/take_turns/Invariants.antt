@@ -1,9 +1,0 @@
-use Rattle.shared_state.specs.Cells.{AreOf, HaveJust}
-use Rattle.shared_state.proofs.tests.take_turns.Given as goal
-
--- the passes stay those of the cells, with the share that they had
-abbrev pub invariant-turns : goal.invariant-turns
-invariant-turns g l = record {
-  cells : AreOf l.shared l.passes;
-  units : HaveJust l.fn.units l.passes;
-}

@@ -1,5 +1,0 @@
-use Rattle.tcl_eval.specs.Engine.{Leaves}
-use Rattle.tests_language.proofs.runs.paged.Given as goal
-
-abbrev pub invariant-pages : goal.invariant-pages
-invariant-pages g l = Leaves l.outcome l.engine
