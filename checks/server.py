@@ -71,11 +71,19 @@ BUSY = plain(503, close=True)
 
 @dataclass
 class Limits:
-    """The options of `serve` that a script may choose, and how many descriptors it gets; 0: as many as there are."""
+    """The options of `serve` that a script may choose, and how many descriptors and bytes of address space it gets;
+    0: as many as there are."""
 
     workers: int = 4
     queue: int = 64
     descriptors: int = 0
+    space: int = 0
+
+    def set(self):
+        """Sets the limits of this process."""
+        set_descriptors(self.descriptors)
+        if self.space:
+            resource.setrlimit(resource.RLIMIT_AS, (self.space, self.space))
 
 
 class Server:
@@ -112,7 +120,7 @@ class Server:
         with open(os.path.join(self.folder, "errors"), "ab") as errors:
             self.process = subprocess.Popen(words, stdin=subprocess.DEVNULL, stdout=errors, stderr=errors,
                                             env={**os.environ, **self.environment}, start_new_session=True,
-                                            preexec_fn=lambda: set_descriptors(self.limits.descriptors))
+                                            preexec_fn=self.limits.set)
         self.await_answer()
 
     def await_answer(self):
