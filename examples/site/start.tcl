@@ -75,6 +75,11 @@ proc reset {} {
 }
 ns_register_proc -noinherit POST /private/reset reset
 
+# What is published now, as a script of definitions: what examples/play takes to play a request as it is served now.
+# It holds the keeper's password, so it is for the keeper alone.
+proc published {} {ns_return 200 text/plain [ns_ictl get]}
+ns_register_proc -noinherit GET /private/published published
+
 # What the home page says. The keeper's page private/motto.adp publishes another one.
 proc motto {} {return "Fresh every day"}
 
@@ -83,13 +88,29 @@ proc motto {} {return "Fresh every day"}
 proc home {} {ns_returnredirect /index.adp}
 ns_register_proc -noinherit GET / home
 
+# Keeps the text of an error for the keeper, who sees the last 20 at /private/desk.adp. There are 20 keys, used again and
+# again in turn, so this can't grow.
+proc keep_fault {what text} {
+    set number [nsv_incr kept faults]
+    set kept [list $number [ns_time]]
+    foreach part [list "[ns_conn method] [ns_conn url]" $what $text] {lappend kept [string range $part 0 999]}
+    nsv_set faults [expr {$number % 20}] $kept
+}
+
 # Runs a procedure that serves a request. Where it fails, the visitor is told so kindly, and the error is kept for the
 # keeper. A response that was already given stands.
 proc kindly {name} {
     if {[catch {$name} text] == 1} {
-        nsv_set faults last [list [ns_time] $name $text]
+        keep_fault $name $text
         catch {answer 500 "Sorry" "This didn't work, and the keeper was told so."}
     }
+}
+
+# The same for a part of a page: the text that a command gives; where it fails, the text that is to stand in its place.
+proc attempt {command instead} {
+    if {[catch $command text] != 1} {return $text}
+    keep_fault $command $text
+    return $instead
 }
 
 # The price of some tea, in cents: 3 for each gram.
@@ -98,6 +119,10 @@ proc price {} {
     answer 200 "Price" "[expr {$grams * 3}] cents"
 }
 ns_register_proc -noinherit GET /price kindly price
+
+# What a tea costs, for teas.adp. An error where there is no such tea.
+nsv_array set stock {black 7 green 12 white 110}
+proc told {tea} {return "[html $tea]: [nsv_get stock $tea] cents a gram"}
 
 # ---- the guest book
 

@@ -1,10 +1,10 @@
 <% ns_adp_include parts/head.html "For the keeper" %><p>Pages read: <%= [nsv_get visits pages] %>. Guests: <%= [nsv_array size guests] %>. Blueprint: <%= [ns_ictl epoch] %>.</p>
 <%
-    if {[catch {nsv_get faults last} fault]} {
-        ns_adp_append "<p>No procedure has failed.</p>\n"
-    } else {
-        foreach {moment name text} $fault {
-            ns_adp_append "<p>The last that failed: " [html $name] ", " [ns_httptime $moment] ":</p>\n"
+    foreach {key fault} [nsv_array get faults] {set faults([lindex $fault 0]) [lrange $fault 1 end]}
+    if {[array size faults] == 0} {ns_adp_append "<p>Nothing has failed.</p>\n"}
+    foreach number [lsort -integer -decreasing [array names faults]] {
+        foreach {moment request what text} $faults($number) {
+            ns_adp_append "<p>" [ns_httptime $moment] ", " [html $request] ", in <code>" [html $what] "</code>:</p>\n"
             ns_adp_append "<p class=\"words\">" [html $text] "</p>\n"
         }
     }
