@@ -17,11 +17,8 @@ use std::alloc::Global;
 use std::marker::Brand;
 use std::sync::Wait;
 use std::sync::ledger::{Blank, Ledger};
-use txt_core::{Text, moment_of};
+use txt_core::{MOST_BYTES, Text, moment_of};
 use worker::{EvalEnd, Worker, do_eval};
-
-/// How many bytes the page of the start script may have.
-const MOST_BYTES: usize = 1_048_576;
 
 /// The number of the worker that runs the start script. It is none of those that serve.
 const STARTER: u16 = 17;
