@@ -2,16 +2,15 @@
 use Rattle.std.proofs.Common.{◌≡◌, ◌+◌, ℕ, List, ◌++◌, length, drop, Bool, Ok, sym, ap, subst, ◌∙◌}
 use Rattle.std.specs.Bool.{nat_lt}
 use Rattle.std.proofs.lemmas.List.{length-append}
-use Rattle.txt_core.specs.Limits.{most_bytes}
+use Rattle.txt_core.specs.Limits.{most_bytes, is_long}
 use Rattle.tcl_list.specs.Answers.{AppendsTo}
 use Rattle.nsv_bucket.specs.Arrays.{Arrays, array_of, text_at}
 use Rattle.nsv_bucket.specs.Questions.{word_at}
-use Rattle.nsv_bucket.specs.Replies.{is_too_long}
 use Rattle.nsv_bucket.specs.Writes.{stored, grown}
 use Rattle.nsv_bucket.specs.Lists.{lappended, lappend_step}
 
 -- whether a whole is too long, by the lengths of its parts
-pub whole_length : (front : ℕ) (old more : List ℕ) → front ≡ length old → is_too_long (old ++ more) ≡ nat_lt most_bytes (front + length more)
+pub whole_length : (front : ℕ) (old more : List ℕ) → front ≡ length old → is_long (old ++ more) ≡ nat_lt most_bytes (front + length more)
 whole_length front old more e = ap (nat_lt most_bytes) (length-append old more ∙ ap (λ n. n + length more) (sym e))
 
 listed : (arrays : Arrays) (words : List (List ℕ)) (more : List ℕ) → let old = text_at (array_of arrays (word_at words 1)) (word_at words 2) in AppendsTo old (drop 3 words) (Ok (old ++ more))

@@ -7,13 +7,15 @@ use Rattle.txt_core.specs.Quoting.{quoting}
 use Rattle.nsv_bucket.specs.declared.reply.NsvReply.TheVariants.{Said}
 use Rattle.nsv_bucket.specs.Arrays.{Array, Arrays, array_of, text_at}
 use Rattle.nsv_bucket.specs.Questions.{word_at}
-use Rattle.nsv_bucket.specs.Replies.{Outcome, is_too_long, too_long, refused, bad_list, bad_pairs}
+use Rattle.txt_core.specs.Limits.{is_long}
+use Rattle.txt_core.specs.ErrorTexts.{no_list}
+use Rattle.nsv_bucket.specs.Replies.{Outcome, too_long, refused, bad_pairs}
 use Rattle.nsv_bucket.specs.Writes.{stored}
 
 -- `nsv_lappend ARRAY KEY VALUE VALUE*` puts the values as elements behind those of the value, or of the empty list
 -- where the key is absent, and gives the new list
 abbrev pub lappended : Arrays → List (List ℕ) → Listing → Outcome
-lappended arrays words (bad_at place) = refused arrays (bad_list place)
+lappended arrays words (bad_at place) = refused arrays (no_list place)
 lappended arrays words (elements standing) = stored arrays (word_at words 1) (word_at words 2) (quoting (standing ++ drop 3 words))
 
 abbrev pub lappend_step : Arrays → List (List ℕ) → Outcome
@@ -25,7 +27,7 @@ is_even list = length list % 2 == 0
 
 -- whether a value of the pairs is too long
 abbrev pub has_long_value : List (List ℕ) → Bool
-has_long_value (key ∷ value ∷ rest) = is_too_long value || has_long_value rest
+has_long_value (key ∷ value ∷ rest) = is_long value || has_long_value rest
 has_long_value _ = false
 
 -- the array with the pairs written in turn, so of a key that comes twice the last value stands
@@ -35,7 +37,7 @@ with_pairs array _ = array
 
 -- the pairs are written over the array, which takes this name; a list of uneven length and a value that is too long are refused
 abbrev pub paired : Arrays → List (List ℕ) → Array → Listing → Outcome
-paired arrays words array (bad_at place) = refused arrays (bad_list place)
+paired arrays words array (bad_at place) = refused arrays (no_list place)
 paired arrays words array (elements pairs) =
     if is_even pairs then (if has_long_value pairs then too_long arrays else (Said [], map.insert arrays (word_at words 2) (with_pairs array pairs)))
     else refused arrays (bad_pairs (word_at words 3))

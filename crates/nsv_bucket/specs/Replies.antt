@@ -1,28 +1,27 @@
--- The replies, their texts, and the limit of 1,048,576 bytes.
-use Rattle.std.specs.Prelude.{ℕ, List, ◌++◌, length, Bool, nat_lt, if◌then◌else◌, codes, decimal}
+-- The replies and their texts.
+use Rattle.std.specs.Prelude.{ℕ, List, if◌then◌else◌, codes}
+use Rattle.txt_core.specs.Limits.{is_long}
+use Rattle.txt_core.specs.ErrorTexts.{naming, bad_value}
+use Rattle.txt_core.specs.ErrorTexts as texts
 use Rattle.nsv_bucket.specs.declared.reply.NsvReply.{NsvReply}
 use Rattle.nsv_bucket.specs.declared.reply.NsvReply.TheVariants.{Said, Failed}
 use Rattle.nsv_bucket.specs.Arrays.{Arrays}
-
--- a stored value, a result or an error text has at most 1,048,576 bytes
-abbrev pub is_too_long : List ℕ → Bool
-is_too_long text = nat_lt 1048576 (length text)
 
 -- what a step gives: the reply, and the arrays after it
 abbrev pub Outcome : Type 0
 Outcome = NsvReply × Arrays
 
--- an error with this text
+-- an error with this text, unless it is over the limit of a value
 abbrev pub refusal : List ℕ → NsvReply
-refusal text = if is_too_long text then Failed (codes "value too long") else Failed text
+refusal text = if is_long text then Failed texts.too_long else Failed text
 
--- a result with this text
+-- a result with this text, unless it is over the limit of a value
 abbrev pub result_of : List ℕ → NsvReply
-result_of text = if is_too_long text then Failed (codes "value too long") else Said text
+result_of text = if is_long text then Failed texts.too_long else Said text
 
 -- the error of a text that is too long; nothing changes
 abbrev pub too_long : Arrays → Outcome
-too_long arrays = (Failed (codes "value too long"), arrays)
+too_long arrays = (Failed texts.too_long, arrays)
 
 -- an error, which changes nothing
 abbrev pub refused : Arrays → List ℕ → Outcome
@@ -34,20 +33,12 @@ answered arrays text = (result_of text, arrays)
 
 -- no array "NAME"
 abbrev pub no_array : List ℕ → List ℕ
-no_array name = codes "no array \"" ++ name ++ codes "\""
+no_array name = naming (codes "no array \"") name (codes "\"")
 
 -- no key "KEY" in array "NAME"
 abbrev pub no_key : List ℕ → List ℕ → List ℕ
-no_key key name = codes "no key \"" ++ key ++ codes "\" in array \"" ++ name ++ codes "\""
-
--- expected integer but got "TEXT"
-abbrev pub no_integer : List ℕ → List ℕ
-no_integer text = codes "expected integer but got \"" ++ text ++ codes "\""
-
--- bad list at PLACE
-abbrev pub bad_list : ℕ → List ℕ
-bad_list place = codes "bad list at " ++ decimal place
+no_key key name = naming (codes "no key \"") key (naming (codes "\" in array \"") name (codes "\""))
 
 -- bad value "TEXT" for "nsv_array", of a list that isn't one of pairs
 abbrev pub bad_pairs : List ℕ → List ℕ
-bad_pairs text = codes "bad value \"" ++ text ++ codes "\" for \"nsv_array\""
+bad_pairs text = bad_value text (codes "nsv_array")

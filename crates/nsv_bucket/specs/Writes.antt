@@ -4,16 +4,18 @@ use Rattle.std.specs.FinMap as map
 use Rattle.std.specs.Fmt.{signed_decimal}
 use Rattle.std.specs.List.{concat}
 use Rattle.std.specs.Option.{option_map_or, unwrap_or}
+use Rattle.txt_core.specs.Limits.{is_long}
+use Rattle.txt_core.specs.ErrorTexts.{no_integer, overflow}
 use Rattle.txt_core.specs.Number.{number}
 use Rattle.nsv_bucket.specs.declared.reply.NsvReply.TheVariants.{Said}
 use Rattle.nsv_bucket.specs.Arrays.{Arrays, array_of, text_at, value_of, with_value, without_key}
 use Rattle.nsv_bucket.specs.Questions.{word_at}
-use Rattle.nsv_bucket.specs.Replies.{Outcome, is_too_long, too_long, refused, no_integer}
+use Rattle.nsv_bucket.specs.Replies.{Outcome, too_long, refused}
 use Rattle.nsv_bucket.specs.Reads.{at_array, at_key}
 
 -- the value is stored and answered; one that is too long is refused
 abbrev pub stored : Arrays → List ℕ → List ℕ → List ℕ → Outcome
-stored arrays name key value = if is_too_long value then too_long arrays else (Said value, with_value arrays name key value)
+stored arrays name key value = if is_long value then too_long arrays else (Said value, with_value arrays name key value)
 
 -- the value of a key with these bytes behind it is stored and answered; one that is too long is refused
 abbrev pub grown : Arrays → List ℕ → List ℕ → List ℕ → Outcome
@@ -42,7 +44,7 @@ abbrev pub incr_step : Arrays → List (List ℕ) → Outcome
 incr_step arrays words =
     at_number arrays (unwrap_or (value_of arrays (word_at words 1) (word_at words 2)) (codes "0")) (λ old.
     at_number arrays (unwrap_or (slice_get words 3) (codes "1")) (λ more.
-    option_map_or (λ sum. stored arrays (word_at words 1) (word_at words 2) (signed_decimal sum)) (sum_of old more) (refused arrays (codes "integer overflow"))))
+    option_map_or (λ sum. stored arrays (word_at words 1) (word_at words 2) (signed_decimal sum)) (sum_of old more) (refused arrays overflow)))
 
 -- `nsv_append ARRAY KEY VALUE VALUE*` puts the values behind the value, or behind the empty text where the key is
 -- absent, and gives the new value

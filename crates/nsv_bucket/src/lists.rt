@@ -11,12 +11,12 @@ ghost use Rattle.nsv_bucket.specs.Lists.{with_pairs, paired, array_set_step, arr
 
 use crate::arrays::{Arrays, place_pairs, put_pairs};
 use crate::journal::first_pair;
-use crate::message::{bad_list, bad_pairs, refuse, refuse_long};
+use crate::message::{bad_pairs, refuse, refuse_long};
 use crate::question::word;
-use crate::reply::{MOST_BYTES, NsvReply};
+use crate::reply::NsvReply;
 use std::alloc::Global;
 use tcl_list::{ListFault, split};
-use txt_core::{NoMemory, Text, Words};
+use txt_core::{NoMemory, Text, Words, error_text, is_too_long};
 
 /// Whether a list is one of pairs.
 fn even(list: &[Text]) -> bool
@@ -31,7 +31,7 @@ fn any_long_value(pairs: &[Text]) -> bool
 {
     let mut rest = pairs;
     'pairs: while let Some((_, value, tail)) = first_pair(rest) {
-        if value.len() > MOST_BYTES {
+        if is_too_long(value) {
             return true;
         }
         rest = tail;
@@ -74,7 +74,7 @@ fn pair(alloc: Global, arrays: &mut Arrays, words: &Words, base: Base) -> Result
 {
     match split(alloc, word(words, 3)) {
         Err(ListFault::NoMemory) => Err(NoMemory),
-        Err(ListFault::Bad { at }) => refuse(alloc, bad_list(alloc, at)?),
+        Err(ListFault::Bad { at }) => refuse(alloc, error_text::no_list(alloc, at)?),
         Ok(pairs) => pair_elements(alloc, arrays, words, base, &pairs),
     }
 }

@@ -2,9 +2,6 @@
 
 use txt_core::Text;
 
-/// The longest value that is stored, and the longest result and error text, in bytes.
-pub(crate) const MOST_BYTES: usize = 1_048_576;
-
 /// What a bucket answers.
 #[derive(Drop)]
 pub enum NsvReply {

@@ -12,12 +12,14 @@ ghost use Rattle.nsv_bucket.specs.Lists.{lappend_step};
 
 use crate::array::copied;
 use crate::arrays::{Arrays, append_value, has_array, put_value, remove_array, remove_key, value};
-use crate::message::{bad_list, no_array, no_integer, no_key, refuse, refuse_long};
+use crate::message::{no_array, no_key, refuse, refuse_long};
 use crate::question::word;
-use crate::reply::{MOST_BYTES, NsvReply};
+use crate::reply::NsvReply;
 use std::alloc::Global;
 use tcl_list::{ListFault, append_elements, elements_behind};
-use txt_core::{Known, NoMemory, Text, Words, is_over_limit, read_int, write_int};
+use txt_core::{
+    Known, NoMemory, Text, Words, error_text, is_over_limit, is_too_long, read_int, write_int,
+};
 
 /// Stores a value and gives it; one that is too long is refused.
 fn store(
@@ -31,7 +33,7 @@ fn store(
     ensures ok { OnOk result (seen arrays.new ≡ (stored (seen arrays.old) name.now key.now value).1) }
     ensures err { OnErr result (seen arrays.new ≡ seen arrays.old) }
 {
-    if value.len() > MOST_BYTES {
+    if is_too_long(&value) {
         return refuse_long(alloc);
     }
     let said = value.share(alloc)?;
@@ -88,14 +90,14 @@ pub(crate) fn incr(alloc: Global, arrays: &mut Arrays, words: &Words) -> Result<
 {
     let old = standing(alloc, arrays, words, b"0")?;
     let Some(number) = read_int(&old) else {
-        return refuse(alloc, no_integer(alloc, &old)?);
+        return refuse(alloc, error_text::no_integer(alloc, old.bytes())?);
     };
     let more = added(alloc, words)?;
     let Some(step) = read_int(&more) else {
-        return refuse(alloc, no_integer(alloc, &more)?);
+        return refuse(alloc, error_text::no_integer(alloc, more.bytes())?);
     };
     match sum_of(number, step) {
-        None => refuse(alloc, Text::new(alloc, b"integer overflow")?),
+        None => refuse(alloc, error_text::overflow(alloc)?),
         Some(sum) => {
             let value = write_int(alloc, sum)?;
             store(alloc, arrays, word(words, 1), word(words, 2), value)
@@ -200,7 +202,7 @@ fn lappend_anew(alloc: Global, arrays: &mut Arrays, words: &Words) -> Result<Nsv
     let old = standing(alloc, arrays, words, b"")?;
     match append_elements(alloc, old, &words.as_slice()[3..]) {
         Err(ListFault::NoMemory) => Err(NoMemory),
-        Err(ListFault::Bad { at }) => refuse(alloc, bad_list(alloc, at)?),
+        Err(ListFault::Bad { at }) => refuse(alloc, error_text::no_list(alloc, at)?),
         Ok(value) => store(alloc, arrays, word(words, 1), word(words, 2), value),
     }
 }

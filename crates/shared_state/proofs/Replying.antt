@@ -13,7 +13,9 @@ use Rattle.nsv_bucket.specs.declared.question.Question.{Question}
 use Rattle.nsv_bucket.specs.declared.question.Question.TheVariants.{Set, Get, Exists, Incr, Append, Lappend, Unset, Names, ArraySet, ArrayReset, ArrayGet, ArrayNames, ArraySize, ArrayExists}
 use Rattle.nsv_bucket.specs.Arrays.{Array, Arrays, array_of, value_of, text_at}
 use Rattle.nsv_bucket.specs.Questions.{word_at, question_of}
-use Rattle.nsv_bucket.specs.Replies.{Outcome, is_too_long, too_long, refusal, result_of, refused, answered, no_array, no_key, no_integer, bad_list, bad_pairs}
+use Rattle.txt_core.specs.Limits.{is_long}
+use Rattle.txt_core.specs.ErrorTexts.{no_integer, no_list}
+use Rattle.nsv_bucket.specs.Replies.{Outcome, too_long, refusal, result_of, refused, answered, no_array, no_key, bad_pairs}
 use Rattle.nsv_bucket.specs.Reads.{at_array, at_key}
 use Rattle.nsv_bucket.specs.Writes.{stored, at_number, incr_step, unset_key, unset_array, sum_of}
 use Rattle.nsv_bucket.specs.Lists.{lappended, lappend_step, paired, is_even, has_long_value, array_set_step, array_reset_step}
@@ -36,13 +38,13 @@ by_option f None d p q = q
 by_option f (Some a) d p q = p a
 
 refused_answers : (arrays : Arrays) (text : List ℕ) → Answers (refused arrays text)
-refused_answers arrays text = by_test (is_too_long text) (Failed (codes "value too long")) (Failed text) refl refl
+refused_answers arrays text = by_test (is_long text) (Failed (codes "value too long")) (Failed text) refl refl
 
 answered_answers : (arrays : Arrays) (text : List ℕ) → Answers (answered arrays text)
-answered_answers arrays text = by_test (is_too_long text) (Failed (codes "value too long")) (Said text) refl refl
+answered_answers arrays text = by_test (is_long text) (Failed (codes "value too long")) (Said text) refl refl
 
 stored_answers : (arrays : Arrays) (name key value : List ℕ) → Answers (stored arrays name key value)
-stored_answers arrays name key value = by_case (is_too_long value) (too_long arrays) _ refl refl
+stored_answers arrays name key value = by_case (is_long value) (too_long arrays) _ refl refl
 
 at_array_answers : (arrays : Arrays) (name : List ℕ) (next : Array → Outcome) → ((a : Array) → Answers (next a)) → Answers (at_array arrays name next)
 at_array_answers arrays name next p = by_option next (map.get arrays name) (refused arrays (no_array name)) p (refused_answers arrays (no_array name))
@@ -62,11 +64,11 @@ incr_answers arrays words =
     by_option _ (sum_of old more) _ (λ sum. stored_answers arrays _ _ _) (refused_answers arrays (codes "integer overflow"))))
 
 lappended_answers : (arrays : Arrays) (words : List (List ℕ)) (l : Listing) → Answers (lappended arrays words l)
-lappended_answers arrays words (bad_at place) = refused_answers arrays (bad_list place)
+lappended_answers arrays words (bad_at place) = refused_answers arrays (no_list place)
 lappended_answers arrays words (elements standing) = stored_answers arrays _ _ _
 
 paired_answers : (arrays : Arrays) (words : List (List ℕ)) (array : Array) (l : Listing) → Answers (paired arrays words array l)
-paired_answers arrays words array (bad_at place) = refused_answers arrays (bad_list place)
+paired_answers arrays words array (bad_at place) = refused_answers arrays (no_list place)
 paired_answers arrays words array (elements pairs) =
     by_case (is_even pairs) _ _ (by_case (has_long_value pairs) (too_long arrays) _ refl refl) (refused_answers arrays (bad_pairs (word_at words 3)))
 
