@@ -22,8 +22,8 @@ use natives::Natives;
 use outside::{Answer, Question, Service};
 use std::alloc::Global;
 use std::sync::ledger::Ledger;
-use tcl_eval::outside_loop;
 use tcl_host::{BREAK, CONTINUE};
+use txt_core::error_text::outside_loop;
 use txt_core::{NoMemory, Text, Words};
 
 /// What is kept of a definition run beside what runs: how many questions it may still ask, and the

@@ -43,7 +43,7 @@ use Rattle.tcl_eval.specs.declared.verb.Verb.TheVariants as verb
 use Rattle.natives.specs.Names.{has_name}
 use Rattle.tcl_eval.specs.Natives.{Names, is_in_range, replied, call_native}
 use Rattle.tcl_eval.specs.State.{State, Leaf, says, wants, defines, stores, not_mine, Onward, goes, enters, TextEnd, LeafTable, Given, Out, spent, Rest, Next}
-use Rattle.tcl_eval.specs.Messages.{fault_text, variable_fault, too_long, no_boolean, bad_expression, bad_list, bad_value, unknown_command, no_command, command_exists}
+use Rattle.tcl_eval.specs.Messages.{fault_text, variable_fault, too_long, no_boolean, bad_expression, no_list, bad_value, unknown_command, no_command, command_exists}
 use Rattle.tcl_eval.specs.Results.{most_bytes, bytes_for_one, error_of, wrong_words, element_name, read_as, stored, stored_of, command_cost, answer_cost, return_of, raised_of, break_of, continue_of}
 use Rattle.tcl_eval.specs.Parameters.{Values, parameters, bound}
 use Rattle.tcl_eval.specs.Words.{arg, joined}
@@ -303,11 +303,11 @@ module _ {H : Type 0} (inner : Inner H) (run : Runs inner) where
       (in_loop_after (next k) (next k') m k k' (walk_on_alike names body n (drop (length names) values) m k k' h) h)) h)
 
   over_values_alike : (names : List (List ℕ)) (values : Listing) (body : List ℕ) (m : ℕ) (k k' : Next H) → After m k k' → Alike m (over_values inner names values body k) (over_values inner names values body k')
-  over_values_alike names (bad_at place) body m k k' h = fails_alike (bad_list place) m k k' h
+  over_values_alike names (bad_at place) body m k k' h = fails_alike (no_list place) m k k' h
   over_values_alike names (elements values) body m k k' h = walk_on_alike names body (div_ceil (length values) (length names)) values m k k' h
 
   over_names_alike : (names : Listing) (words : List (List ℕ)) (m : ℕ) (k k' : Next H) → After m k k' → Alike m (over_names inner names words k) (over_names inner names words k')
-  over_names_alike (bad_at place) words m k k' h = fails_alike (bad_list place) m k k' h
+  over_names_alike (bad_at place) words m k k' h = fails_alike (no_list place) m k k' h
   over_names_alike (elements []) words m k k' h = fails_alike (bad_value (arg words 1) (codes "foreach")) m k k' h
   over_names_alike (elements (name ∷ names)) words m k k' h = over_values_alike (name ∷ names) (lists.listing (arg words 2)) (arg words 3) m k k' h
 
@@ -327,7 +327,7 @@ module _ {H : Type 0} (inner : Inner H) (run : Runs inner) where
       (fails_alike (bad_value (codes "-") (codes "switch")) m k k' h) (run_body_alike (body_for globs bytes pairs) m k k' h)
 
   by_listing_alike : (globs : Bool) (bytes list : List ℕ) (pairs : Listing) (m : ℕ) (k k' : Next H) → After m k k' → Alike m (by_listing inner globs bytes list pairs k) (by_listing inner globs bytes list pairs k')
-  by_listing_alike globs bytes list (bad_at place) m k k' h = fails_alike (bad_list place) m k k' h
+  by_listing_alike globs bytes list (bad_at place) m k k' h = fails_alike (no_list place) m k k' h
   by_listing_alike globs bytes list (elements pairs) m k k' h =
       choice (length pairs % 2 == 0) m _ _ _ _ (by_pairs_alike globs bytes pairs m k k' h) (fails_alike (bad_value list (codes "switch")) m k k' h)
 

@@ -56,7 +56,7 @@ use Rattle.tcl_eval.specs.declared.outcome.Work.TheVariants as work
 use Rattle.natives.specs.Names.{has_name}
 use Rattle.tcl_eval.specs.Natives.{Names, is_in_range, replied, call_native}
 use Rattle.tcl_eval.specs.State.{State, TextEnd, LeafTable, Given, Out, done, spent, too_deep, Rest, Next}
-use Rattle.tcl_eval.specs.Messages.{fault_text, too_long, no_boolean, bad_expression, bad_list, bad_value, unknown_command, variable_fault, no_command, command_exists}
+use Rattle.tcl_eval.specs.Messages.{fault_text, too_long, no_boolean, bad_expression, no_list, bad_value, unknown_command, variable_fault, no_command, command_exists}
 use Rattle.tcl_eval.specs.Results.{most_bytes, most_levels, bytes_for_one, error_of, wrong_words, element_name, returned, read_as, stored, stored_of, return_of, raised_of, break_of, continue_of}
 use Rattle.tcl_eval.specs.Parameters.{Values, parameters, bound}
 use Rattle.tcl_eval.specs.Words.{arg, joined}
@@ -370,11 +370,11 @@ module _ {H : Type 0} (P Q : State H → ℕ → Given → Out H → Type 0) (Sh
       (in_loop_good next k (walk_on_good inner run names body n (drop (length names) values) k h) h)) h)
 
   over_values_good : (inner : Inner H) → Runs inner → (names : List (List ℕ)) (values : Listing) (body : List ℕ) (k : Next H) → GoodNext k → Good (over_values inner names values body k)
-  over_values_good inner run names (bad_at place) body k h = fails_good (bad_list place) k h
+  over_values_good inner run names (bad_at place) body k h = fails_good (no_list place) k h
   over_values_good inner run names (elements values) body k h = walk_on_good inner run names body (div_ceil (length values) (length names)) values k h
 
   over_names_good : (inner : Inner H) → Runs inner → (names : Listing) (words : List (List ℕ)) (k : Next H) → GoodNext k → Good (over_names inner names words k)
-  over_names_good inner run (bad_at place) words k h = fails_good (bad_list place) k h
+  over_names_good inner run (bad_at place) words k h = fails_good (no_list place) k h
   over_names_good inner run (elements []) words k h = fails_good (bad_value (arg words 1) (codes "foreach")) k h
   over_names_good inner run (elements (name ∷ names)) words k h = over_values_good inner run (name ∷ names) (lists.listing (arg words 2)) (arg words 3) k h
 
@@ -394,7 +394,7 @@ module _ {H : Type 0} (P Q : State H → ℕ → Given → Out H → Type 0) (Sh
       (fails_good (bad_value (codes "-") (codes "switch")) k h) (run_body_good inner run (body_for globs bytes pairs) k h)
 
   by_listing_good : (inner : Inner H) → Runs inner → (globs : Bool) (bytes list : List ℕ) (pairs : Listing) (k : Next H) → GoodNext k → Good (by_listing inner globs bytes list pairs k)
-  by_listing_good inner run globs bytes list (bad_at place) k h = fails_good (bad_list place) k h
+  by_listing_good inner run globs bytes list (bad_at place) k h = fails_good (no_list place) k h
   by_listing_good inner run globs bytes list (elements pairs) k h =
       choice (length pairs % 2 == 0) _ _ (by_pairs_good inner run globs bytes pairs k h) (fails_good (bad_value list (codes "switch")) k h)
 

@@ -10,7 +10,7 @@ use Rattle.tcl_eval.specs.State.{State, LeafTable, Given, Out, Rest, Next, spent
 use Rattle.tcl_eval.specs.Parameters.{Values}
 use Rattle.tcl_eval.specs.Eval.{Inner, unread, nested, on_ok, by_truth, give, write_all, wrong_words, arg, fails}
 use Rattle.tcl_eval.specs.Expressions.{evaluate}
-use Rattle.tcl_eval.specs.Messages.{bad_list}
+use Rattle.tcl_eval.specs.Messages.{no_list}
 use Rattle.tcl_eval.specs.Loops.{assigned, in_loop, between, turns, turn_body, turn_on, do_while, do_for, walk_on, walk_all, over_values, over_names, do_foreach}
 use Rattle.tcl_eval.specs.LoopsSeen.{flow_of}
 use Rattle.tcl_eval.specs.Stack.{stack_next}
@@ -152,13 +152,13 @@ module _ {H : Type 0} (ns : Names) (t : LeafTable H) where
       ∙ sym (ap (λ (c : Bool). (cond c (over_names inner (listing (arg words 1)) words k) (give (wrong_words words) k)) s b g) (eq-eqb (length words) 4 four))
 
   -- names, of which there is one at least, and values that are no list
-  over_bad : (inner : Inner H) (words names : List (List ℕ)) (place : ℕ) (k : Next H) (s : State H) (b : ℕ) (g : Given) (x : Out H) → length names ≢ 0 → listing (arg words 2) ≡ bad_at place → x ≡ fails (bad_list place) k s b g → x ≡ over_names inner (elements names) words k s b g
+  over_bad : (inner : Inner H) (words names : List (List ℕ)) (place : ℕ) (k : Next H) (s : State H) (b : ℕ) (g : Given) (x : Out H) → length names ≢ 0 → listing (arg words 2) ≡ bad_at place → x ≡ fails (no_list place) k s b g → x ≡ over_names inner (elements names) words k s b g
   over_bad inner words [] place k s b g x some second e = absurd (some refl)
   over_bad inner words (name ∷ names) place k s b g x some second e =
       e ∙ sym (ap (λ (l : Listing). over_values inner (name ∷ names) l (arg words 3) k s b g) second)
 
   -- the words of a loop over values were read, but its values are no list
-  pub foreach_bad_step : (inner : Inner H) (words names : List (List ℕ)) (first second : List ℕ) (place : ℕ) (k : Next H) (s : State H) (b : ℕ) (g : Given) (x : Out H) → length words ≡ 4 → first ≡ arg words 1 → listing first ≡ elements names → length names ≢ 0 → second ≡ arg words 2 → listing second ≡ bad_at place → x ≡ fails (bad_list place) k s b g → x ≡ do_foreach inner words k s b g
+  pub foreach_bad_step : (inner : Inner H) (words names : List (List ℕ)) (first second : List ℕ) (place : ℕ) (k : Next H) (s : State H) (b : ℕ) (g : Given) (x : Out H) → length words ≡ 4 → first ≡ arg words 1 → listing first ≡ elements names → length names ≢ 0 → second ≡ arg words 2 → listing second ≡ bad_at place → x ≡ fails (no_list place) k s b g → x ≡ do_foreach inner words k s b g
   foreach_bad_step inner words names first second place k s b g x four one named some two bad e =
       let names_are : listing (arg words 1) ≡ elements names = sym (ap (λ (v : List ℕ). listing v) one) ∙ named in
       let values_are : listing (arg words 2) ≡ bad_at place = sym (ap (λ (v : List ℕ). listing v) two) ∙ bad in

@@ -7,7 +7,7 @@ use Rattle.txt_core.specs.Listing.{listing}
 use Rattle.tcl_eval.specs.declared.branch.Turning.{Turning}
 use Rattle.tcl_eval.specs.Parameters.{Values}
 use Rattle.tcl_eval.specs.Words.{arg}
-use Rattle.tcl_eval.specs.Messages.{bad_list, bad_value}
+use Rattle.tcl_eval.specs.Messages.{no_list, bad_value}
 use Rattle.tcl_eval.specs.Results.{wrong_words}
 use Rattle.tcl_eval.specs.Going.{Inner, unread, on_ok, pay, give, fails, write_all}
 use Rattle.tcl_eval.specs.Expressions.{test}
@@ -72,12 +72,12 @@ module _ {H : Type 0} where
   walk_all inner names values body k = walk_on inner names body (div_ceil (length values) (length names)) values k
 
   abbrev pub over_values : Inner H → List (List ℕ) → Listing → List ℕ → Next H → Rest H
-  over_values inner names (bad_at place) body k = fails (bad_list place) k
+  over_values inner names (bad_at place) body k = fails (no_list place) k
   over_values inner names (elements values) body k = walk_all inner names values body k
 
   -- the names are a list, which isn't empty, and then the values are one
   abbrev pub over_names : Inner H → Listing → List (List ℕ) → Next H → Rest H
-  over_names inner (bad_at place) words k = fails (bad_list place) k
+  over_names inner (bad_at place) words k = fails (no_list place) k
   over_names inner (elements []) words k = fails (bad_value (arg words 1) (codes "foreach")) k
   over_names inner (elements (name ∷ names)) words k = over_values inner (name ∷ names) (listing (arg words 2)) (arg words 3) k
 

@@ -1,5 +1,7 @@
--- What is said of an error.
+-- What is said of an error. The texts that other parts give too are those of `txt_core`.
 use Rattle.std.specs.Prelude.{ℕ, List, [], ◌++◌, decimal, codes}
+pub use Rattle.txt_core.specs.ErrorTexts.{bad_value, unknown_command, no_list, too_long, outside_loop, no_variable, unknown_subcommand}
+use Rattle.txt_core.specs.ErrorTexts.{is_an_array, is_no_array, variable_exists, overflow}
 use Rattle.tcl_parse.specs.declared.fault.Kind.{Kind}
 use Rattle.tcl_parse.specs.declared.fault.Kind.TheVariants.{Quote, Brace, Bracket, Variable, Extra, Deep}
 use Rattle.tcl_frame.specs.declared.fault.VarFault.{VarFault}
@@ -13,36 +15,12 @@ use Rattle.tcl_expr.specs.declared.operator.Op.TheVariants as operators
 abbrev pub quoted : List ℕ → List ℕ
 quoted text = codes "\"" ++ text ++ codes "\""
 
--- a command has the wrong number of words
-abbrev pub wrong_count : List ℕ → List ℕ
-wrong_count name = codes "wrong number of words for " ++ quoted name
-
--- a command doesn't take this value
-abbrev pub bad_value : List ℕ → List ℕ → List ℕ
-bad_value value name = codes "bad value " ++ quoted value ++ codes " for " ++ quoted name
-
--- no command has this name
-abbrev pub unknown_command : List ℕ → List ℕ
-unknown_command name = codes "invalid command name " ++ quoted name
-
 -- a name is that of a command, or of none
 abbrev pub command_exists : List ℕ → List ℕ
 command_exists name = codes "command " ++ quoted name ++ codes " exists"
 
 abbrev pub no_command : List ℕ → List ℕ
 no_command name = codes "no command " ++ quoted name
-
--- a text is no list: it is bad at this place
-abbrev pub bad_list : ℕ → List ℕ
-bad_list place = codes "bad list at " ++ decimal place
-
--- a word, a stored value, a result or the text of an error is too long
-abbrev pub too_long : List ℕ
-too_long = codes "value too long"
-
--- a procedure ends by `break` or `continue`
-abbrev pub outside_loop : List ℕ → List ℕ
-outside_loop name = codes "invoked " ++ quoted name ++ codes " outside of a loop"
 
 -- what is wrong with a script
 abbrev pub fault_name : Kind → List ℕ
@@ -57,23 +35,13 @@ fault_name Deep = codes "nested too deep"
 abbrev pub fault_text : Kind → ℕ → List ℕ
 fault_text kind place = fault_name kind ++ codes " at " ++ decimal place
 
-abbrev pub no_variable : List ℕ → List ℕ
-no_variable name = codes "can't read " ++ quoted name ++ codes ": no such variable"
-
-abbrev pub of_variable : List ℕ → List ℕ → List ℕ
-of_variable name what = codes "variable " ++ quoted name ++ what
-
 -- why a variable of this name isn't read or written (want of memory is no such reason, and its text is never looked at)
 abbrev pub variable_fault : VarFault → List ℕ → List ℕ
 variable_fault NoVariable name = no_variable name
-variable_fault IsArray name = of_variable name (codes " is an array")
-variable_fault NotArray name = of_variable name (codes " is no array")
-variable_fault Exists name = of_variable name (codes " exists")
+variable_fault IsArray name = is_an_array name
+variable_fault NotArray name = is_no_array name
+variable_fault Exists name = variable_exists name
 variable_fault NoMemory name = []
-
--- the second word is none of a command's subcommands
-abbrev pub unknown_subcommand : List ℕ → List ℕ → List ℕ
-unknown_subcommand name command = codes "unknown subcommand " ++ quoted name ++ codes " of " ++ quoted command
 
 -- a name is that of no procedure
 abbrev pub no_procedure : List ℕ → List ℕ
@@ -120,6 +88,6 @@ abbrev pub operator_fault : ExprFault → Op → List ℕ → List ℕ
 operator_fault faults.NotNumber op operand = codes "can't use non-numeric string as operand of " ++ quoted (operator_name op)
 operator_fault faults.NotBoolean op operand = no_boolean operand
 operator_fault faults.DivZero op operand = codes "divide by zero"
-operator_fault faults.Overflow op operand = codes "integer overflow"
+operator_fault faults.Overflow op operand = overflow
 operator_fault faults.Shift op operand = codes "bad shift count"
 operator_fault faults.NoMemory op operand = []

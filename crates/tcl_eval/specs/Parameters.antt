@@ -5,7 +5,8 @@ use Rattle.txt_core.specs.Listing.{listing}
 use Rattle.txt_core.specs.Quoting.{quoting}
 use Rattle.tcl_eval.specs.declared.parameter.Parameter.{Parameter}
 use Rattle.tcl_eval.specs.Words.{arg}
-use Rattle.tcl_eval.specs.Messages.{wrong_count, bad_value, bad_list}
+use Rattle.txt_core.specs.ErrorTexts.{wrong_words as wrong_count}
+use Rattle.tcl_eval.specs.Messages.{bad_value, no_list}
 
 abbrev pub parameter_of : Listing → Option Parameter
 parameter_of (bad_at place) = None
@@ -33,7 +34,7 @@ read_all (text ∷ texts) = read_next text (parameter text) (read_all texts)
 
 abbrev pub parameters_of : Listing → Result (List Parameter) (List ℕ)
 parameters_of (elements texts) = read_all texts
-parameters_of (bad_at place) = Err (bad_list place)
+parameters_of (bad_at place) = Err (no_list place)
 
 -- The parameters of a procedure: a list of them. Else this is the error of `proc`, and of a call.
 abbrev pub parameters : List ℕ → Result (List Parameter) (List ℕ)

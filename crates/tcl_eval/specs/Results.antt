@@ -8,17 +8,16 @@ use Rattle.tcl_frame.specs.Stack.{Stack}
 use Rattle.tcl_frame.specs.Frames.{read_of, read_fault, write_fault, written}
 use Rattle.tcl_eval.specs.declared.stack.Ended.{Ended}
 use Rattle.tcl_eval.specs.Words.{arg}
-use Rattle.tcl_eval.specs.Messages.{wrong_count, too_long, outside_loop, variable_fault}
+pub use Rattle.txt_core.specs.Limits.{most_bytes}
+use Rattle.txt_core.specs.Limits.{most_nested}
+use Rattle.txt_core.specs.ErrorTexts.{wrong_words as wrong_count}
+use Rattle.tcl_eval.specs.Messages.{too_long, outside_loop, variable_fault}
 
 -- ---- limits and costs
 
 -- how deep scripts may stand in one another
 abbrev pub most_levels : ℕ
-most_levels = 200
-
--- how many bytes a word, a stored value or a result may have
-abbrev pub most_bytes : ℕ
-most_bytes = 1048576
+most_levels = most_nested
 
 -- so many whole bytes cost 1
 abbrev pub bytes_for_one : ℕ

@@ -5,7 +5,7 @@ use Rattle.txt_core.specs.Lists.{Listing, elements, bad_at}
 use Rattle.txt_core.specs.Listing.{listing}
 use Rattle.txt_core.specs.PatternLaws.{matches}
 use Rattle.tcl_eval.specs.Words.{arg}
-use Rattle.tcl_eval.specs.Messages.{bad_list, bad_value}
+use Rattle.tcl_eval.specs.Messages.{no_list, bad_value}
 use Rattle.tcl_eval.specs.Results.{wrong_words}
 use Rattle.tcl_eval.specs.Going.{Inner, unread, give, fails}
 use Rattle.tcl_eval.specs.State.{Rest, Next}
@@ -58,7 +58,7 @@ module _ {H : Type 0} where
 
   -- patterns and bodies as one list, of even length
   abbrev pub by_listing : Inner H → Bool → List ℕ → List ℕ → Listing → Next H → Rest H
-  by_listing inner globs text list (bad_at place) k = fails (bad_list place) k
+  by_listing inner globs text list (bad_at place) k = fails (no_list place) k
   by_listing inner globs text list (elements pairs) k =
       if length pairs % 2 == 0 then by_pairs inner globs text pairs k else fails (bad_value list (codes "switch")) k
 

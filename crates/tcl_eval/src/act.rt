@@ -17,7 +17,7 @@ ghost use Rattle.tcl_eval.specs.declared.verb.Verb.{Verb};
 ghost use Rattle.tcl_eval.specs.declared.engine.OpenQuestion.{OpenQuestion};
 
 use crate::engine::{Engine, OpenQuestion};
-use crate::message::{command_exists, fault_text, no_command, unknown_command, variable_fault};
+use crate::message::{command_exists, fault_text, no_command, variable_fault};
 use crate::parameter::{bound, parameters};
 use crate::stack::{Acted, Ended, Frame};
 use crate::value::{
@@ -35,10 +35,11 @@ use tcl_frame::{VarFault, is_element_name};
 use tcl_host::{Host, HostReply, OK};
 use tcl_parse::{ParseFault, parse};
 use tcl_varcmd::{is_var_command, var_command};
-use txt_core::{MOST_BYTES, NoMemory, Pairs, Text, Words};
+use txt_core::error_text::unknown_command;
+use txt_core::{MOST_BYTES, MOST_NESTED, NoMemory, Pairs, Text, Words};
 
 /// How deep scripts may stand in one another.
-pub const MOST_LEVELS: u32 = 200;
+pub const MOST_LEVELS: u32 = MOST_NESTED;
 
 /// What an answer costs.
 pub fn answer_cost(answer: &Answer) -> u128

@@ -8,7 +8,7 @@ ghost use Rattle.tcl_eval.specs.declared.parameter.Parameter.{Parameter};
 ghost use Rattle.tcl_eval.specs.Info.{is_picked, names_said, names_picked, args_said, body_said, part_said, info_said};
 
 use crate::engine::Engine;
-use crate::message::{no_procedure, unknown_subcommand};
+use crate::message::no_procedure;
 use crate::parameter::{Parameter, parameters};
 use crate::stack::Ended;
 use crate::value::{error, wrong_words};
@@ -17,6 +17,7 @@ use cmd_table::Cmd;
 use std::alloc::Global;
 use tcl_host::{Host, OK};
 use tcl_list::quote;
+use txt_core::error_text::unknown_subcommand;
 use txt_core::{NoMemory, Text, Words, glob};
 
 /// Those names that match a pattern, or all where there is none.

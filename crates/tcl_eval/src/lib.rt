@@ -30,6 +30,5 @@ pub use law::{
     fronts_write_less, made_by_commands, made_grows, made_grows_on, questions_are_few,
     questions_cost, turns_suffice,
 };
-pub use message::{bad_list, bad_value, outside_loop, unknown_subcommand, wrong_count};
 pub use outcome::{Outcome, Work};
 pub use tcl_host::{Host, HostReply};

@@ -13,7 +13,7 @@ ghost use Rattle.tcl_eval.specs.declared.engine.OpenQuestion.{OpenQuestion};
 
 use crate::branch::{Branch, Turning, Walk, place_behind};
 use crate::engine::Engine;
-use crate::message::{bad_list, bad_value, no_boolean};
+use crate::message::no_boolean;
 use crate::stack::{Acted, Ended, Frame};
 use crate::value::{done, wrong_words};
 use crate::words::{copy_word, word_at};
@@ -21,6 +21,7 @@ use std::alloc::Global;
 use std::rc::Rc;
 use tcl_host::{BREAK, CONTINUE, Host, OK};
 use tcl_list::{ListFault, split};
+use txt_core::error_text::{bad_value, no_list};
 use txt_core::{NoMemory, Pairs, Text, Words, read_truth};
 
 /// What a turn of a loop costs.
@@ -395,7 +396,7 @@ impl<H: Host> Engine<H> {
         let names = match split(self.alloc, &names) {
             Err(ListFault::NoMemory) => return Err(NoMemory),
             Err(ListFault::Bad { at }) => {
-                let acted = self.fails(bad_list(self.alloc, at)?)?;
+                let acted = self.fails(no_list(self.alloc, at)?)?;
                 return Ok(acted);
             }
             Ok(names) => names,
@@ -408,7 +409,7 @@ impl<H: Host> Engine<H> {
         match split(self.alloc, &values) {
             Err(ListFault::NoMemory) => Err(NoMemory),
             Err(ListFault::Bad { at }) => {
-                let acted = self.fails(bad_list(self.alloc, at)?)?;
+                let acted = self.fails(no_list(self.alloc, at)?)?;
                 Ok(acted)
             }
             Ok(values) => {

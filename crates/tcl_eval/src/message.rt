@@ -1,13 +1,14 @@
-//! What is said of an error.
+//! What is said of an error, beside the texts that other parts give too (`txt_core::error_text`).
 
 ghost use Rattle.std.specs.Prelude.{◌≡◌, ◌++◌, [], IfOk};
 ghost use Rattle.tcl_expr.specs.declared.operator.ExprFault.{ExprFault};
-ghost use Rattle.tcl_eval.specs.Messages.{quoted, no_command, command_exists, wrong_count, bad_value, bad_list, unknown_command, outside_loop, fault_name, fault_text, variable_fault, of_variable, no_variable, unknown_subcommand, no_procedure, bad_expression, no_boolean, operator_name, operator_fault};
+ghost use Rattle.tcl_eval.specs.Messages.{quoted, no_command, command_exists, fault_name, fault_text, variable_fault, no_procedure, bad_expression, no_boolean, operator_name, operator_fault};
 
 use std::alloc::Global;
 use tcl_expr::{ExprFault, Op};
 use tcl_frame::VarFault;
 use tcl_parse::Kind;
+use txt_core::error_text::{is_an_array, is_no_array, no_variable, overflow, variable_exists};
 use txt_core::{NoMemory, Text};
 
 /// Appends a text in double quotes.
@@ -17,43 +18,6 @@ fn push_quoted(message: &mut Text, text: &[u8]) -> Result<(), NoMemory>
     message.append(b"\"")?;
     message.append(text)?;
     message.append(b"\"")
-}
-
-/// The text of the error of a command with the wrong number of words.
-///
-/// # Errors
-///
-/// For want of memory alone.
-pub fn wrong_count(alloc: Global, name: &[u8]) -> Result<Text, NoMemory>
-    ensures { IfOk result (λ message. message ≡ wrong_count name.now) }
-{
-    let mut message = Text::new(alloc, b"wrong number of words for ")?;
-    push_quoted(&mut message, name)?;
-    Ok(message)
-}
-
-/// The text of the error of a command that doesn't take this value.
-///
-/// # Errors
-///
-/// For want of memory alone.
-pub fn bad_value(alloc: Global, value: &[u8], name: &[u8]) -> Result<Text, NoMemory>
-    ensures { IfOk result (λ message. message ≡ bad_value value.now name.now) }
-{
-    let mut message = Text::new(alloc, b"bad value ")?;
-    push_quoted(&mut message, value)?;
-    message.append(b" for ")?;
-    push_quoted(&mut message, name)?;
-    Ok(message)
-}
-
-/// No command has this name.
-pub fn unknown_command(alloc: Global, name: &[u8]) -> Result<Text, NoMemory>
-    ensures { IfOk result (λ message. message ≡ unknown_command name.now) }
-{
-    let mut message = Text::new(alloc, b"invalid command name ")?;
-    push_quoted(&mut message, name)?;
-    Ok(message)
 }
 
 /// There is no command of this name to be renamed.
@@ -72,33 +36,6 @@ pub fn command_exists(alloc: Global, name: &[u8]) -> Result<Text, NoMemory>
     let mut message = Text::new(alloc, b"command ")?;
     push_quoted(&mut message, name)?;
     message.append(b" exists")?;
-    Ok(message)
-}
-
-/// The text of the error of a script that ends by `break` or `continue`, where no loop is.
-///
-/// # Errors
-///
-/// For want of memory alone.
-pub fn outside_loop(alloc: Global, name: &[u8]) -> Result<Text, NoMemory>
-    ensures { IfOk result (λ message. message ≡ outside_loop name.now) }
-{
-    let mut message = Text::new(alloc, b"invoked ")?;
-    push_quoted(&mut message, name)?;
-    message.append(b" outside of a loop")?;
-    Ok(message)
-}
-
-/// The text of the error of a text that is no list: it is bad at this byte.
-///
-/// # Errors
-///
-/// For want of memory alone.
-pub fn bad_list(alloc: Global, place: u64) -> Result<Text, NoMemory>
-    ensures { IfOk result (λ message. message ≡ bad_list place) }
-{
-    let mut message = Text::new(alloc, b"bad list at ")?;
-    message.append(format!(in alloc; "{place}")?.as_bytes())?;
     Ok(message)
 }
 
@@ -125,50 +62,17 @@ pub fn fault_text(alloc: Global, kind: Kind, place: u64) -> Result<Text, NoMemor
     Ok(message)
 }
 
-fn no_variable(alloc: Global, name: &[u8]) -> Result<Text, NoMemory>
-    ensures { IfOk result (λ message. message ≡ no_variable name.now) }
-{
-    let mut message = Text::new(alloc, b"can't read ")?;
-    push_quoted(&mut message, name)?;
-    message.append(b": no such variable")?;
-    Ok(message)
-}
-
-fn of_variable(alloc: Global, name: &[u8], what: &[u8]) -> Result<Text, NoMemory>
-    ensures { IfOk result (λ message. message ≡ of_variable name.now what.now) }
-{
-    let mut message = Text::new(alloc, b"variable ")?;
-    push_quoted(&mut message, name)?;
-    message.append(what)?;
-    Ok(message)
-}
-
 /// A variable of this name isn't read or written.
 pub fn variable_fault(alloc: Global, why: VarFault, name: &[u8]) -> Result<Text, NoMemory>
     ensures { IfOk result (λ message. message ≡ variable_fault why name.now) }
 {
     match why {
         VarFault::NoVariable => no_variable(alloc, name),
-        VarFault::IsArray => of_variable(alloc, name, b" is an array"),
-        VarFault::NotArray => of_variable(alloc, name, b" is no array"),
-        VarFault::Exists => of_variable(alloc, name, b" exists"),
+        VarFault::IsArray => is_an_array(alloc, name),
+        VarFault::NotArray => is_no_array(alloc, name),
+        VarFault::Exists => variable_exists(alloc, name),
         VarFault::NoMemory => Err(NoMemory),
     }
-}
-
-/// The text of the error of a command whose second word is none of its subcommands.
-///
-/// # Errors
-///
-/// For want of memory alone.
-pub fn unknown_subcommand(alloc: Global, name: &[u8], command: &[u8]) -> Result<Text, NoMemory>
-    ensures { IfOk result (λ message. message ≡ unknown_subcommand name.now command.now) }
-{
-    let mut message = Text::new(alloc, b"unknown subcommand ")?;
-    push_quoted(&mut message, name)?;
-    message.append(b" of ")?;
-    push_quoted(&mut message, command)?;
-    Ok(message)
 }
 
 /// A name is that of no procedure.
@@ -250,7 +154,7 @@ pub fn operator_fault(
         ExprFault::NotNumber => no_operand(alloc, op),
         ExprFault::NotBoolean => no_boolean(alloc, operand),
         ExprFault::DivZero => Text::new(alloc, b"divide by zero"),
-        ExprFault::Overflow => Text::new(alloc, b"integer overflow"),
+        ExprFault::Overflow => overflow(alloc),
         ExprFault::Shift => Text::new(alloc, b"bad shift count"),
         ExprFault::NoMemory => Err(NoMemory),
     }

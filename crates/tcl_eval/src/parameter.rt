@@ -6,10 +6,10 @@ ghost use Rattle.txt_core.specs.Quoting.{quoting};
 ghost use Rattle.tcl_eval.specs.Parameters.{parameter, read_all, parameters, bind, bound};
 ghost use Rattle.tcl_eval.specs.ParametersSeen.{ParametersAre, ValuesAre};
 
-use crate::message::{bad_list, bad_value, wrong_count};
 use crate::words::{behind_name, copy_word, push_all, word_at};
 use std::alloc::Global;
 use tcl_list::{ListFault, quote, split};
+use txt_core::error_text::{bad_value, no_list, wrong_words};
 use txt_core::{NoMemory, Pairs, Text, Words};
 
 /// A parameter: its name, and its value where a call has no word for it.
@@ -63,7 +63,7 @@ pub fn parameters(alloc: Global, text: &Text) -> Result<Result<Vec<Parameter>, T
 {
     match split(alloc, text) {
         Err(ListFault::NoMemory) => Err(NoMemory),
-        Err(ListFault::Bad { at }) => Ok(Err(bad_list(alloc, at)?)),
+        Err(ListFault::Bad { at }) => Ok(Err(no_list(alloc, at)?)),
         Ok(texts) => read_all(alloc, texts.as_slice()),
     }
 }
@@ -136,7 +136,7 @@ pub fn bound(alloc: Global, params: &Text, words: &Words) -> Result<Result<Pairs
         Ok(all) => all,
     };
     match bind(alloc, all.as_slice(), behind_name(words))? {
-        None => Ok(Err(wrong_count(alloc, word_at(words, 0))?)),
+        None => Ok(Err(wrong_words(alloc, word_at(words, 0))?)),
         Some(values) => Ok(Ok(values)),
     }
 }

@@ -11,12 +11,12 @@ ghost use Rattle.tcl_eval.specs.declared.engine.OpenQuestion.{OpenQuestion};
 ghost use Rattle.tcl_eval.specs.SwitchSeen.{OptionsAre};
 
 use crate::engine::Engine;
-use crate::message::{bad_list, bad_value};
 use crate::stack::Acted;
 use crate::value::{done, wrong_words};
 use crate::words::behind_name;
 use tcl_host::Host;
 use tcl_list::{ListFault, split};
+use txt_core::error_text::{bad_value, no_list};
 use txt_core::{NoMemory, Text, Words, glob};
 
 /// What the options of `switch` are: whether patterns match as globs do, and the words behind them; or
@@ -160,7 +160,7 @@ impl<H: Host> Engine<H> {
         match split(self.alloc, list) {
             Err(ListFault::NoMemory) => Err(NoMemory),
             Err(ListFault::Bad { at }) => {
-                let acted = self.fails(bad_list(self.alloc, at)?)?;
+                let acted = self.fails(no_list(self.alloc, at)?)?;
                 Ok(acted)
             }
             Ok(pairs) => {

@@ -7,12 +7,11 @@ ghost use Rattle.tcl_eval.specs.declared.gather.SoFar.{SoFar};
 ghost use Rattle.tcl_eval.specs.Eval.{ended, error_of, wrong_words, return_of, raised_of, break_of, continue_of, returned};
 
 use crate::gather::SoFar;
-use crate::message::{outside_loop, wrong_count};
 use crate::stack::Ended;
 use crate::words::{copy_word, word_at};
 use std::alloc::Global;
 use tcl_host::{BREAK, CONTINUE, ERROR, OK, RETURN};
-use txt_core::{MOST_BYTES, NoMemory, Text, Words};
+use txt_core::{MOST_BYTES, NoMemory, Text, Words, error_text};
 
 /// A good end with the empty result.
 pub fn done(alloc: Global) -> Ended
@@ -30,7 +29,7 @@ pub fn too_long(alloc: Global) -> Result<Ended, NoMemory>
 {
     Ok(Ended {
         code: ERROR,
-        result: Text::new(alloc, b"value too long")?,
+        result: error_text::too_long(alloc)?,
     })
 }
 
@@ -84,7 +83,7 @@ pub fn error(alloc: Global, message: Text) -> Result<Ended, NoMemory>
 pub fn wrong_words(alloc: Global, words: &Words) -> Result<Ended, NoMemory>
     ensures { IfOk result (λ value. value ≡ wrong_words words.now) }
 {
-    error(alloc, wrong_count(alloc, word_at(words, 0))?)
+    error(alloc, error_text::wrong_words(alloc, word_at(words, 0))?)
 }
 
 /// `return ?value?`.
@@ -148,8 +147,8 @@ pub fn returned(alloc: Global, value: Ended) -> Result<Ended, NoMemory>
             code: OK,
             result: value.result,
         }),
-        BREAK => error(alloc, outside_loop(alloc, b"break")?),
-        CONTINUE => error(alloc, outside_loop(alloc, b"continue")?),
+        BREAK => error(alloc, error_text::outside_loop(alloc, b"break")?),
+        CONTINUE => error(alloc, error_text::outside_loop(alloc, b"continue")?),
         _ => Ok(value),
     }
 }

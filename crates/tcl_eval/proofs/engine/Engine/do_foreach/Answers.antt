@@ -19,4 +19,4 @@ returns-in-Err-Bad-split-clause-means g c = λ ns opened gv.
     let k = stack_next ns t e.stack.items in
     foreach_bad_step ns t (nested ns t c.args.levels) c.args.words.now c.in-Ok.names c.in_ok-names.names c.in_ok-values.values c.in-Err-Bad-split.at k (state_of e) e.budget gv _ (sym c.len.ensures ∙ c.if-len-ne4.false) c.in_ok-names.ensures c.in-Ok.ensures (λ none. c.if-len-eq0.false (c.len-2.ensures ∙ none)) c.in_ok-values.ensures (rw c.in-Err-Bad-split.field-0-is at c.in-Err-Bad-split.ensures)
     (ap (λ (a : Acted). acted_next ns t a opened k (state_of e) e.budget gv) c.in_ok-acted-in-Err-Bad-split.ensures
-    ∙ ap (λ (m : List ℕ). give (error_of m) k (state_of e) e.budget gv) c.in_ok-bad_list-in-Err-Bad-split.ensures)
+    ∙ ap (λ (m : List ℕ). give (error_of m) k (state_of e) e.budget gv) c.in_ok-no_list-in-Err-Bad-split.ensures)
