@@ -14,7 +14,7 @@ use Rattle.tcl_varcmd.specs.Reading.{SaysOfList}
 use Rattle.txt_core.specs.Lists.{elements}
 use Rattle.txt_core.specs.Listing.{listing}
 use Rattle.txt_core.specs.Quoting.{quoting}
-use Rattle.tcl_varcmd.specs.Texts.{overflow}
+use Rattle.txt_core.specs.ErrorTexts.{overflow}
 use Rattle.natives.specs.Checks.{bad_list, list_error, listed, items}
 use Rattle.tcl_varcmd.specs.Errors.{fits, sum_error}
 

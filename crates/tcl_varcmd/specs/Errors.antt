@@ -5,8 +5,8 @@ use Rattle.tcl_frame.specs.Names.{named, is_element}
 use Rattle.tcl_frame.specs.Stack.{Stack}
 use Rattle.tcl_frame.specs.Frames.{read_fault, write_fault, remove_fault, array_fault, link_fault}
 use Rattle.txt_core.specs.Limits.{is_long}
-use Rattle.txt_core.specs.ErrorTexts.{wrong_words, bad_value, too_long}
-use Rattle.tcl_varcmd.specs.Texts.{fault_text, overflow}
+use Rattle.txt_core.specs.ErrorTexts.{wrong_words, bad_value, too_long, overflow}
+use Rattle.tcl_varcmd.specs.Texts.{fault_text}
 
 -- the text of a fault of a variable, where there is one
 abbrev pub refused : List ℕ → Option VarFault → Option (List ℕ)

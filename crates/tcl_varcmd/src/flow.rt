@@ -13,7 +13,7 @@ use crate::scalar::{append, incr, lappend, set};
 use natives::Fault;
 use std::alloc::Global;
 use tcl_frame::Frames;
-use txt_core::{Text, Words, is_too_long};
+use txt_core::{Text, Words, error_text, is_too_long};
 
 /// What a command answers, before its length is judged.
 fn answer(
@@ -74,7 +74,7 @@ pub fn var_command(alloc: Global, frames: &mut Frames, words: &Words) -> Result<
     match command_in(words) {
         Some(command) => {
             // The text is had before anything changes, so that want of memory for it changes nothing.
-            let over = Text::new(alloc, b"value too long")?;
+            let over = error_text::too_long(alloc)?;
             let answer = answer(alloc, frames, command, words);
             within_limit(answer, over)
         }

@@ -1,8 +1,8 @@
 //! The texts of errors, and the checks that need no variable.
 
-ghost use Rattle.std.specs.Prelude.{◌≡◌, ◌↔◌, ◌<◌, ◌≤◌, nat_lt, length, IfOk, IsTrue, Some};
+ghost use Rattle.std.specs.Prelude.{◌≡◌, ◌↔◌, ◌<◌, ◌≤◌, nat_lt, ℕ, List, length, IfOk, IsTrue, Some};
 ghost use Rattle.natives.specs.Answers.{Tried};
-ghost use Rattle.txt_core.specs.ErrorTexts.{naming, wrong_words};
+ghost use Rattle.txt_core.specs.ErrorTexts.{wrong_words, overflow};
 ghost use Rattle.tcl_varcmd.specs.Answers.{Says};
 ghost use Rattle.tcl_varcmd.specs.Texts.{fault_text};
 ghost use Rattle.tcl_varcmd.specs.Errors.{count_error, least_error};
@@ -10,36 +10,23 @@ ghost use Rattle.tcl_varcmd.specs.Errors.{count_error, least_error};
 use natives::Fault;
 use std::alloc::Global;
 use tcl_frame::VarFault;
-use txt_core::{NoMemory, Text, Words};
+use txt_core::{NoMemory, Text, Words, error_text};
 
-/// Three texts as one.
-fn joined(alloc: Global, front: &str, middle: &[u8], back: &str) -> Result<Text, NoMemory>
-    ensures { IfOk result (λ text. text ≡ naming front.now middle.now back.now) }
+/// The error of a text, or want of memory where there is no text for want of it.
+fn told(text: Result<Text, NoMemory>) -> Fault
+    ensures { (said : List ℕ) → IfOk text (λ t. t ≡ said) → Says (Some said) result }
 {
-    let mut text = Text::new(alloc, front.as_bytes())?;
-    text.append(middle)?;
-    text.append(back.as_bytes())?;
-    Ok(text)
-}
-
-/// An error whose text names something between two parts.
-pub(crate) fn named(alloc: Global, front: &str, name: &[u8], back: &str) -> Fault
-    ensures { Says (Some (naming front.now name.now back.now)) result }
-{
-    match joined(alloc, front, name, back) {
+    match text {
         Ok(text) => Fault::Error(text),
         Err(NoMemory) => Fault::NoMemory,
     }
 }
 
-/// An error of this text.
-pub(crate) fn plain(alloc: Global, text: &str) -> Fault
-    ensures { Says (Some text.now) result }
+/// The error of a sum that isn't a number of 64 bits with a sign.
+pub(crate) fn overflow(alloc: Global) -> Fault
+    ensures { Says (Some overflow) result }
 {
-    match Text::new(alloc, text.as_bytes()) {
-        Ok(text) => Fault::Error(text),
-        Err(NoMemory) => Fault::NoMemory,
-    }
+    told(error_text::overflow(alloc))
 }
 
 /// Why a variable is refused.
@@ -48,10 +35,10 @@ pub(crate) fn refusal(alloc: Global, fault: VarFault, name: &Text) -> Fault
 {
     let name = name.bytes();
     match fault {
-        VarFault::NoVariable => named(alloc, "can't read \"", name, "\": no such variable"),
-        VarFault::IsArray => named(alloc, "variable \"", name, "\" is an array"),
-        VarFault::NotArray => named(alloc, "variable \"", name, "\" is no array"),
-        VarFault::Exists => named(alloc, "variable \"", name, "\" exists"),
+        VarFault::NoVariable => told(error_text::no_variable(alloc, name)),
+        VarFault::IsArray => told(error_text::is_an_array(alloc, name)),
+        VarFault::NotArray => told(error_text::is_no_array(alloc, name)),
+        VarFault::Exists => told(error_text::variable_exists(alloc, name)),
         VarFault::NoMemory => Fault::NoMemory,
     }
 }
