@@ -2,8 +2,9 @@
 
 ghost use Rattle.std.specs.Prelude.{◌≡◌, Some, IfOk};
 ghost use Rattle.std.specs.List.{list_all};
-ghost use Rattle.blueprint.specs.Reading.{list_of, is_parameter, are_parameters, is_method, is_filter_method, begins_with_slash, stage_named, proc_def, rename_def, set_def, route_at, route_def, filter_at, filter_def, cleanup_def, by_name, is_short, def_of};
+ghost use Rattle.blueprint.specs.Reading.{list_of, is_parameter, are_parameters, proc_def, rename_def, set_def, route_at, route_def, filter_at, filter_def, cleanup_def, by_name, is_short, def_of};
 
+use crate::registration::{begins_with_slash, is_filter_method, is_method, stage_named};
 use cmd_table::{Def, When};
 use std::alloc::Global;
 use tcl_frame::is_element_name;
@@ -44,47 +45,6 @@ fn are_parameters(alloc: Global, params: &Text) -> Result<bool, NoMemory>
         }
     }
     Ok(true)
-}
-
-/// Whether a word is a method for which a procedure can be registered.
-fn is_method(word: &[u8]) -> bool
-    ensures { result ≡ is_method word.now }
-{
-    word == b"GET".as_slice()
-        || word == b"POST".as_slice()
-        || word == b"PUT".as_slice()
-        || word == b"DELETE".as_slice()
-}
-
-/// Whether a word is a method for which a filter can be registered, or stands for all.
-fn is_filter_method(word: &[u8]) -> bool
-    ensures { result ≡ is_filter_method word.now }
-{
-    word == b"*".as_slice() || is_method(word)
-}
-
-fn begins_with_slash(url: &[u8]) -> bool
-    ensures { result ≡ begins_with_slash url.now }
-{
-    match url.split_first() {
-        None => false,
-        Some((first, _behind)) => *first == b'/',
-    }
-}
-
-/// The stage of this name.
-fn stage_named(word: &[u8]) -> Option<When>
-    ensures { result ≡ stage_named word.now }
-{
-    if word == b"preauth".as_slice() {
-        Some(When::Preauth)
-    } else if word == b"postauth".as_slice() {
-        Some(When::Postauth)
-    } else if word == b"trace".as_slice() {
-        Some(When::Trace)
-    } else {
-        None
-    }
 }
 
 /// `proc name params body`.

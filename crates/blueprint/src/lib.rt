@@ -7,6 +7,7 @@ mod law;
 mod names;
 mod object;
 mod reading;
+mod registration;
 mod reply;
 mod room;
 mod script;
@@ -16,5 +17,6 @@ pub use law::{
     equal_epochs_are_one_state, scripts_are_read, since_applies, since_is_added, whole_is_all,
 };
 pub use reading::from_script;
+pub use registration::{begins_with_slash, is_filter_method, is_method, stage_named};
 pub use reply::{BlueCall, BlueReply, Limit, Look, Published, ScriptFault};
 pub use script::script_of;

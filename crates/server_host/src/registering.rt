@@ -2,58 +2,17 @@
 
 ghost use Rattle.std.specs.Prelude.{◌≡◌, ◌≤◌, ◌+◌, drop, IfOk, Some};
 ghost use Rattle.natives.specs.Words.{arg};
-ghost use Rattle.blueprint.specs.Reading.{is_method, is_filter_method, begins_with_slash, stage_named};
 ghost use Rattle.server_host.specs.Answers.{Comes};
 ghost use Rattle.server_host.specs.Registering.{is_noinherit, method_place, registers, registers_filter, ns_register_proc, ns_register_filter};
 
 use crate::checks::{arg, require_definition_run, require_fit, require_words, unfit, words_from};
 use crate::host::RunHost;
 use crate::refusal::{Refusal, refuse};
+use blueprint::{begins_with_slash, is_filter_method, is_method, stage_named};
 use cmd_table::{Def, When};
 use std::alloc::Global;
 use tcl_host::HostReply;
 use txt_core::{NoMemory, Text, Words};
-
-/// Whether a word is a method for which a procedure can be registered.
-fn is_method(word: &[u8]) -> bool
-    ensures { result ≡ is_method word.now }
-{
-    word == b"GET".as_slice()
-        || word == b"POST".as_slice()
-        || word == b"PUT".as_slice()
-        || word == b"DELETE".as_slice()
-}
-
-/// Whether a word is a method for which a filter can be registered, or stands for all.
-fn is_filter_method(word: &[u8]) -> bool
-    ensures { result ≡ is_filter_method word.now }
-{
-    word == b"*".as_slice() || is_method(word)
-}
-
-fn begins_with_slash(url: &[u8]) -> bool
-    ensures { result ≡ begins_with_slash url.now }
-{
-    match url.split_first() {
-        None => false,
-        Some((first, _behind)) => *first == b'/',
-    }
-}
-
-/// The stage of this name.
-fn stage_named(word: &[u8]) -> Option<When>
-    ensures { result ≡ stage_named word.now }
-{
-    if word == b"preauth".as_slice() {
-        Some(When::Preauth)
-    } else if word == b"postauth".as_slice() {
-        Some(When::Postauth)
-    } else if word == b"trace".as_slice() {
-        Some(When::Trace)
-    } else {
-        None
-    }
-}
 
 /// Whether the second word is the option by which the paths below the URL aren't served.
 fn is_noinherit(words: &Words) -> bool
