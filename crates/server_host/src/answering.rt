@@ -8,14 +8,13 @@ use crate::checks::arg;
 use crate::gathering::{names_answered, nsv_names};
 use crate::host::RunHost;
 use crate::interpreting::{ns_eval, ns_ictl};
-use crate::refusal::{Refusal, refuse};
 use crate::registering::{ns_register_filter, ns_register_proc};
 use crate::reply::{done, reply_of};
 use crate::scheduling::{ns_schedule_proc, ns_unschedule_proc};
 use crate::sharing::nsv;
 use crate::verb::{Verb, find_verb};
 use outside::Answer;
-use tcl_host::HostReply;
+use tcl_host::{HostReply, Refusal, refuse};
 use txt_core::{Text, Words};
 
 /// Does a command that is neither of the connection nor of pages.

@@ -8,8 +8,8 @@ ghost use Rattle.server_host.specs.Checks.{is_counted, is_defining, unfit};
 
 use crate::host::RunHost;
 use crate::kind::is_defining;
-use crate::refusal::{Refusal, refuse};
 use std::alloc::Global;
+use tcl_host::{Refusal, refuse};
 use txt_core::{NoMemory, Text, Words, error_text};
 
 /// The word at a place; the empty text where there is none.

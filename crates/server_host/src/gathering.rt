@@ -9,11 +9,10 @@ ghost use Rattle.server_host.specs.Sharing.{names_question, asks_names, nsv_name
 
 use crate::checks::{is_counted, require_words, words_from};
 use crate::host::RunHost;
-use crate::refusal::{Refusal, refuse};
 use crate::reply::done;
 use outside::{Answer, Question, Service};
 use std::alloc::Global;
-use tcl_host::HostReply;
+use tcl_host::{HostReply, Refusal, refuse};
 use tcl_list::{ListFault, quote, split};
 use txt_core::{BUCKET_COUNT, NoMemory, Text, Words, error_text, write_natural};
 

@@ -13,14 +13,13 @@ use crate::checks::{
 use crate::host::RunHost;
 use crate::ictl_verb::{IctlVerb, find_ictl_verb};
 use crate::kind::is_defining;
-use crate::refusal::{Refusal, refuse};
 use crate::reply::{done, done_without_result};
 use blueprint::script_of;
 use cmd_table::Def;
 use outside::{Question, Service};
 use std::alloc::Global;
 use tcl_frame::is_element_name;
-use tcl_host::HostReply;
+use tcl_host::{HostReply, Refusal, refuse};
 use txt_core::{NoMemory, Text, Words, write_natural};
 
 /// A question of one word.

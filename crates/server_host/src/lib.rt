@@ -11,7 +11,6 @@ mod ictl_verb;
 mod interpreting;
 mod kind;
 mod law;
-mod refusal;
 mod registering;
 mod reply;
 mod scheduling;

@@ -7,11 +7,10 @@ ghost use Rattle.server_host.specs.Registering.{is_noinherit, method_place, regi
 
 use crate::checks::{arg, require_definition_run, require_fit, require_words, unfit, words_from};
 use crate::host::RunHost;
-use crate::refusal::{Refusal, refuse};
 use blueprint::{begins_with_slash, is_filter_method, is_method, stage_named};
 use cmd_table::{Def, When};
 use std::alloc::Global;
-use tcl_host::HostReply;
+use tcl_host::{HostReply, Refusal, refuse};
 use txt_core::{NoMemory, Text, Words};
 
 /// Whether the second word is the option by which the paths below the URL aren't served.

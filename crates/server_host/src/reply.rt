@@ -6,9 +6,8 @@ ghost use Rattle.tcl_host.specs.Leaf.{Leaf, goes};
 ghost use Rattle.server_host.specs.Hosts.{HostState};
 ghost use Rattle.server_host.specs.Answers.{Comes};
 
-use crate::refusal::Refusal;
 use std::alloc::Global;
-use tcl_host::{ERROR, HostReply, OK};
+use tcl_host::{ERROR, HostReply, OK, Refusal};
 use txt_core::Text;
 
 /// A good end with this result.

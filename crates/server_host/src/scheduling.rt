@@ -7,9 +7,8 @@ ghost use Rattle.server_host.specs.Scheduling.{asks_schedule, is_once, is_schedu
 
 use crate::checks::{arg, is_counted, require_fit, require_words};
 use crate::host::RunHost;
-use crate::refusal::{Refusal, refuse};
 use outside::{Question, Service};
-use tcl_host::HostReply;
+use tcl_host::{HostReply, Refusal, refuse};
 use txt_core::{Words, error_text, read_int_bytes};
 
 /// The most seconds from one run of a script to the next: those of 365 days.

@@ -6,10 +6,9 @@ ghost use Rattle.server_host.specs.Sharing.{is_array_subcommand, lacks_subcomman
 
 use crate::checks::{arg, is_counted, no_subcommand};
 use crate::host::RunHost;
-use crate::refusal::{Refusal, refuse};
 use nsv_bucket::is_question;
 use outside::{Question, Service};
-use tcl_host::HostReply;
+use tcl_host::{HostReply, Refusal, refuse};
 use txt_core::{Words, error_text};
 
 /// Asks the shared arrays these words.

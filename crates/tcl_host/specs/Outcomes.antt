@@ -1,5 +1,5 @@
 -- What commands come to, in the words of the rules: a reply or an end, or a refusal. Want of memory says nothing.
-use Rattle.std.specs.Prelude.{◌≡◌, ℕ, List, [], Result, Ok, Err, ⊤}
+use Rattle.std.specs.Prelude.{◌≡◌, Bool, true, false, ℕ, List, [], Result, Ok, Err, ⊤}
 use Rattle.tcl_host.specs.Leaf.{Leaf, says, Onward, goes, TextEnd}
 use Rattle.tcl_host.specs.Answers.{Replies, RepliesTo}
 use Rattle.tcl_host.specs.declared.host.HostReply.{HostReply}
@@ -38,3 +38,25 @@ abbrev pub PutsOut : {H : Type 0} → Result ⊤ Refusal → H → TextEnd H →
 PutsOut (Ok done) host end = end ≡ record { code = 0; result = []; host = host }
 PutsOut (Err (Error message)) host end = end ≡ record { code = 1; result = message; host = host }
 PutsOut (Err NoMemory) host end = Unit {0}
+
+-- ---- what checks answer
+
+-- a check has this error
+abbrev pub Stops : {A : Type 0} → Refusal → Result A (List ℕ) → Type 0
+Stops (Error message) checked = checked ≡ Err message
+Stops NoMemory checked = Unit {0}
+
+-- what a check found, or the error
+abbrev pub Finds : {A : Type 0} → Result A Refusal → Result A (List ℕ) → Type 0
+Finds (Ok found) checked = checked ≡ Ok found
+Finds (Err refusal) checked = Stops refusal checked
+
+-- a test failed with this error
+abbrev pub Refused : Refusal → Bool → List ℕ → Type 0
+Refused (Error refused) test message = (test ≡ false) × (refused ≡ message)
+Refused NoMemory test message = Unit {0}
+
+-- a test was passed, or failed with this error
+abbrev pub Passes : Result ⊤ Refusal → Bool → List ℕ → Type 0
+Passes (Ok passed) test message = test ≡ true
+Passes (Err refusal) test message = Refused refusal test message
