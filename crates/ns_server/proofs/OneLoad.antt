@@ -7,7 +7,7 @@ use Rattle.std.proofs.lemmas.Option.{slice_get-get_or}
 use Rattle.load_gen.specs.Load.{next, choice, target_of, get_of, block, round_of, round, rounds, load_file, most_requests}
 use Rattle.load_gen.specs.Load as load
 use Rattle.load_gen.proofs.Rounds.{get_short, target_short, file_short}
-use Rattle.rehearse.specs.Events.{Actor, worker, scheduler, Event, workers, clock, page, define, connect, step, run, newline, line_of, words_of, block_of, block_end, spelled, file_of, most_bytes, most_block, most_input, most_workers}
+use Rattle.rehearse.specs.Events.{Actor, worker, scheduler, Event, workers, clock, page, define, connect, step, run, newline, line_of, words_of, block_of, block_end, spelled, file_of, most_file, most_block, most_input, most_workers}
 use Rattle.rehearse.specs.Files.{ComesNext, End, whole, bad, EndsAs, Opens, Holds}
 use Rattle.rehearse.specs.Lines.{Line}
 use Rattle.rehearse.specs.Objects.{Setting}
@@ -235,7 +235,7 @@ no_more e events left is =
     omega (arith, n, length-append (spelled e ++ file_of events) left, length-append (spelled e) (file_of events), spelled_some e)
 
 no_stop : (end : End) (world : World) (e : Event) (place : ℕ) (rest left : List ℕ) → MayCome world e → spelled e ++ rest ≡ left
-    → place + length (spelled e) ≤ most_bytes → Stops end world place left → ⊥
+    → place + length (spelled e) ≤ most_file → Stops end world place left → ⊥
 no_stop whole world e place rest left may is fits stops =
     let n : length (spelled e ++ rest) ≡ 0 = ap (λ (t : List ℕ). length t) (is ∙ stops) in
     omega (arith, n, length-append (spelled e) rest, spelled_some e)
@@ -244,7 +244,7 @@ no_stop (bad event) world e place rest left may is fits stops =
 
 one_reading : (expected : List Event) {world after : World} {events : List Event} {lines : List Line} (place : ℕ) (left : List ℕ) (end : End)
     → Follows world expected → Lists world events lines after → file_of expected ≡ file_of events ++ left
-    → place + length (file_of expected) ≤ most_bytes → Stops end after (place + length (file_of events)) left → (events ≡ expected) × (end ≡ whole)
+    → place + length (file_of expected) ≤ most_file → Stops end after (place + length (file_of events)) left → (events ≡ expected) × (end ≡ whole)
 one_reading [] place left whole follows no_event is fits stops = (refl, refl)
 one_reading [] place left (bad event) follows no_event is fits stops = absurd (stops.0 (sym is))
 one_reading [] place left end follows (one_event {e = g} {events = gs} lines others plays lists) is fits stops = absurd (no_more g gs left is)
@@ -263,6 +263,6 @@ one_reading (e ∷ es) {world = world} {after = after} place left end follows (o
 pub load_holds : (natives : List (List ℕ)) (n : ℕ) (file : List ℕ) (events : List Event) (lines : List Line) (end : End) → n ≤ most_requests → file ≡ load_file n
     → Holds natives file events lines end → (events ≡ load_events n) × (end ≡ whole)
 load_holds natives n file events lines end h is holds =
-    let fits : length (file_of (load_events n)) ≤ most_bytes = omega (arith, file_short n h, ap (λ (t : List ℕ). length t) (load_text n)) in
+    let fits : length (file_of (load_events n)) ≤ most_file = omega (arith, file_short n h, ap (λ (t : List ℕ). length t) (load_text n)) in
     one_reading (load_events n) 0 holds.left end (load_follows natives n h) holds.opens.plays (sym (load_text n) ∙ sym is ∙ holds.opens.text_is)
     (omega (arith, fits)) (stops_as end holds.world events holds.left holds.ends)

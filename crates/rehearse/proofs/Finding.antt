@@ -7,7 +7,7 @@ use Rattle.std.proofs.lemmas.Bool.{eqb-true}
 use Rattle.std.proofs.lemmas.Option.{slice_get_within}
 use Rattle.std.proofs.Math.Seq.{take-append_seam}
 use Rattle.rehearse.specs.declared.head.Head.{Head}
-use Rattle.rehearse.specs.Events.{worker, scheduler, Event, workers, clock, page, define, connect, step, run, newline, spelled, block_of, block_end, most_bytes}
+use Rattle.rehearse.specs.Events.{worker, scheduler, Event, workers, clock, page, define, connect, step, run, newline, spelled, block_of, block_end, most_file}
 use Rattle.rehearse.specs.Files.{ComesNext}
 use Rattle.rehearse.specs.Plays.{MayCome}
 use Rattle.rehearse.specs.Intakes.{IntakeState}
@@ -97,7 +97,7 @@ none_still left given more is none = ap (λ (t : List ℕ). list_all (is_other 1
 no_line_here : (s : IntakeState) (world : World) (e : Event) → HasNoNewline s.left → HasFew world → ¬ (ComesNext world s.place s.left e)
 no_line_here s world e none few c = no_cut 10 s.left (line_words e, block_end (block_of e) ++ c.rest) none (comes_cut world s.place s.left e few c)
 
-no_line_then : (s : IntakeState) → HasNoNewline s.left → (most_bytes - s.place) < length s.left → (more : List ℕ) → IsNoEvent s more
+no_line_then : (s : IntakeState) → HasNoNewline s.left → (most_file - s.place) < length s.left → (more : List ℕ) → IsNoEvent s more
 no_line_then s none long more world e few c =
     no_line_here s world e none few (comes_already world s.place s.left more e (omega (arith, c.in_time, long)) c)
 
@@ -109,7 +109,7 @@ finds_no_line s h = (
   λ world e few c. no_line_here s world e h.0 few (comes_at world s.place s.place (s.left ++ []) s.left e refl (append-nil s.left) c),
   elim h.1 [
     | inl stopped ↦ inl stopped
-    | inr long ↦ inr (some_left s.left (most_bytes - s.place) long, λ more. no_line_then s h.0 long more)
+    | inr long ↦ inr (some_left s.left (most_file - s.place) long, λ more. no_line_then s h.0 long more)
   ],
 )
 
@@ -179,7 +179,7 @@ sized_by s n front size l is sized =
     is_of_size s l.0 l.1 size l.2 l.3 (subst (λ (t : List ℕ). SizeOf t size) same sized)
 
 -- it goes past the last byte
-pub finds_too_long : (s : IntakeState) (n size : ℕ) → FindsLine (Some n) s → IsOfSize s size → (most_bytes - s.place) < size → FindsEvent None s
+pub finds_too_long : (s : IntakeState) (n size : ℕ) → FindsLine (Some n) s → IsOfSize s size → (most_file - s.place) < size → FindsEvent None s
 finds_too_long s n size l sized long =
     let never : (more : List ℕ) → IsNoEvent s more = λ more world e few c. omega (arith, sized more world e few c, c.in_time, long) in
     (never [], inr (some_line s.left l.0 l.1 l.2, never))
@@ -199,7 +199,7 @@ size_some line size h = omega (arith, h.2)
 
 -- an event of so many bytes may stand there
 pub finds_event : (s t : IntakeState) (n : ℕ) (front : List ℕ) (size : ℕ) (given : List ℕ) → FindsLine (Some n) s → front ≡ take n s.left → SizeOf front size
-    → ((most_bytes - s.place) < size → ⊥) → t.left ≡ s.left ++ given → t.place ≡ s.place → HasBytes true size t → FindsEvent (Some size) t
+    → ((most_file - s.place) < size → ⊥) → t.left ≡ s.left ++ given → t.place ≡ s.place → HasBytes true size t → FindsEvent (Some size) t
 finds_event s t n front size given l is sized fits left place has =
     let some : 0 < size = size_some front size sized in (
       some,
@@ -208,5 +208,5 @@ finds_event s t n front size given l is sized fits left place has =
       still_of_size s t given size left place (sized_by s n front size l is sized),
     )
   where
-    in_time : (p q size : ℕ) → q ≡ p → 0 < size → ((most_bytes - p) < size → ⊥) → q + size ≤ most_bytes
+    in_time : (p q size : ℕ) → q ≡ p → 0 < size → ((most_file - p) < size → ⊥) → q + size ≤ most_file
     in_time p q size e some h = omega (arith, e, some, h)

@@ -1,6 +1,6 @@
 -- A file has one list of events, one listing and one end.
 use Rattle.std.proofs.Common.{◌≡◌, ℕ, ◌+◌, ◌≤◌, List, [], ◌∷◌, ◌++◌, length, refl, sym, subst, ap, ◌∙◌, append_assoc, length-append, zero-add, arith}
-use Rattle.rehearse.specs.Events.{Event, most_bytes, spelled, file_of}
+use Rattle.rehearse.specs.Events.{Event, most_file, spelled, file_of}
 use Rattle.rehearse.specs.Files.{ComesNext, End, whole, bad, EndsAs, Opens, Holds}
 use Rattle.rehearse.specs.Lines.{Line}
 use Rattle.rehearse.specs.Plays.{Plays, Lists, no_event, one_event}
@@ -39,7 +39,7 @@ no_end (bad event) world count place left e h next = h.2 e next
 
 -- the first of the events comes next
 first_next : (world after : World) (place : ℕ) (text : List ℕ) (lines : List Line) (e : Event) (events : List Event) (left : List ℕ)
-    → text ≡ (spelled e ++ file_of events) ++ left → place + length (spelled e ++ file_of events) ≤ most_bytes → Plays world e lines after
+    → text ≡ (spelled e ++ file_of events) ++ left → place + length (spelled e ++ file_of events) ≤ most_file → Plays world e lines after
     → ComesNext world place text e
 first_next world after place text lines e events left is fits plays = record {
   rest = file_of events ++ left;
@@ -63,7 +63,7 @@ more_place place a b = omega (arith, length-append a b)
 files_same : {world a b : World} {d e : List Event} {l m : List Line} (count place : ℕ) (text r s : List ℕ) (x y : End)
     → HasFew world → HasAllowed world → Lists world d l a → Lists world e m b
     → text ≡ file_of d ++ r → text ≡ file_of e ++ s
-    → place + length (file_of d) ≤ most_bytes → place + length (file_of e) ≤ most_bytes
+    → place + length (file_of d) ≤ most_file → place + length (file_of e) ≤ most_file
     → EndsAt x a (count + length d) (place + length (file_of d)) r
     → EndsAt y b (count + length e) (place + length (file_of e)) s
     → (d ≡ e) × (l ≡ m) × (x ≡ y)
@@ -110,7 +110,7 @@ file_unique natives text d e l m x y h k =
 first_same : {world a b : World} {d e : List Event} {l m : List Line} (count place : ℕ) (text r s : List ℕ) (y : End)
     → HasFew world → HasAllowed world → Lists world d l a → Lists world e m b
     → text ≡ file_of d ++ r → text ≡ file_of e ++ s
-    → place + length (file_of d) ≤ most_bytes → place + length (file_of e) ≤ most_bytes
+    → place + length (file_of d) ≤ most_file → place + length (file_of e) ≤ most_file
     → EndsAt y b (count + length e) (place + length (file_of e)) s
     → (others : List Line) × (m ≡ l ++ others)
 unfolding first_next

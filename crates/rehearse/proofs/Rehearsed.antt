@@ -16,7 +16,7 @@ use Rattle.rehearse.specs.declared.machine.Machine.{Machine}
 use Rattle.rehearse.specs.declared.playback.Play.{Play}
 use Rattle.rehearse.specs.declared.tally.Tally.{Tally}
 use Rattle.rehearse.specs.declared.worker.Worker as code_worker
-use Rattle.rehearse.specs.Events.{Event, most_bytes, spelled, file_of}
+use Rattle.rehearse.specs.Events.{Event, most_file, spelled, file_of}
 use Rattle.rehearse.specs.Files.{End, whole, bad, ComesNext, Opens, Holds}
 use Rattle.rehearse.specs.Intakes.{IntakeState}
 use Rattle.rehearse.specs.Lines.{Line, listing_of}
@@ -106,7 +106,7 @@ size_is left size e fits is =
     omega (arith, len, same, fits)
 
 pub played : (natives : List (List ℕ)) (outside now : Outside) (before after : Play) (size : ℕ) (e : Event)
-    → size ≤ length before.intake.left → before.intake.place + size ≤ most_bytes → take size before.intake.left ≡ spelled e
+    → size ≤ length before.intake.left → before.intake.place + size ≤ most_file → take size before.intake.left ≡ spelled e
     → Played natives true e before.machine before.listing after.machine after.listing
     → IsMachineReady natives after.machine
     → after.intake ≡ record { left = drop size before.intake.left; place = before.intake.place + size; stopped = before.intake.stopped }
@@ -178,7 +178,7 @@ passed_on natives before now play output faults written listing gains le is empt
 }
 
 -- so many events were played, in no fewer bytes
-pub so_many : (natives : List (List ℕ)) (before now : Outside) (play : Play) → SoFar natives before now play → (play.events ≤ play.intake.place) × (play.intake.place ≤ most_bytes)
+pub so_many : (natives : List (List ℕ)) (before now : Outside) (play : Play) → SoFar natives before now play → (play.events ≤ play.intake.place) × (play.intake.place ≤ most_file)
 so_many natives before now play s = (omega (arith, s.counted, s.place, events_len s.events), omega (arith, s.place, s.opens.in_time))
 
 -- the first events of the whole input have the first lines of its listing

@@ -1,6 +1,7 @@
 -- The events of a rehearsal, and how a file spells them.
 use Rattle.std.specs.Prelude.{ℕ, List, [], ◌∷◌, ◌++◌, length, decimal, codes, Option, Some, None}
 use Rattle.std.specs.List.{join_with_byte}
+use Rattle.txt_core.specs.Limits.{most_bytes}
 
 -- who takes steps: a worker by its number, from 0, or the scheduler
 pub data Actor : Type 0 where
@@ -71,12 +72,12 @@ file_of (e ∷ events) = spelled e ++ file_of events
 -- ---- limits
 
 -- the byte of a file past which no event may go
-abbrev pub most_bytes : ℕ
-most_bytes = 67108864
+abbrev pub most_file : ℕ
+most_file = 67108864
 
 -- the most bytes of a page, of a block that is run, and of a connection's input
 abbrev pub most_page : ℕ
-most_page = 1048576
+most_page = most_bytes
 
 abbrev pub most_block : ℕ
 most_block = 8388608

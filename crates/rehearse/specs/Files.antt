@@ -1,6 +1,6 @@
 -- The reading of a file as events.
 use Rattle.std.specs.Prelude.{◌≡◌, ℕ, ◌+◌, ◌≤◌, List, [], ◌++◌, length}
-use Rattle.rehearse.specs.Events.{Event, spelled, most_bytes, file_of}
+use Rattle.rehearse.specs.Events.{Event, spelled, most_file, file_of}
 use Rattle.rehearse.specs.Lines.{Line}
 use Rattle.rehearse.specs.World.{World, opening}
 use Rattle.rehearse.specs.Plays.{MayCome, Lists}
@@ -9,7 +9,7 @@ use Rattle.rehearse.specs.Plays.{MayCome, Lists}
 pub record ComesNext (world : World) (place : ℕ) (left : List ℕ) (e : Event) : Type 0 where
   pub rest : List ℕ
   pub spelled_here : left ≡ spelled e ++ rest
-  pub in_time : place + length (spelled e) ≤ most_bytes
+  pub in_time : place + length (spelled e) ≤ most_file
   pub may_come : MayCome world e
 
 -- How a file ends.
@@ -28,7 +28,7 @@ EndsAs (bad event) world events left =
 -- The text is these events, which give this listing and lead to this world, and then what is left. The natives have these names.
 pub record Opens (natives : List (List ℕ)) (text : List ℕ) (events : List Event) (lines : List Line) (world : World) (left : List ℕ) : Type 0 where
   pub text_is : text ≡ file_of events ++ left
-  pub in_time : length (file_of events) ≤ most_bytes
+  pub in_time : length (file_of events) ≤ most_file
   pub plays : Lists (opening natives) events lines world
 
 -- The file holds these events and no more, with this listing and this end, where the natives have these names.

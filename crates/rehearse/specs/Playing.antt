@@ -47,7 +47,7 @@ use Rattle.rehearse.specs.declared.worker.Task.{Task}
 use Rattle.rehearse.specs.declared.worker.Task.TheVariants as tasks
 use Rattle.rehearse.specs.declared.worker.Worker as code_worker
 use Rattle.rehearse.specs.Defining.{Defining, Settles, define_progress, define_line}
-use Rattle.rehearse.specs.Events.{Event, most_bytes, most_workers, spelled, file_of}
+use Rattle.rehearse.specs.Events.{Event, most_file, most_workers, spelled, file_of}
 use Rattle.rehearse.specs.Files.{whole, ComesNext, Opens, Holds}
 use Rattle.rehearse.specs.Lines.{Line, Closing, ended, closing, truncated, refused, spent, listing_of}
 use Rattle.rehearse.specs.Objects.{Setting, edition_of}
@@ -490,7 +490,7 @@ HasNoNewline bytes = IsTrue (list_all (is_other 10) bytes)
 abbrev pub FindsLine : Option ℕ → IntakeState → Type 0
 FindsLine (Some size) after =
     (line : List ℕ) × (rest : List ℕ) × (after.left ≡ line ++ 10 ∷ rest) × HasNoNewline line × (length line ≡ size)
-FindsLine None after = HasNoNewline (after.left) × ((after.stopped ≢ None) ⊎ ((most_bytes - after.place) < length (after.left)))
+FindsLine None after = HasNoNewline (after.left) × ((after.stopped ≢ None) ⊎ ((most_file - after.place) < length (after.left)))
 
 -- so many bytes are there, or fewer, and reading has stopped
 abbrev pub HasBytes : Bool → ℕ → IntakeState → Type 0
@@ -509,7 +509,7 @@ IsNoEvent after more = (world : World) (e : Event) → HasFew world → ¬ (Come
 -- comes next in what is left; and reading has stopped, or something is left and none comes next whatever follows.
 abbrev pub FindsEvent : Option ℕ → IntakeState → Type 0
 FindsEvent (Some size) after =
-    (0 < size) × (size ≤ length (after.left)) × (after.place + size ≤ most_bytes)
+    (0 < size) × (size ≤ length (after.left)) × (after.place + size ≤ most_file)
     × ((more : List ℕ) (world : World) (e : Event) → HasFew world → ComesNext world after.place (after.left ++ more) e → length (spelled e) ≡ size)
 FindsEvent None after =
     IsNoEvent after []

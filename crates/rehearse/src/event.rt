@@ -10,7 +10,7 @@ use crate::cut::cut_at;
 use crate::head::{Actor, Head, read_head};
 
 /// The byte of a file past which no event may go.
-pub const MOST_BYTES: usize = 67_108_864;
+pub const MOST_FILE: usize = 67_108_864;
 
 /// An event.
 #[derive(Clone, Copy, Debug)]

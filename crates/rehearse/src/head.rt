@@ -7,9 +7,10 @@ ghost use Rattle.rehearse.specs.Reading.{IsHead, IsActor, PageAt, ConnectAt, hea
 use crate::cut::cut_at;
 use crate::keyword::{Keyword, find_keyword};
 use crate::number::{read_length, read_number};
+use txt_core::MOST_BYTES;
 
 /// The most bytes of a page.
-const MOST_PAGE: u64 = 1_048_576;
+const MOST_PAGE: u64 = MOST_BYTES as u64;
 
 /// The most bytes of a block that is run.
 const MOST_BLOCK: u64 = 8_388_608;

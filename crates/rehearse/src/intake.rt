@@ -2,12 +2,12 @@
 
 ghost use Rattle.std.specs.Prelude.{◌≡◌, ◌≤◌, ◌<◌, ◌+◌, [], length, take, drop, IfOk, None};
 ghost use Rattle.outside.specs.Reading.{Reads};
-ghost use Rattle.rehearse.specs.Events.{most_bytes};
+ghost use Rattle.rehearse.specs.Events.{most_file};
 ghost use Rattle.rehearse.specs.Playing.{count_of, stop_of, Fetches, Took, FindsLine, HasBytes, FindsEvent, ending_of};
 
 use crate::answer::Rehearsal;
 use crate::cut::cut_at;
-use crate::event::MOST_BYTES;
+use crate::event::MOST_FILE;
 use crate::head::event_size;
 use outside::{ReadAnswer, Source};
 use std::alloc::Global;
@@ -148,7 +148,7 @@ impl Intake {
                 return Ok(Some(seen + line.len()));
             }
             seen = self.left().len();
-            if seen > MOST_BYTES.saturating_sub(self.place) {
+            if seen > MOST_FILE.saturating_sub(self.place) {
                 return Ok(None);
             }
             if !self.fetch(source)? {
@@ -182,7 +182,7 @@ impl Intake {
         let Some(size) = event_size(&self.left()[..line]) else {
             return Ok(None);
         };
-        if size > MOST_BYTES.saturating_sub(self.place) {
+        if size > MOST_FILE.saturating_sub(self.place) {
             return Ok(None);
         }
         let there = self.fetch_bytes(source, size)?;
@@ -192,7 +192,7 @@ impl Intake {
     /// The event of so many bytes was played.
     pub fn use_up(&mut self, size: usize)
         requires there { size ≤ length self.old.left }
-        requires in_time { self.old.place + size ≤ most_bytes }
+        requires in_time { self.old.place + size ≤ most_file }
         ensures { self.new ≡ record { left = drop size self.old.left; place = self.old.place + size; stopped = self.old.stopped } }
     {
         self.used += size;

@@ -2,7 +2,7 @@
 
 ghost use Rattle.std.specs.Prelude.{◌≡◌, ◌≤◌, ◌+◌, [], ℕ, List, length, true, Some, IfOk, OnOk, OnErr};
 ghost use Rattle.natives.specs.Names.{names_of};
-ghost use Rattle.rehearse.specs.Events.{most_bytes};
+ghost use Rattle.rehearse.specs.Events.{most_file};
 ghost use Rattle.rehearse.specs.Rehearsing.{Outside, Rehearses};
 ghost use Rattle.outside.specs.Faults.{Rose};
 ghost use Rattle.rehearse.specs.Summary.{Counts};
@@ -56,7 +56,7 @@ impl Play {
         size: usize,
         steps: &mut Steps<L>,
     ) -> Result<bool, NoMemory>
-        requires there { (size ≤ length self.old.intake.left) × (self.old.intake.place + size ≤ most_bytes) }
+        requires there { (size ≤ length self.old.intake.left) × (self.old.intake.place + size ≤ most_file) }
         requires ready { IsMachineReady (names_of natives.now) self.old.machine }
         requires few { self.old.events ≤ self.old.intake.place }
         ensures plays { IfOk result (λ came. PlaysOne (names_of natives.now) came size self.old self.new) }

@@ -1,5 +1,5 @@
 use Rattle.std.proofs.Common.{ℕ, ◌-◌, ◌<◌, take, Bool, Option, Some, subst, ap, arith}
-use Rattle.rehearse.specs.Events.{most_bytes}
+use Rattle.rehearse.specs.Events.{most_file}
 use Rattle.rehearse.specs.Intakes.{IntakeState}
 use Rattle.rehearse.specs.Playing.{FindsLine, HasBytes}
 use Rattle.rehearse.proofs.Fetching.{fetched_more}
@@ -38,7 +38,7 @@ pub returns-then-there-clause-finds : goal.returns-then-there-clause-finds
 returns-then-there-clause-finds g c =
     let line : FindsLine (Some c.in-Some.line) c.fetch_line.new.self = subst (λ (f : Option ℕ). FindsLine f c.fetch_line.new.self) c.in-Some.is c.in_ok-line.ensures.finds in
     let place = ap (λ (s : IntakeState). s.place) c.self.view_is in
-    let fits : (most_bytes - c.fetch_line.new.self.place) < c.in-Some-event_size.size → ⊥ = λ k. omega (arith, k, c.if-size-saturating_sub.false, c.saturating_sub.ensures, place) in
+    let fits : (most_file - c.fetch_line.new.self.place) < c.in-Some-event_size.size → ⊥ = λ k. omega (arith, k, c.if-size-saturating_sub.false, c.saturating_sub.ensures, place) in
     finds_event c.fetch_line.new.self c.fetch_bytes.new.self c.in-Some.line (take c.in-Some.line c.left.result.now) c.in-Some-event_size.size c.fetch_bytes.ensures.fetches.given line
     (ap (take c.in-Some.line) c.left.ensures) c.in-Some-event_size.ensures fits
     c.fetch_bytes.ensures.fetches.left c.fetch_bytes.ensures.fetches.place

@@ -1,6 +1,6 @@
 use Rattle.std.proofs.Common.{◌≡◌, ◌+◌, ◌-◌, ◌≤◌, length, take, true}
 use Rattle.std.specs.List.{list_all}
-use Rattle.rehearse.specs.Events.{most_bytes}
+use Rattle.rehearse.specs.Events.{most_file}
 use Rattle.rehearse.specs.Playing.{Fetches}
 use Rattle.rehearse.specs.Reading.{is_other}
 use Rattle.rehearse.proofs.intake.Intake.fetch_line.Given as goal
@@ -13,4 +13,4 @@ invariant-pieces g l = record {
 }
 
 abbrev pub decreases-pieces : goal.decreases-pieces
-decreases-pieces g l = most_bytes + 1 - length l.self.left
+decreases-pieces g l = most_file + 1 - length l.self.left

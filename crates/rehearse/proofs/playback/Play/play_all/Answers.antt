@@ -3,7 +3,7 @@ use Rattle.natives.specs.Names.{names_of}
 use Rattle.rehearse.specs.declared.answer.Rehearsal.{Rehearsal}
 use Rattle.rehearse.specs.declared.answer.Rehearsal.TheVariants as answers
 use Rattle.rehearse.specs.declared.playback.Play.{Play}
-use Rattle.rehearse.specs.Events.{most_bytes}
+use Rattle.rehearse.specs.Events.{most_file}
 use Rattle.rehearse.specs.Playing.{outside_of, FindsEvent, SoFar, PlaysOne, PassesOn, IsOfSink, IsCounted}
 use Rattle.rehearse.specs.Rehearsing.{Outside, Ends, Rehearses}
 use Rattle.rehearse.proofs.Rehearsed.{fetched, so_many, barred, ended, counted, sink_counted, on_err, runs_out}
@@ -118,7 +118,7 @@ overflow_add-self g c =
     let s : SoFar names before now play =
     fetched names before (outside_of (g.S.Source.rest c.events.source) (g.S.Source.faults c.events.source) (g.K.Sink.taken c.events.sink) (g.K.Sink.faults c.events.sink)) c.events.self c.fetch_event.new.self
     (g.S.Source.rest c.fetch_event.new.source) (g.S.Source.faults c.fetch_event.new.source) c.events.invariant.so_far c.fetch_event.ensures.fetches in
-    let m : (play.events ≤ play.intake.place) × (play.intake.place ≤ most_bytes) = so_many names before now play s in
+    let m : (play.events ≤ play.intake.place) × (play.intake.place ≤ most_file) = so_many names before now play s in
     omega (arith, m.0, m.1)
 
 pub returns-clause-ends : goal.returns-clause-ends

@@ -1,6 +1,6 @@
 use Rattle.std.proofs.Common.{◌≡◌, ◌-◌, []}
 use Rattle.natives.specs.Names.{names_of}
-use Rattle.rehearse.specs.Events.{most_bytes}
+use Rattle.rehearse.specs.Events.{most_file}
 use Rattle.rehearse.specs.Playing.{outside_of, SoFar}
 use Rattle.rehearse.proofs.playback.Play.play_all.Given as goal
 
@@ -13,4 +13,4 @@ invariant-events g l = record {
 }
 
 abbrev pub decreases-events : goal.decreases-events
-decreases-events g l = most_bytes - l.self.intake.place
+decreases-events g l = most_file - l.self.intake.place
