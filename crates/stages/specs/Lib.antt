@@ -1,3 +1,4 @@
+-- What a reader believes.
 pub mod Order
 pub mod States
 pub mod Laws
