@@ -189,10 +189,7 @@ fn help_words(alloc: Global, words: &Words) -> Result<Words, NoMemory> {
 
 /// Puts a word at the end.
 fn push_word(words: &mut Words, word: Text) -> Result<(), NoMemory> {
-    match words.push(word) {
-        Ok(()) => Ok(()),
-        Err(_) => Err(NoMemory),
-    }
+    words.add(word)
 }
 
 /// Prints the help or the version on standard output, where the words ask for one of them, and tells

@@ -25,10 +25,7 @@ fn is_picked(pattern: Option<&Text>, text: &Text) -> bool
 fn push_copy(alloc: Global, words: &mut Words, text: &Text) -> Result<(), NoMemory>
     ensures { OnOk result (words.new ≡ words.old ++ text.now ∷ []) }
 {
-    match words.push(copied(alloc, text)?) {
-        Ok(()) => Ok(()),
-        Err(_) => Err(NoMemory),
-    }
+    words.add(copied(alloc, text)?)
 }
 
 /// The keys that the pattern picks, in byte order.

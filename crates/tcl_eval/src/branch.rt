@@ -100,9 +100,7 @@ fn push_clause(
 ) -> Result<(), NoMemory>
     ensures { OnOk result (clauses.new ≡ clauses.old ++ (condition.now, body.now) ∷ []) }
 {
-    let condition = Text::new(alloc, condition.bytes())?;
-    let body = Text::new(alloc, body.bytes())?;
-    clauses.push((condition, body)).map_err(|_| NoMemory)
+    clauses.add((condition.copy(alloc)?, body.copy(alloc)?))
 }
 
 /// Words without a `then` at their front.

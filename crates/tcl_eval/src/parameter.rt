@@ -72,8 +72,7 @@ pub fn parameters(alloc: Global, text: &Text) -> Result<Result<Vec<Parameter>, T
 fn push_value(alloc: Global, values: &mut Pairs, name: &Text, value: Text) -> Result<(), NoMemory>
     ensures { OnOk result (values.new ≡ values.old ++ (name.now, value) ∷ []) }
 {
-    let name = Text::new(alloc, name.bytes())?;
-    values.push((name, value)).map_err(|_| NoMemory)
+    values.add((name.copy(alloc)?, value))
 }
 
 /// Words as a list.

@@ -41,17 +41,14 @@ pub fn command_cost(words: &Words) -> u128
 pub fn push_word(words: &mut Words, word: Text) -> Result<(), NoMemory>
     ensures { OnOk result (words.new ≡ words.old ++ word ∷ []) }
 {
-    words.push(word).map_err(|_| NoMemory)
+    words.add(word)
 }
 
 /// Puts copies of words at the end.
 pub fn push_all(alloc: Global, words: &mut Words, more: &[Text]) -> Result<(), NoMemory>
     ensures { OnOk result (words.new ≡ words.old ++ more.now) }
 {
-    for word in more {
-        push_word(words, Text::new(alloc, word.bytes())?)?;
-    }
-    Ok(())
+    words.append_copies(alloc, more)
 }
 
 /// The words behind the first one.

@@ -65,8 +65,5 @@ pub(crate) fn with_elements(alloc: Global, list: Text, others: &[Text]) -> Resul
 pub(crate) fn push_copy(alloc: Global, list: &mut Words, text: &Text) -> Result<(), NoMemory>
     ensures { OnOk result (list.new ≡ list.old ++ text.now ∷ []) }
 {
-    match list.push(Text::new(alloc, text.bytes())?) {
-        Ok(()) => Ok(()),
-        Err(_) => Err(NoMemory),
-    }
+    list.add(text.copy(alloc)?)
 }
