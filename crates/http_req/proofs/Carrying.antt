@@ -5,7 +5,7 @@ use Rattle.std.proofs.Math.Seq.{take-add, take-append_seam}
 use Rattle.outside.specs.Reading.{Gives, Reads}
 use Rattle.outside.specs.declared.source.ReadAnswer.{ReadAnswer}
 use Rattle.outside.specs.declared.source.ReadAnswer.TheVariants.{Bytes, Failed}
-use Rattle.http_req.specs.Fetching.{count_of}
+use Rattle.outside.specs.Reading.{count_of}
 
 -- the bytes that a read gave stand at the front of what it wrote in, and no count falls
 pub read_gives : (r s : Option (List ℕ)) (f g : ℕ) (a b : List ℕ) (answer : ReadAnswer) (count : ℕ) → count ≡ count_of answer

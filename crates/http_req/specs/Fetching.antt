@@ -2,8 +2,6 @@
 use Rattle.std.specs.Prelude.{◌≡◌, ℕ, ◌≤◌, List, [], ◌++◌, Option, Some, ⊤}
 use Rattle.outside.specs.Faults.{Rose}
 use Rattle.outside.specs.Reading.{Gives}
-use Rattle.outside.specs.declared.source.ReadAnswer.{ReadAnswer}
-use Rattle.outside.specs.declared.source.ReadAnswer.TheVariants.{Bytes, Failed}
 use Rattle.http_req.specs.declared.carry.Stop.{Stop}
 use Rattle.http_req.specs.declared.carry.Stop.TheVariants as stop
 
@@ -24,8 +22,3 @@ abbrev pub Stopped : Option (List ℕ) → ℕ → Stop → Option (List ℕ) �
 Stopped rest faults stop.End rest_after faults_after = HasEnded rest rest_after
 Stopped rest faults stop.Fault rest_after faults_after = Rose faults faults_after
 Stopped rest faults stop.NoMemory rest_after faults_after = ⊤
-
--- how many bytes a read gave
-abbrev pub count_of : ReadAnswer → ℕ
-count_of (Bytes count) = count
-count_of Failed = 0

@@ -3,11 +3,11 @@
 ghost use Rattle.std.specs.Prelude.{◌≡◌, ◌≤◌, ◌<◌, [], length, take, drop, OnOk, OnErr, IfErr};
 ghost use Rattle.outside.specs.Reading.{Reads};
 ghost use Rattle.http_req.specs.Limits.{head_limit};
-ghost use Rattle.http_req.specs.Fetching.{Moves, Stopped, count_of};
+ghost use Rattle.http_req.specs.Fetching.{Moves, Stopped};
 ghost use Rattle.http_req.specs.declared.carry.Stop.TheVariants as stop;
 
 use crate::head::HEAD_LIMIT;
-use outside::{ReadAnswer, Source};
+use outside::{ReadAnswer, Source, count_of, read_behind};
 use std::alloc::Global;
 use std::marker::Model;
 
@@ -161,25 +161,6 @@ fn piece_size(missing: usize, given: usize) -> usize
     missing
         .min(given.saturating_mul(2))
         .clamp(PIECE_SIZE, LARGE_PIECE_SIZE)
-}
-
-/// Reads into what stands behind so many bytes of a buffer, and leaves these.
-fn read_behind<S: Source>(source: &mut S, buffer: &mut [u8], start: usize) -> ReadAnswer
-    requires room { start < length buffer.old }
-    ensures reads { Reads (S.rest source.old) (S.faults source.old) (drop start buffer.old) result (drop start buffer.new) (S.rest source.new) (S.faults source.new) }
-    ensures front { take start buffer.new ≡ take start buffer.old }
-{
-    source.read(&mut buffer[start..])
-}
-
-/// How many bytes were read.
-fn count_of(answer: ReadAnswer) -> usize
-    ensures { result ≡ count_of answer }
-{
-    match answer {
-        ReadAnswer::Bytes(count) => count,
-        ReadAnswer::Failed => 0,
-    }
 }
 
 /// Whether a look for a head is worth while after the last one, at `looked` bytes, where the bytes

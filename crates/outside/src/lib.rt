@@ -41,4 +41,4 @@ pub use replies::Replies;
 pub use reply_sink::ReplySink;
 pub use sending::{Sent, write_all};
 pub use sink::{Sink, WriteAnswer};
-pub use source::{ReadAnswer, Source};
+pub use source::{ReadAnswer, Source, count_of, read_behind};

@@ -9,7 +9,8 @@ use Rattle.outside.specs.declared.source.ReadAnswer.TheVariants.{Bytes, Failed}
 use Rattle.rehearse.specs.declared.intake.Stopped.{Stopped}
 use Rattle.rehearse.specs.declared.intake.Stopped.TheVariants as stops
 use Rattle.rehearse.specs.Intakes.{IntakeState}
-use Rattle.rehearse.specs.Playing.{count_of, stop_of, StopsAt, Fetches, Took}
+use Rattle.outside.specs.Reading.{count_of}
+use Rattle.rehearse.specs.Playing.{stop_of, StopsAt, Fetches, Took}
 use Rattle.rehearse.proofs.Giving.{gives_none, gives_more, stays_at_end, rose_since}
 
 -- nothing was read

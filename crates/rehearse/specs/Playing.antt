@@ -449,11 +449,7 @@ ending_of None left event = answers.BadEvent event
 ending_of (Some stops.AtEnd) left event = by_left left event
 ending_of (Some stops.AtFault) left event = answers.ReadFault
 
--- how many bytes a read gave, and why it is the last one
-abbrev pub count_of : ReadAnswer → ℕ
-count_of (Bytes count) = count
-count_of Failed = 0
-
+-- why a read is the last one
 abbrev pub stop_of : ReadAnswer → Option Stopped
 stop_of (Bytes zero) = Some stops.AtEnd
 stop_of (Bytes (suc count)) = None

@@ -3,13 +3,13 @@
 ghost use Rattle.std.specs.Prelude.{◌≡◌, ◌≤◌, ◌<◌, ◌+◌, [], length, take, drop, IfOk, None};
 ghost use Rattle.outside.specs.Reading.{Reads};
 ghost use Rattle.rehearse.specs.Events.{most_file};
-ghost use Rattle.rehearse.specs.Playing.{count_of, stop_of, Fetches, Took, FindsLine, HasBytes, FindsEvent, ending_of};
+ghost use Rattle.rehearse.specs.Playing.{stop_of, Fetches, Took, FindsLine, HasBytes, FindsEvent, ending_of};
 
 use crate::answer::Rehearsal;
 use crate::cut::cut_at;
 use crate::event::MOST_FILE;
 use crate::head::event_size;
-use outside::{ReadAnswer, Source};
+use outside::{ReadAnswer, Source, count_of, read_behind};
 use std::alloc::Global;
 use std::marker::Model;
 use txt_core::NoMemory;
@@ -48,25 +48,6 @@ impl Model for Intake {
     ghost view = { λ a. record { left = drop a.used a.bytes.items; place = a.place; stopped = a.stopped } };
 
     ghost invariant = { λ a. a.used ≤ length a.bytes.items };
-}
-
-/// Reads into what stands behind so many bytes of a buffer, and leaves these.
-fn read_behind<S: Source>(source: &mut S, buffer: &mut [u8], start: usize) -> ReadAnswer
-    requires room { start < length buffer.old }
-    ensures reads { Reads (S.rest source.old) (S.faults source.old) (drop start buffer.old) result (drop start buffer.new) (S.rest source.new) (S.faults source.new) }
-    ensures front { take start buffer.new ≡ take start buffer.old }
-{
-    source.read(&mut buffer[start..])
-}
-
-/// How many bytes a read gave.
-fn count_of(answer: ReadAnswer) -> usize
-    ensures { result ≡ count_of answer }
-{
-    match answer {
-        ReadAnswer::Bytes(count) => count,
-        ReadAnswer::Failed => 0,
-    }
 }
 
 /// Why a read is the last one; `None` where it isn't.

@@ -1,6 +1,6 @@
 use Rattle.std.proofs.Common.{◌≡◌, ℕ, ◌+◌, ◌-◌, ◌≤◌, List, ◌++◌, length, take, drop, ap, ◌∙◌, arith, length-drop, vec_len}
 use Rattle.rehearse.specs.Intakes.{IntakeState}
-use Rattle.rehearse.specs.Playing.{count_of}
+use Rattle.outside.specs.Reading.{count_of}
 use Rattle.rehearse.proofs.Fetching.{fetched_kept, fetched_by, left_at, written_back, count_low}
 use Rattle.rehearse.proofs.intake.Intake.fetch.Goals as goal
 
