@@ -1,10 +1,13 @@
 -- What holds of every run.
-use Rattle.std.specs.Prelude.{◌≡◌, ◌≤◌, ◌<◌, ℕ, suc, ◌+◌, ◌*◌, true, List, ◌++◌, length, drop, Ok}
+use Rattle.std.specs.Prelude.{◌≡◌, ◌≤◌, ◌<◌, ℕ, suc, ◌+◌, ◌*◌, Bool, true, false, not, ◌||◌, is_some, List, ◌++◌, length, drop, Ok}
 use Rattle.std.specs.List.{AllByRecursion}
 use Rattle.outside.specs.declared.question.Answer.{Answer}
 use Rattle.outside.specs.declared.question.Question.{Question}
-use Rattle.cmd_table.specs.Commands.{Writes}
+use Rattle.cmd_table.specs.Commands.{Writes, language_names}
 use Rattle.cmd_table.specs.declared.definition.Def.{Def}
+use Rattle.tcl_varcmd.specs.Commands.{command_named}
+use Rattle.tcl_eval.specs.declared.verb.Verb.{Verb}
+use Rattle.tcl_eval.specs.declared.verb.Verb.TheVariants as verbs
 use Rattle.tcl_eval.specs.declared.branch.Turning.{Turning}
 use Rattle.tcl_eval.specs.declared.parameter.Parameter.{Parameter}
 use Rattle.tcl_eval.specs.declared.outcome.Work.{Work}
@@ -15,7 +18,7 @@ use Rattle.tcl_eval.specs.Results.{most_bytes}
 use Rattle.tcl_eval.specs.Parameters.{parameters}
 use Rattle.tcl_eval.specs.Commands.{proc_of, rename_of}
 use Rattle.tcl_eval.specs.Loops.{turns}
-use Rattle.tcl_eval.specs.Eval.{is_for_host, nested, eval}
+use Rattle.tcl_eval.specs.Eval.{verb_of, is_for_host, nested, eval}
 use Rattle.tcl_eval.specs.Engine.{comes_to}
 use Rattle.tcl_eval.specs.declared.engine.Engine.{Engine}
 use Rattle.tcl_eval.specs.declared.outcome.Outcome.TheVariants.{Asks}
@@ -145,3 +148,32 @@ MadeByCommands {H} table =
 -- Definitions in front of others write at most as many entries of the table as those.
 abbrev pub FrontsWriteLess : Type 0
 FrontsWriteLess = (old new : List Def) → IsFront old new → Writes old ≤ Writes new
+
+-- ---- names
+
+-- no built-in of the engine's own
+abbrev pub is_other : Verb → Bool
+is_other verbs.Other = true
+is_other verbs.Proc = false
+is_other verbs.Return = false
+is_other verbs.Error = false
+is_other verbs.Break = false
+is_other verbs.Continue = false
+is_other verbs.Rename = false
+is_other verbs.Eval = false
+is_other verbs.Catch = false
+is_other verbs.Expr = false
+is_other verbs.If = false
+is_other verbs.While = false
+is_other verbs.For = false
+is_other verbs.Foreach = false
+is_other verbs.Switch = false
+is_other verbs.Info = false
+
+-- the engine does the command of this name: it is one on variables, or a built-in of its own
+abbrev pub is_done_here : List ℕ → Bool
+is_done_here name = is_some (command_named name) || not (is_other (verb_of name))
+
+-- each name that stands for a command of the language in a new table of commands is done here
+abbrev pub LanguageNamesHaveDoers : Type 0
+LanguageNamesHaveDoers = AllByRecursion (λ name. is_done_here name ≡ true) language_names

@@ -1,6 +1,6 @@
 //! Laws of what runs come to.
 
-ghost use Rattle.tcl_eval.specs.Laws.{TurnsSuffice, QuestionsCost, QuestionsAreFew, MadeGrows, MadeGrowsOn, MadeByCommands, FrontsWriteLess};
+ghost use Rattle.tcl_eval.specs.Laws.{TurnsSuffice, QuestionsCost, QuestionsAreFew, MadeGrows, MadeGrowsOn, MadeByCommands, FrontsWriteLess, LanguageNamesHaveDoers};
 
 use tcl_host::Host;
 
@@ -40,4 +40,10 @@ pub fn made_by_commands<H: Host>()
 /// Definitions that stand in front of others write at most as many entries of the table.
 pub fn fronts_write_less()
     ensures { FrontsWriteLess }
+{}
+
+/// Each name that stands for a command of the language in a new table of commands is that of a command
+/// on variables or of a built-in that the engine does.
+pub fn language_names_have_doers()
+    ensures { LanguageNamesHaveDoers }
 {}

@@ -27,8 +27,8 @@ mod words;
 
 pub use engine::Engine;
 pub use law::{
-    fronts_write_less, made_by_commands, made_grows, made_grows_on, questions_are_few,
-    questions_cost, turns_suffice,
+    fronts_write_less, language_names_have_doers, made_by_commands, made_grows, made_grows_on,
+    questions_are_few, questions_cost, turns_suffice,
 };
 pub use outcome::{Outcome, Work};
 pub use tcl_host::{Host, HostReply};
