@@ -16,5 +16,9 @@ plain_reply status = text_reply status (status_text status)
 abbrev pub no_memory_bytes : ℕ → List ℕ
 no_memory_bytes moment = response_bytes (text_reply 503 (codes "out of memory")) moment false true
 
+-- the bytes with which a request is refused by this status: the plain reply, and the connection closes
+abbrev pub refusal_bytes : ℕ → ℕ → List ℕ
+refusal_bytes status moment = response_bytes (plain_reply status) moment false true
+
 abbrev pub busy_bytes : ℕ → List ℕ
-busy_bytes moment = response_bytes (plain_reply 503) moment false true
+busy_bytes moment = refusal_bytes 503 moment

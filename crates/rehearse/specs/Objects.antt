@@ -20,6 +20,7 @@ use Rattle.blueprint.specs.declared.reply.BlueReply.TheVariants as blue_replies
 use Rattle.blueprint.specs.declared.reply.Published.{Published}
 use Rattle.blueprint.specs.declared.reply.Published.TheVariants as publications
 use Rattle.server_host.specs.declared.edition.Edition.{Edition}
+pub use Rattle.server_host.specs.Hosts.{edition_of}
 use Rattle.serving.specs.Calls.{path_asked, page_found, nsv_answer, sched_call, sched_answer, publish_call, save_call, published_answer}
 use Rattle.serving.specs.declared.publishing.Asked.{Asked}
 use Rattle.serving.specs.declared.publishing.Asked.TheVariants.{Puts, Refused}
@@ -47,10 +48,7 @@ new_objects natives = record {
   schedule = record { next = 0; entries = []; stopped = false };
 }
 
--- the blueprint as it is published now, on which a run begins: its epoch and its definitions
-abbrev pub edition_of : BlueprintState → Edition
-edition_of blueprint = record { epoch = blueprint.epoch; defs = definitions blueprint }
-
+-- the blueprint as it is published now, on which a run begins
 abbrev pub published_now : Objects → Edition
 published_now objects = edition_of objects.blueprint
 

@@ -4,7 +4,7 @@ use Rattle.outside.specs.declared.question.Answer.{Answer}
 use Rattle.outside.specs.declared.question.Question.{Question}
 use Rattle.http_req.specs.Outcomes.{Gets, Whole, End, Truncated, Refused}
 use Rattle.http_req.specs.declared.request.Request.{Request}
-use Rattle.http_resp.specs.Replies.{plain_reply}
+pub use Rattle.http_resp.specs.Replies.{refusal_bytes}
 use Rattle.http_resp.specs.ResponseBytes.{response_bytes}
 use Rattle.http_resp.specs.declared.response.Response.{Response}
 use Rattle.tcl_eval.specs.declared.outcome.Outcome.{Outcome}
@@ -33,10 +33,6 @@ abbrev pub bytes_of : Connection → Open → Response → List ℕ
 bytes_of connection request reply =
     response_bytes reply request.moment (connections.is_head_only request.request)
     (connections.closes (connections.asks_close request.request) connection.requests connection.answer_bytes)
-
--- the plain reply of a refusal, which closes
-abbrev pub refusal_bytes : ℕ → ℕ → List ℕ
-refusal_bytes status moment = response_bytes (plain_reply status) moment false true
 
 -- the connection closes behind a request, or stays
 abbrev pub end_lines : ℕ → Behind → List Line

@@ -5,6 +5,7 @@ use Rattle.http_req.specs.declared.request.Request.{Request}
 use Rattle.conn_host.specs.Conns.{ConnState}
 use Rattle.conn_host.specs.Conns as conns
 use Rattle.adp_host.specs.States.{PageState, no_page_yet}
+use Rattle.blueprint.specs.States.{State as BlueprintState, definitions}
 use Rattle.server_host.specs.declared.edition.Edition.{Edition}
 use Rattle.server_host.specs.declared.kind.Kind.{Kind}
 use Rattle.server_host.specs.declared.kind.Kind.TheVariants as kinds
@@ -60,6 +61,10 @@ fresh blueprint = no_run blueprint false
 -- All that runs left is taken back. The blueprint stays, and so does the mark.
 abbrev pub cleared : HostState → HostState
 cleared host = no_run host.blueprint host.marked
+
+-- a blueprint as it is published, as a run has it: its epoch and its definitions
+abbrev pub edition_of : BlueprintState → Edition
+edition_of state = record { epoch = state.epoch; defs = definitions state }
 
 -- definitions are added to a blueprint, which has this epoch then
 abbrev pub added : Edition → ℕ → List Def → Edition

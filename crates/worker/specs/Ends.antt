@@ -2,8 +2,8 @@
 use Rattle.std.specs.Prelude.{◌≡◌, ◌⊎◌, ◌<◌, ℕ, ◌+◌, true, false, List, [], ◌∷◌, ◌++◌, length, take, Option, None, Some}
 use Rattle.http_req.specs.Outcomes.{Gets, Whole, End, Truncated, Refused, ended}
 use Rattle.http_req.specs.declared.request.Request.{Request}
-use Rattle.http_resp.specs.Replies.{plain_reply, no_memory_bytes}
-use Rattle.http_resp.specs.ResponseBytes.{response_bytes}
+use Rattle.http_resp.specs.Replies.{no_memory_bytes}
+pub use Rattle.http_resp.specs.Replies.{refusal_bytes}
 use Rattle.shared_state.specs.Views.{BlueEntry}
 use Rattle.serving.specs.Connections.{after_request, asks_close}
 use Rattle.serving.specs.declared.connection.Behind.{Behind}
@@ -46,10 +46,6 @@ pub data Finish : Type 0 where
   Nothing : Finish
   Refuses : (status moment : ℕ) → Finish
   Wants : (moment : ℕ) (look : Option BlueEntry) → Finish
-
--- the plain reply of a refusal, which has its body and closes whatever the method is
-abbrev pub refusal_bytes : ℕ → ℕ → List ℕ
-refusal_bytes status moment = response_bytes (plain_reply status) moment false true
 
 abbrev pub finish_bytes : Finish → List ℕ
 finish_bytes Nothing = []

@@ -4,10 +4,10 @@ use Rattle.outside.specs.declared.question.Answer.{Answer}
 use Rattle.http_req.specs.declared.request.Request.{Request}
 use Rattle.http_resp.specs.declared.response.Response.{Response}
 use Rattle.http_resp.specs.ResponseBytes.{response_bytes}
+pub use Rattle.server_host.specs.Hosts.{edition_of}
 use Rattle.server_host.specs.declared.edition.Edition.{Edition}
 use Rattle.server_host.specs.Hosts.{HostState}
 use Rattle.blueprint.specs.States as blueprints
-use Rattle.blueprint.specs.States.{definitions}
 use Rattle.tcl_eval.specs.State.{State}
 use Rattle.tcl_eval.specs.declared.outcome.Outcome.{Outcome}
 use Rattle.tcl_eval.specs.declared.outcome.Outcome.TheVariants as outcomes
@@ -15,10 +15,6 @@ use Rattle.ictl.specs.Main.{Progress, asks, writes, ends, Main, Script, Define, 
 use Rattle.serving.specs.Connections.{is_head_only}
 use Rattle.worker.specs.declared.served.ServedOutcome.{ServedOutcome}
 use Rattle.worker.specs.declared.served.ServedOutcome.TheVariants.{Answered, Spent, TooDeep, NoMemory}
-
--- a state of the blueprint as an interpreter knows it: its epoch and its definitions
-abbrev pub edition_of : blueprints.State → Edition
-edition_of state = record { epoch = state.epoch; defs = definitions state }
 
 -- ---- requests
 
