@@ -3,21 +3,16 @@ use Rattle.std.specs.Prelude.{Bool, true, ℕ, List, length, map, filter, slice_
 use Rattle.cmd_table.specs.Table.{Table, names_of, command_of}
 use Rattle.cmd_table.specs.declared.command.Cmd.{Cmd}
 use Rattle.cmd_table.specs.declared.command.Cmd.TheVariants.{Built, Proc}
-use Rattle.txt_core.specs.PatternLaws.{matches}
 use Rattle.txt_core.specs.Quoting.{quoting}
 use Rattle.tcl_eval.specs.declared.parameter.Parameter.{Parameter}
 use Rattle.tcl_eval.specs.declared.stack.Ended.{Ended}
+pub use Rattle.tcl_varcmd.specs.Arrays.{is_picked}
 use Rattle.tcl_eval.specs.Parameters.{parameters}
 use Rattle.tcl_eval.specs.Words.{arg}
 use Rattle.tcl_eval.specs.Messages.{no_procedure, unknown_subcommand}
 use Rattle.tcl_eval.specs.Results.{ended, error_of, wrong_words}
 use Rattle.tcl_eval.specs.Going.{give}
 use Rattle.tcl_eval.specs.State.{Rest, Next}
-
--- whether a name is listed: any, or only one that matches a pattern
-abbrev pub is_picked : Option (List ℕ) → List ℕ → Bool
-is_picked None name = true
-is_picked (Some pattern) name = matches pattern name
 
 -- `info commands ?glob?`: the names in byte order
 abbrev pub names_picked : Table → Option (List ℕ) → Ended

@@ -9,6 +9,7 @@ use Rattle.tcl_frame.specs.Frames.{read_of, read_fault, write_fault, written}
 use Rattle.tcl_eval.specs.declared.stack.Ended.{Ended}
 use Rattle.tcl_eval.specs.Words.{arg}
 pub use Rattle.txt_core.specs.Limits.{most_bytes}
+pub use Rattle.tcl_frame.specs.Names.{element_name}
 use Rattle.txt_core.specs.Limits.{most_nested}
 use Rattle.txt_core.specs.ErrorTexts.{wrong_words as wrong_count}
 use Rattle.tcl_eval.specs.Messages.{too_long, outside_loop, variable_fault}
@@ -34,10 +35,6 @@ answer_cost (Failed why) = length why / bytes_for_one
 answer_cost (Page page) = length page / bytes_for_one
 answer_cost NoPage = 0
 answer_cost PageFault = 0
-
--- the name by which an element of an array is read
-abbrev pub element_name : List ℕ → List ℕ → List ℕ
-element_name array index = array ++ codes "(" ++ index ++ codes ")"
 
 -- ---- codes with results
 
