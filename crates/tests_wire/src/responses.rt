@@ -329,6 +329,14 @@ fn check_broken(rt: &impl Abort, sink: &mut MemSink) {
     assert_eq!(rt; reply_busy(0, sink), Sent::WriteFault { sent: 120 });
 }
 
+/// Asserts that a sink whose first call fails takes nothing of either reply.
+fn check_closed(rt: &impl Abort, busy: &mut MemSink, no_memory: &mut MemSink) {
+    assert_eq!(rt; reply_busy(0, busy), Sent::WriteFault { sent: 0 });
+    assert_eq!(rt; busy.taken().bytes(), b"".as_slice());
+    assert_eq!(rt; reply_no_memory(0, no_memory), Sent::WriteFault { sent: 0 });
+    assert_eq!(rt; no_memory.taken().bytes(), b"".as_slice());
+}
+
 #[test]
 fn named_replies(rt: HostRuntime) -> Result<(), Fail> {
     let fails = vec![in rt.alloc(); 2u64]?;
@@ -338,5 +346,8 @@ fn named_replies(rt: HostRuntime) -> Result<(), Fail> {
     check_busy(&rt, &mut quick);
     let mut broken = MemSink::new(rt.alloc(), 60, fails);
     check_broken(&rt, &mut broken);
+    let mut first = MemSink::new(rt.alloc(), 60, vec![in rt.alloc(); 0u64]?);
+    let mut second = MemSink::new(rt.alloc(), 60, vec![in rt.alloc(); 0u64]?);
+    check_closed(&rt, &mut first, &mut second);
     Ok(())
 }
