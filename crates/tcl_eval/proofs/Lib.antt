@@ -11,6 +11,7 @@ pub mod Turns
 pub mod Counts
 pub mod Kept
 pub mod Pages
+pub mod Parameters
 pub mod Pairs
 pub mod Rows
 pub mod Stacks

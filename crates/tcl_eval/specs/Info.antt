@@ -1,5 +1,5 @@
 -- `info` on commands: their names, and the parameters and the body of a procedure.
-use Rattle.std.specs.Prelude.{Bool, true, ℕ, List, length, map, filter, slice_get, ◌==◌, ◌||◌, bytes_eq, codes, if◌then◌else◌, Option, Some, None, Result, Ok, Err}
+use Rattle.std.specs.Prelude.{ℕ, List, length, map, filter, slice_get, ◌==◌, ◌||◌, bytes_eq, codes, if◌then◌else◌, Option, Some, None, Result, Ok, Err}
 use Rattle.cmd_table.specs.Table.{Table, names_of, command_of}
 use Rattle.cmd_table.specs.declared.command.Cmd.{Cmd}
 use Rattle.cmd_table.specs.declared.command.Cmd.TheVariants.{Built, Proc}

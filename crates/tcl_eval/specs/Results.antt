@@ -1,6 +1,6 @@
 -- Limits and costs, and codes with results. Codes are 0 for a good end, 1 for an error, 2 for a return, 3 for a break, 4 for a
 -- continue.
-use Rattle.std.specs.Prelude.{ℕ, zero, suc, ◌+◌, ◌/◌, List, [], ◌++◌, length, sum_by, ◌==◌, nat_lt, if◌then◌else◌, ◌||◌, codes, Option, Some, None}
+use Rattle.std.specs.Prelude.{ℕ, zero, suc, ◌+◌, ◌/◌, List, [], length, sum_by, ◌==◌, nat_lt, if◌then◌else◌, ◌||◌, codes, Option, Some, None}
 use Rattle.outside.specs.declared.question.Answer.{Answer}
 use Rattle.outside.specs.declared.question.Answer.TheVariants.{Said, Failed, Page, NoPage, PageFault}
 use Rattle.tcl_frame.specs.declared.fault.VarFault.{VarFault}
