@@ -19,4 +19,4 @@ pub use law::{
 pub use reading::from_script;
 pub use registration::{begins_with_slash, is_filter_method, is_method, stage_named};
 pub use reply::{BlueCall, BlueReply, Limit, Look, Published, ScriptFault};
-pub use script::script_of;
+pub use script::{script_of, when_name};

@@ -9,8 +9,8 @@ use std::alloc::Global;
 use tcl_list::quote;
 use txt_core::{NoMemory, Text, Words};
 
-/// The name of a stage.
-pub(crate) fn when_name(when: When) -> &'static [u8]
+/// The name of a stage, by which filters are registered for it and called in it.
+pub fn when_name(when: When) -> &'static [u8]
     ensures { result.now ≡ when_name when }
 {
     match when {

@@ -4,7 +4,6 @@ ghost use Rattle.std.specs.Prelude.{◌≡◌, ◌<◌, ◌≤◌, ◌+◌, ◌�
 ghost use Rattle.txt_core.specs.Number.{number};
 ghost use Rattle.cmd_table.specs.Commands.{Writes};
 ghost use Rattle.natives.specs.Names.{names_of};
-ghost use Rattle.natives.specs.Words.{arg};
 ghost use Rattle.outside.specs.declared.question.Answer.{Answer};
 ghost use Rattle.outside.specs.declared.question.Question.{Question};
 ghost use Rattle.server_host.specs.declared.edition.Edition.{Edition as Published};
@@ -20,7 +19,7 @@ use crate::running::Running;
 use cmd_table::Steps;
 use natives::Natives;
 use outside::Answer;
-use server_host::Edition;
+use server_host::{Edition, arg};
 use std::alloc::Global;
 use std::rc::Rc;
 use std::sync::ledger::Ledger;
@@ -32,16 +31,6 @@ use txt_core::{MOST_NESTED, NoMemory, Text, Words, read_int_bytes};
 pub struct InnerRun {
     pub run: Running,
     pub defining: DefineRun,
-}
-
-/// The word at a place; the empty text where there is none.
-fn word_at(words: &Words, at: usize) -> &[u8]
-    ensures { result.now ≡ arg words.now at }
-{
-    match words.get(at) {
-        Some(word) => word.bytes(),
-        None => &[],
-    }
 }
 
 /// The depth that a text names, where a run may stand there.
@@ -110,11 +99,11 @@ impl InnerRun {
         ensures fewer { self.new.defining.questions ≤ self.old.defining.questions }
     {
         self.run.engine.host_mut().begin_definitions(moment)?;
-        let level = word_at(words, 1);
+        let level = arg(words, 1);
         let Some(depth) = depth_of(level) else {
             return Ok(DefineStop::Sunk);
         };
-        let body = word_at(words, 0);
+        let body = arg(words, 0);
         let script = Text::new(alloc, body)?;
         let work = Work::Script(script);
         let came = self.run.start(natives, work, budget, depth, steps)?;

@@ -4,12 +4,12 @@ ghost use Rattle.std.specs.Prelude.{◌≡◌, ◌++◌, ◌∷◌, [], List, If
 ghost use Rattle.std.specs.Option.{option_copied, option_map};
 ghost use Rattle.cmd_table.specs.declared.definition.Def.{Def};
 ghost use Rattle.cmd_table.specs.declared.definition.When.TheVariants as when;
-ghost use Rattle.blueprint.specs.Scripts.{when_name};
 ghost use Rattle.url_tables.specs.Serving.{route};
 ghost use Rattle.conn_host.specs.RequestCommands.{path_of};
 ghost use Rattle.url_tables.specs.Tables.{IsBuiltOf};
 ghost use Rattle.ictl.specs.Visits.{calls_of, filter_calls, authorise_call, authorisation, is_page, serving_by, no_visit};
 
+use blueprint::when_name;
 use cmd_table::{Cmd, When};
 use conn_host::{credentials_of, path};
 use http_req::Request;
@@ -40,17 +40,6 @@ pub struct Visit {
     pub postauth: WordsList,
     pub serving: Serving,
     pub trace: WordsList,
-}
-
-/// The name of a stage, with which its filters are called.
-fn when_name(when: When) -> &'static [u8]
-    ensures { result.now ≡ when_name when }
-{
-    match when {
-        When::Preauth => b"preauth",
-        When::Postauth => b"postauth",
-        When::Trace => b"trace",
-    }
 }
 
 /// The calls of the filters of a stage.

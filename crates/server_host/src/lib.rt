@@ -17,6 +17,7 @@ mod scheduling;
 mod sharing;
 mod verb;
 
+pub use checks::arg;
 pub use edition::Edition;
 pub use host::RunHost;
 pub use kind::Kind;
