@@ -73,6 +73,7 @@ use std::process::ExitCode;
 use std::sync::Wait;
 use std::sync::ledger::{Blank, Ledger};
 use std::thread::Threads;
+use system::take_stack;
 use txt_core::{NoMemory, Text, Words};
 
 /// Adds the native whose name stands at this place to those before it.
@@ -226,6 +227,9 @@ fn main(rt: HostRuntime) -> ExitCode {
         Ok(false) => {}
         Ok(true) => return ExitCode::SUCCESS,
         Err(_) => return ExitCode::from(report(&mut errors, Status::NoMemory)),
+    }
+    if take_stack(rt.alloc()).is_err() {
+        return ExitCode::from(report(&mut errors, Status::NoMemory));
     }
     let Ok(mut machine) = Machine::new(rt) else {
         return ExitCode::from(report(&mut errors, Status::NoMemory));

@@ -8,9 +8,12 @@
 
 mod accepting;
 mod parts;
+mod roll;
 mod running;
 mod side;
 mod staff;
+#[cfg(test)]
+mod tests;
 
 pub use accepting::{Stop, accept_all};
 pub use running::{Plan, serve_all};

@@ -2,6 +2,7 @@
 
 ghost use Rattle.conn_queue.specs.Queues.{IsOf};
 
+use crate::roll::Roll;
 use crate::staff::Staff;
 use conn_queue::{ConnQueue, QPass};
 use std::sync::Wait;
@@ -19,18 +20,23 @@ pub struct Part<T, W> {
 }
 
 impl<T, W> Part<T, W> {
-    /// Runs until the worker took its end mark, or until the schedule was stopped.
+    /// Runs until the worker took its end mark, or until the schedule was stopped; or does nothing where it
+    /// may not begin any more.
     pub(crate) fn run<V: Staff<T, W>, R: Wait + std::rt::Clock>(
         &mut self,
         rt: &R,
         staff: &V,
         queue: &ConnQueue<T>,
+        roll: &Roll,
     )
         requires queue { IsOf queue.now self.old.pass }
         requires own { V.fits staff.now self.old.own }
         ensures queue { IsOf queue.now self.new.pass }
         ensures own { V.fits staff.now self.new.own }
     {
+        if !roll.begin() {
+            return;
+        }
         match self.number {
             Some(number) => staff.work(rt, number, queue, &mut self.pass, &mut self.own),
             None => staff.keep_time(rt, &mut self.own),

@@ -9,6 +9,7 @@ ghost use Rattle.server_threads.specs.Stops.{Stops};
 
 use crate::accepting::{Stop, accept_all};
 use crate::parts::Part;
+use crate::roll::{MOST_LOOKS, Roll};
 use crate::side::side_by_side;
 use crate::staff::{Arrives, Staff};
 use conn_queue::{ConnQueue, QPass};
@@ -35,6 +36,9 @@ pub struct Plan {
 /// Of the values in `owns` the first is for the part that keeps the time, and each other one for a
 /// worker, which are numbered from 0. When the parts have ended, `own` takes in all of them. The one
 /// error is want of memory, which comes before a connection is accepted.
+///
+/// Connections are accepted when all parts have begun. Where some haven't within ten seconds, since the
+/// system makes no thread for them, it stops for want of memory, and no connection was accepted.
 pub fn serve_all<
     T: Arrives<N::S, N::K> + Send + Drop,
     W: Send + Drop,
@@ -139,31 +143,34 @@ fn run_beside<
     ensures parts { All (λ part. IsOf queue.now part.pass × V.fits staff.now part.own) parts.new }
     ensures stops { Stops connections (N.state net.old) result (N.state net.new) }
 {
-    let workers = u16::try_from(parts.len().saturating_sub(1)).unwrap_or(u16::MAX);
+    let count = u16::try_from(parts.len()).unwrap_or(u16::MAX);
+    let roll = Roll::new();
+    let called = &roll;
     side_by_side(
         rt,
         parts,
-        &|_at, part| part.run(rt, staff, queue),
+        &|_at, part| part.run(rt, staff, queue, called),
         &mut || -> Stop
             requires { IsOf queue.now pass.now × V.fits staff.now own.now × IsNew (N.state net.now) }
             ensures { IsOf queue.entry.now pass.exit.now × V.fits staff.entry.now own.exit.now × Stops connections (N.state net.entry.now) result (N.state net.exit.now) }
-        { accept_and_stop(rt, staff, queue, connections, workers, pass, own, net) },
+        { accept_and_stop(rt, staff, queue, called, connections, count, pass, own, net) },
     )
 }
 
-// Accepts, and then closes the queue for so many workers and stops the schedule.
+// Accepts when all parts have begun, and then ends them.
 fn accept_and_stop<
     T: Arrives<N::S, N::K>,
     W,
     V: Staff<T, W>,
     N: Net,
-    R: Wait + std::net::Net<Listener = TcpListener, Stream = TcpStream>,
+    R: Wait + std::rt::Clock + std::net::Net<Listener = TcpListener, Stream = TcpStream>,
 >(
     rt: &R,
     staff: &V,
     queue: &ConnQueue<T>,
+    roll: &Roll,
     connections: u64,
-    workers: u16,
+    parts: u16,
     pass: &mut QPass<T>,
     own: &mut W,
     net: &mut N,
@@ -175,10 +182,33 @@ fn accept_and_stop<
     ensures own { V.fits staff.now own.new }
     ensures stops { Stops connections (N.state net.old) result (N.state net.new) }
 {
+    if let Err(begun) = roll.await_all(rt, u64::from(parts), MOST_LOOKS) {
+        // the keeper of time may be among them: the mark too many stays in the queue
+        let begun = u16::try_from(begun).unwrap_or(u16::MAX);
+        end_parts(rt, staff, queue, begun, pass, own);
+        return Stop::NoMemory;
+    }
     let stop = accept_all(rt, staff, queue, connections, pass, own, net);
+    end_parts(rt, staff, queue, parts.saturating_sub(1), pass, own);
+    stop
+}
+
+// Closes the queue for so many workers, and stops the schedule.
+fn end_parts<T, W, V: Staff<T, W>, R: Wait>(
+    rt: &R,
+    staff: &V,
+    queue: &ConnQueue<T>,
+    workers: u16,
+    pass: &mut QPass<T>,
+    own: &mut W,
+)
+    requires queue { IsOf queue.now pass.old }
+    requires own { V.fits staff.now own.old }
+    ensures queue { IsOf queue.now pass.new }
+    ensures own { V.fits staff.now own.new }
+{
     queue.close(rt, pass, workers);
     staff.stop(rt, own);
-    stop
 }
 
 // Takes in the passes and the values of the parts.

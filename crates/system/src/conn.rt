@@ -3,6 +3,7 @@
 ghost use Rattle.std.specs.Prelude.{◌≡◌, ◌<◌, ◌≤◌, length, IfOk, IfSome};
 
 use crate::counts::Faults;
+use crate::request::Request;
 use crate::silence::Silence;
 use crate::waiting::{Place, Waiting};
 use outside::{ReadAnswer, Sink, Source, WriteAnswer};
@@ -11,7 +12,7 @@ use std::io::{self, ErrorKind, Read, Write};
 use std::net::{Shutdown, TcpStream};
 use std::sync::Arc;
 use std::sync::atomic::{AtomicBool, Ordering};
-use std::time::Duration;
+use std::time::{Duration, Instant};
 
 /// A read or a write waits in rounds of so many milliseconds, so that it needs no clock.
 const ROUND: u64 = 100;
@@ -84,12 +85,15 @@ fn take_away(mut stream: &TcpStream, rounds: u32) {
 /// only when more of it comes.
 ///
 /// Within a request a peer that is silent for 30 seconds is a fault, and so is one that is silent for 5
-/// minutes in all, where the first second of each silence isn't counted.
+/// minutes in all, where the first second of each silence isn't counted. Where another connection waits for
+/// a worker, a request that isn't whole 30 seconds after its first byte is a fault too.
 #[derive(Drop)]
-pub struct TcpSource {
+pub struct TcpSource<R> {
+    rt: R,
     line: Arc<Line, Global>,
     pub(crate) waiting: Waiting,
     place: Option<Place>,
+    request: Request,
     pub(crate) faults: Faults,
 }
 
@@ -109,11 +113,12 @@ pub struct TcpSink {
 }
 
 /// The two ends of a connection that now waits for a worker.
-pub(crate) fn ends(
+pub(crate) fn ends<R: Drop>(
+    rt: R,
     alloc: Global,
     stream: TcpStream,
     waiting: &Waiting,
-) -> Result<(TcpSource, TcpSink), AllocError> {
+) -> Result<(TcpSource<R>, TcpSink), AllocError> {
     let line = Arc::new(
         alloc,
         Line {
@@ -127,9 +132,11 @@ pub(crate) fn ends(
         faults: Faults::none(),
     };
     let source = TcpSource {
+        rt,
         line,
         waiting: waiting.copy()?,
         place: Some(waiting.enter()?),
+        request: Request::new(),
         faults: Faults::none(),
     };
     Ok((source, sink))
@@ -163,7 +170,24 @@ fn why(kind: ErrorKind) -> Missed {
     }
 }
 
-impl TcpSource {
+impl<R: std::rt::Clock> TcpSource<R> {
+    // Whether a request is under way that has to give way to a connection that waits.
+    fn gives_way(&mut self) -> bool
+        ensures { self.new.faults ≡ self.old.faults }
+    {
+        if self.line.silence.is_idle() {
+            self.request = Request::new();
+            return false;
+        }
+        if !self.request.needs_moment(&self.waiting) {
+            return false;
+        }
+        match Instant::now(&self.rt) {
+            Ok(now) => self.request.gives_way(now, &self.waiting),
+            Err(_) => false,
+        }
+    }
+
     // Reads for one round.
     fn receive(&self, into: &mut [u8]) -> Result<usize, Missed>
         ensures kept { length into.new ≡ length into.old }
@@ -174,27 +198,33 @@ impl TcpSource {
             .map_err(|error| why(error.kind()))
     }
 
-    // Reads for as many rounds as there may be; `None` where the connection failed or stalled.
-    fn await_bytes(&self, into: &mut [u8]) -> Option<usize>
+    // Reads for as many rounds as there may be; `None` where the connection failed or stalled, or gave way
+    // to another.
+    fn await_bytes(&mut self, into: &mut [u8]) -> Option<usize>
         ensures kept { length into.new ≡ length into.old }
         ensures fits { IfSome result (λ count. count ≤ length into.old) }
+        ensures faults { self.new.faults ≡ self.old.faults }
     {
-        let silence = &self.line.silence;
         let mut silent = 0u32;
         for _try in 0..u64::MAX {
+            if self.gives_way() {
+                self.line.open.store(false, Ordering::SeqCst);
+                return None;
+            }
             match self.receive(into) {
                 Ok(count) => {
-                    silence.note_piece(silent);
+                    self.line.silence.note_piece(silent);
                     self.line.open.store(count != 0, Ordering::SeqCst);
                     return Some(count);
                 }
                 Err(Missed::Over) => {
                     silent = silent.saturating_add(1);
-                    if silence.ends_input(silent, self.waiting.is_any()) {
+                    let others_wait = self.waiting.is_any();
+                    if self.line.silence.ends_input(silent, others_wait) {
                         self.line.open.store(false, Ordering::SeqCst);
                         return Some(0);
                     }
-                    if silence.is_stalled(silent) {
+                    if self.line.silence.is_stalled(silent) {
                         self.line.open.store(false, Ordering::SeqCst);
                         return None;
                     }
@@ -207,7 +237,7 @@ impl TcpSource {
     }
 }
 
-impl Source for TcpSource {
+impl<R: std::rt::Clock> Source for TcpSource<R> {
     ghost use Rattle.std.specs.Prelude.{None};
 
     ghost rest = { λ s. None };

@@ -1,4 +1,5 @@
-//! The outside as the system gives it: pages of a folder, the system's clock, and connections over TCP.
+//! The outside as the system gives it: pages of a folder, the system's clock, connections over TCP, and the
+//! stack of the main thread.
 //!
 //! These adapters are trusted: what they tell a layer above is that they count their faults, and, of a
 //! net, how many connections it gave. They tell nothing of content, so nothing is proved of which bytes
@@ -10,16 +11,21 @@ mod conn;
 mod counts;
 mod folder;
 mod net;
+mod request;
 mod silence;
+mod stack;
 #[cfg(test)]
 mod tests;
 #[cfg(test)]
 mod tests_closing;
 #[cfg(test)]
 mod tests_folder;
+#[cfg(test)]
+mod tests_waiting;
 mod waiting;
 
 pub use clock::SystemClock;
 pub use conn::{TcpSink, TcpSource};
 pub use folder::FolderPages;
 pub use net::TcpNet;
+pub use stack::take_stack;

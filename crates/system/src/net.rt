@@ -39,7 +39,7 @@ pub struct TcpNet<R> {
     pub(crate) faults: Faults,
 }
 
-impl<R: Drop> TcpNet<R> {
+impl<R: Copy + Drop> TcpNet<R> {
     /// A net that listens nowhere yet. The one refusal is want of memory.
     pub fn new(rt: R, alloc: Global) -> Result<TcpNet<R>, NoMemory>
         ensures { IfOk result (λ net. net.given ≡ 0) }
@@ -59,9 +59,9 @@ impl<R: Drop> TcpNet<R> {
         &self,
         stream: TcpStream,
         peer: SocketAddr,
-    ) -> Result<(TcpSource, TcpSink, Text), NoMemory> {
+    ) -> Result<(TcpSource<R>, TcpSink, Text), NoMemory> {
         let name = name_of(self.alloc, peer.ip())?;
-        let (source, sink) = ends(self.alloc, stream, &self.waiting)?;
+        let (source, sink) = ends(self.rt, self.alloc, stream, &self.waiting)?;
         Ok((source, sink, name))
     }
 }
@@ -95,7 +95,7 @@ fn is_lost(error: &Error) -> bool {
     }
 }
 
-impl<T: std::rt::Clock + Drop> TcpNet<T> {
+impl<T: std::rt::Clock + Copy + Drop> TcpNet<T> {
     /// Waits a moment for descriptors or memory to be let go. Meanwhile a connection waits, so that silent
     /// peers give way.
     fn await_room(&self) {
@@ -127,7 +127,7 @@ impl<T: std::rt::Clock + Drop> TcpNet<T> {
 
     /// The two ends of the next connection and its peer's address, for which it waits. `None` where there
     /// is no listener, or none any more.
-    fn next_connection(&self) -> Option<(TcpSource, TcpSink, Text)> {
+    fn next_connection(&self) -> Option<(TcpSource<T>, TcpSink, Text)> {
         let listener = self.listener.as_ref()?;
         for _try in 0..u64::MAX {
             let (stream, peer) = self.next_stream(listener)?;
@@ -140,11 +140,11 @@ impl<T: std::rt::Clock + Drop> TcpNet<T> {
     }
 }
 
-impl<T: std::rt::Clock + Drop> Net for TcpNet<T> {
+impl<T: std::rt::Clock + Copy + Send + Drop> Net for TcpNet<T> {
     ghost use Rattle.std.specs.Prelude.{false, None};
     ghost use Rattle.outside.specs.Guests.{NetState};
 
-    type S = TcpSource;
+    type S = TcpSource<T>;
 
     type K = TcpSink;
 
@@ -168,7 +168,7 @@ impl<T: std::rt::Clock + Drop> Net for TcpNet<T> {
     fn accept<R: Wait + std::net::Net<Listener = TcpListener, Stream = TcpStream>>(
         &mut self,
         _rt: &R,
-    ) -> Accepted<TcpSource, TcpSink> {
+    ) -> Accepted<TcpSource<T>, TcpSink> {
         let Some((source, sink, peer)) = self.next_connection() else {
             self.faults.rise();
             return Accepted::Failed;

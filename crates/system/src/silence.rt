@@ -35,6 +35,11 @@ impl Silence {
         }
     }
 
+    /// Whether no request is taken to be under way.
+    pub(crate) fn is_idle(&self) -> bool {
+        self.idle.load(Ordering::SeqCst)
+    }
+
     /// A write begins: the request is over.
     pub(crate) fn note_reply(&self) {
         self.pauses.store(0, Ordering::SeqCst);
@@ -58,7 +63,7 @@ impl Silence {
     /// Whether the input has ended with so many silent rounds: no request is under way, and either they
     /// are 10 seconds or others wait.
     pub(crate) fn ends_input(&self, rounds: u32, others_wait: bool) -> bool {
-        self.idle.load(Ordering::SeqCst) && (others_wait || SILENT_ROUNDS <= rounds)
+        self.is_idle() && (others_wait || SILENT_ROUNDS <= rounds)
     }
 
     /// Whether a request has stalled with so many silent rounds: they are 30 seconds, or all of its

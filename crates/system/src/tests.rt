@@ -82,6 +82,11 @@ fn pages_below_the_root(rt: HostRuntime) -> Result<(), Fail> {
 }
 
 #[test]
+fn there_is_stack(rt: HostRuntime) {
+    assert!(rt; take_stack(rt.alloc()).is_ok());
+}
+
+#[test]
 fn the_clock_shows_this_century(rt: HostRuntime) -> Result<(), Fail> {
     let mut clock = SystemClock::new(rt);
     let first = clock.moment();
@@ -97,6 +102,7 @@ pub(crate) fn listening<
         + std::net::Net<Listener = TcpListener, Stream = TcpStream>
         + std::rt::Clock
         + Copy
+        + Send
         + Drop,
 >(rt: &R, alloc: Global) -> Result<(TcpNet<R>, SocketAddr), Fail> {
     let mut net = TcpNet::new(*rt, alloc)?;
@@ -112,8 +118,13 @@ pub(crate) fn listening<
 
 /// The two ends of the next connection, which is one from this machine.
 pub(crate) fn next_ends<
-    R: Wait + std::net::Net<Listener = TcpListener, Stream = TcpStream> + std::rt::Clock + Drop,
->(rt: &R, net: &mut TcpNet<R>) -> Result<(TcpSource, TcpSink), Fail> {
+    R: Wait
+        + std::net::Net<Listener = TcpListener, Stream = TcpStream>
+        + std::rt::Clock
+        + Copy
+        + Send
+        + Drop,
+>(rt: &R, net: &mut TcpNet<R>) -> Result<(TcpSource<R>, TcpSink), Fail> {
     match net.accept(rt) {
         Accepted::Conn { source, sink, peer } => {
             if peer.bytes() == b"127.0.0.1".as_slice() {

@@ -1,53 +1,74 @@
-//! How many connections wait for a worker.
+//! Which connections wait for a worker.
 
 use std::alloc::{AllocError, Global};
 use std::sync::Arc;
 use std::sync::atomic::{AtomicU64, Ordering};
 
-/// The number of connections that were accepted and of which nothing was read yet.
+/// How many connections have begun to wait so far, and how many of them have left.
+#[derive(Drop)]
+struct Counts {
+    entered: AtomicU64,
+    left: AtomicU64,
+}
+
+/// The connections that were accepted and of which nothing was read yet.
 ///
-/// It is a hint: those who wait for a silent peer give up early where others wait for a worker.
+/// It is a hint: those who wait for a silent or slow peer give up early where others wait for a worker.
 #[derive(Drop)]
 pub(crate) struct Waiting {
-    count: Arc<AtomicU64, Global>,
+    counts: Arc<Counts, Global>,
 }
 
 impl Waiting {
     /// None waits.
     pub(crate) fn new(alloc: Global) -> Result<Waiting, AllocError> {
+        let counts = Counts {
+            entered: AtomicU64::new(0),
+            left: AtomicU64::new(0),
+        };
         Ok(Waiting {
-            count: Arc::new(alloc, AtomicU64::new(0))?,
+            counts: Arc::new(alloc, counts)?,
         })
     }
 
-    /// Another handle of the same number.
+    /// Another handle of the same connections.
     pub(crate) fn copy(&self) -> Result<Waiting, AllocError> {
         Ok(Waiting {
-            count: Arc::try_clone(&self.count)?,
+            counts: Arc::try_clone(&self.counts)?,
         })
     }
 
     /// Counts one more, for as long as the place is kept.
     pub(crate) fn enter(&self) -> Result<Place, AllocError> {
-        let count = Arc::try_clone(&self.count)?;
-        count.fetch_add(1, Ordering::SeqCst);
-        Ok(Place { count })
+        let counts = Arc::try_clone(&self.counts)?;
+        counts.entered.fetch_add(1, Ordering::SeqCst);
+        Ok(Place { counts })
+    }
+
+    /// How many have begun to wait so far.
+    pub(crate) fn entered(&self) -> u64 {
+        self.counts.entered.load(Ordering::SeqCst)
     }
 
     /// Whether one waits.
     pub(crate) fn is_any(&self) -> bool {
-        self.count.load(Ordering::SeqCst) != 0
+        self.is_one_of(self.entered())
+    }
+
+    /// Whether one waits of those that had begun to wait when `entered` gave this number.
+    pub(crate) fn is_one_of(&self, entered: u64) -> bool {
+        self.counts.left.load(Ordering::SeqCst) < entered
     }
 }
 
 /// The place of one connection among those that wait. Dropping it leaves the line.
 pub(crate) struct Place {
-    count: Arc<AtomicU64, Global>,
+    counts: Arc<Counts, Global>,
 }
 
 impl Drop for Place {
     fn drop(self) {
-        let Place { count } = self;
-        count.fetch_sub(1, Ordering::SeqCst);
+        let Place { counts } = self;
+        counts.left.fetch_add(1, Ordering::SeqCst);
     }
 }

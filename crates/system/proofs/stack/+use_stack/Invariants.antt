@@ -1,0 +1,4 @@
+use Rattle.system.proofs.stack.+use_stack.Given as goal
+
+abbrev pub decreases-use_stack : goal.decreases-use_stack
+decreases-use_stack l = l.pieces
