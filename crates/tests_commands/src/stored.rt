@@ -4,12 +4,10 @@ ghost use Rattle.natives.specs.Names.{name_of, names_of, has_name};
 ghost use Rattle.natives.specs.Pure.{pure_of};
 ghost use Rattle.natives.specs.Ranges.{InRange};
 
-use crate::telling::{called, check_same, words_meant};
-use natives::{Fault, Native, Natives, cut_place, index_in, read_index, within_limit, word_at};
-use std::alloc::{AllocGlobal, Global};
-use std::process::Abort;
+use natives::{Fault, Native, Natives, within_limit, word_at};
+use std::alloc::Global;
 use std::test::Fail;
-use txt_core::{MOST_BYTES, NoMemory, Text, Words, trim};
+use txt_core::{NoMemory, Text, Words, trim};
 
 /// `concat` of one word; it gives up on others.
 fn concat_one(alloc: Global, words: &Words) -> Result<Text, Fault>
@@ -49,7 +47,7 @@ fn string_repeat(alloc: Global, words: &Words) -> Result<Text, Fault>
 }
 
 /// Adds a native.
-fn add(natives: &mut Natives, native: Native) -> Result<(), NoMemory>
+pub fn add(natives: &mut Natives, native: Native) -> Result<(), NoMemory>
     requires { has_name (names_of natives.old) (name_of native) ≡ false }
     ensures { OnOk result (names_of natives.new ≡ names_of natives.old ++ name_of native ∷ []) }
 {
@@ -57,23 +55,6 @@ fn add(natives: &mut Natives, native: Native) -> Result<(), NoMemory>
         Ok(()) => Ok(()),
         Err(_) => Err(NoMemory),
     }
-}
-
-/// The text of an error.
-fn text_of(fault: Fault) -> Result<Text, Fail> {
-    match fault {
-        Fault::Error(text) => Ok(text),
-        Fault::NoMemory => Err(Fail::new("out of memory")),
-    }
-}
-
-/// What the natives answer to words.
-fn came(alloc: Global, natives: &Natives, words: &Words) -> Result<Text, Fail> {
-    let native = match words.get(0) {
-        Some(name) => natives.find(name),
-        None => None,
-    };
-    called(alloc, native, words)
 }
 
 /// Three natives.
@@ -89,113 +70,99 @@ fn example(alloc: Global) -> Result<Natives, NoMemory> {
     Ok(natives)
 }
 
-/// Calls the natives on words that each end at a bar.
-fn check_call<R: Abort + AllocGlobal>(
-    rt: &R,
+/// Whether an answer has these bytes, or is an error of these.
+fn is_reply(reply: &Result<Text, Fault>, want: &[u8]) -> bool {
+    match reply {
+        Ok(text) | Err(Fault::Error(text)) => text.bytes() == want,
+        Err(Fault::NoMemory) => false,
+    }
+}
+
+/// Whether a native answers so to words; `none` where they are out of its range.
+fn answers(alloc: Global, native: &Native, words: &Words, want: &[u8]) -> bool {
+    if native.least() as usize <= words.len() && words.len() <= native.most() as usize {
+        is_reply(&native.call(alloc, words), want)
+    } else {
+        want == b"none".as_slice()
+    }
+}
+
+/// Whether the native of the name that is the first word answers so; `none` where there is no such native.
+fn is_found(alloc: Global, natives: &Natives, words: &Words, want: &[u8]) -> bool {
+    let native = match words.get(0) {
+        Some(name) => natives.find(name),
+        None => None,
+    };
+    match native {
+        Some(native) => answers(alloc, native, words, want),
+        None => want == b"none".as_slice(),
+    }
+}
+
+/// Words, and what the natives answer to them.
+const CALLS: [(&[&[u8]], &[u8]); 7] = [
+    (&[b"concat", b" a b\n"], b"a b"),
+    (&[b"list"], b""),
+    (
+        &[b"string", b"repeat", b"a"],
+        b"wrong number of words for \"string\"",
+    ),
+    (&[b"string", b"repeat"], b"none"),
+    (&[b"string", b"repeat", b"a", b"b", b"c", b"d"], b"none"),
+    (&[b"split", b"a"], b"none"),
+    (&[], b"none"),
+];
+
+/// A list of these words.
+fn words_of(alloc: Global, words: &[&[u8]]) -> Result<Words, NoMemory> {
+    let mut list = Words::new(alloc);
+    for word in words {
+        list.add(Text::new(alloc, word)?)?;
+    }
+    Ok(list)
+}
+
+/// Whether the natives answer so to words.
+fn is_called(
+    alloc: Global,
     natives: &Natives,
-    ended: &str,
-    want: &str,
-) -> Result<(), Fail> {
-    let came = came(rt.alloc(), natives, &words_meant(rt.alloc(), ended, "|")?)?;
-    check_same(rt, came.bytes(), want.as_bytes(), ended)
+    words: &[&[u8]],
+    want: &[u8],
+) -> Result<bool, NoMemory> {
+    let words = words_of(alloc, words)?;
+    Ok(is_found(alloc, natives, &words, want))
 }
 
-/// Calls the natives by their names.
-fn check_calls<R: Abort + AllocGlobal>(rt: &R, natives: &Natives) -> Result<(), Fail> {
-    let rows: [(&str, &str); 7] = [
-        ("concat| a b~|", "a b"),
-        ("list|", ""),
-        ("string|repeat|a|", "wrong number of words for \"string\""),
-        ("string|repeat|", "none"),
-        ("string|repeat|a|b|c|d|", "none"),
-        ("split|a|", "none"),
-        ("", "none"),
-    ];
-    for (words, want) in rows {
-        check_call(rt, natives, words, want)?;
+/// The place of the first call that is answered in another way, if there is one.
+fn first_wrong(alloc: Global, natives: &Natives) -> Result<Option<usize>, NoMemory> {
+    for (at, (words, want)) in CALLS.iter().enumerate() {
+        if !is_called(alloc, natives, words, want)? {
+            return Ok(Some(at));
+        }
     }
-    Ok(())
+    Ok(None)
 }
 
-/// Looks at the names of the natives.
-fn check_names<R: Abort + AllocGlobal>(rt: &R, natives: &Natives) -> Result<(), Fail> {
+/// Whether the natives are these, in their places.
+fn has_names(natives: &Natives) -> bool {
     let names: [&[u8]; 3] = [b"concat", b"list", b"string"];
-    assert_eq!(rt; natives.len(), names.len());
     for (at, name) in names.iter().enumerate() {
-        assert_eq!(rt;
-            natives.get(at).map(|native| native.name().bytes()),
-            Some(*name)
-        );
+        if natives.get(at).map(|native| native.name().bytes()) != Some(*name) {
+            return false;
+        }
     }
-    Ok(())
+    natives.len() == names.len()
+}
+
+/// The place of the first call of the three natives that is answered in another way, and whether they have
+/// their names.
+fn look(alloc: Global) -> Result<(Option<usize>, bool), NoMemory> {
+    let natives = example(alloc)?;
+    Ok((first_wrong(alloc, &natives)?, has_names(&natives)))
 }
 
 #[test]
 fn natives_by_name(rt: HostRuntime) -> Result<(), Fail> {
-    let natives = example(rt.alloc())?;
-    check_calls(&rt, &natives)?;
-    check_names(&rt, &natives)
-}
-
-/// Looks at the text of an error.
-fn check_error<R: Abort + AllocGlobal>(rt: &R, fault: Fault, want: &[u8]) -> Result<(), Fail> {
-    let text = text_of(fault)?;
-    check_same(rt, text.bytes(), want, "an error")
-}
-
-/// The error of a value that is one byte too long.
-fn too_long(alloc: Global) -> Result<Fault, NoMemory> {
-    let long = Text::from_vec(vec![in alloc; b'a'; MOST_BYTES + 1]?);
-    Ok(
-        within_limit(alloc, Ok(long))
-            .err()
-            .unwrap_or(Fault::NoMemory),
-    )
-}
-
-/// The error of a word that is no index.
-fn no_index(alloc: Global) -> Result<Fault, NoMemory> {
-    let word = Text::new(alloc, b"w")?;
-    Ok(
-        index_in(alloc, &word, 3, "lindex")
-            .err()
-            .unwrap_or(Fault::NoMemory),
-    )
-}
-
-#[test]
-fn texts_of_errors(rt: HostRuntime) -> Result<(), Fail> {
-    let alloc = rt.alloc();
-    let bad_value = b"bad value \"w\" for \"lindex\"";
-    check_error(&rt, Fault::bad_value(alloc, b"w", "lindex"), bad_value)?;
-    let unknown = b"unknown subcommand \"w\" of \"string\"";
-    check_error(
-        &rt,
-        Fault::unknown_subcommand(alloc, b"w", "string"),
-        unknown,
-    )?;
-    let no_integer = b"expected integer but got \"w\"";
-    check_error(&rt, Fault::no_integer(alloc, b"w"), no_integer)?;
-    check_error(&rt, Fault::no_list(alloc, 12), b"bad list at 12")?;
-    check_error(&rt, too_long(alloc)?, b"value too long")?;
-    check_error(&rt, no_index(alloc)?, bad_value)
-}
-
-#[test]
-fn indexes(rt: HostRuntime) -> Result<(), Fail> {
-    let rows: [(&[u8], Option<i128>, usize); 7] = [
-        (b"end", Some(9), 9),
-        (b"end-1", Some(8), 8),
-        (b"end--1", Some(10), 9),
-        (b"end- 0x3", Some(6), 6),
-        (b" 7", Some(7), 7),
-        (b"-9223372036854775808", Some(-9_223_372_036_854_775_808), 0),
-        (b"end+1", None, 0),
-    ];
-    for (word, place, cut) in rows {
-        let found = read_index(word, 9);
-        assert_eq!(rt; found, place);
-        assert_eq!(rt; cut_place(found.unwrap_or(-1), 9), cut);
-    }
+    assert_eq!(rt; look(rt.alloc())?, (None, true));
     Ok(())
 }

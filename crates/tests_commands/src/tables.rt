@@ -2,6 +2,7 @@ ghost use Rattle.std.specs.Prelude.{◌≡◌, ◌<◌, ◌∷◌, ◌++◌, [],
 ghost use Rattle.natives.specs.Answers.{Reply, Answers};
 ghost use Rattle.natives.specs.Names.{name_of, names_of, has_name};
 
+use crate::stored::add;
 use cmd_table::{Cmd, CmdTable, Def, Renamed, Steps};
 use natives::{Fault, Native, Natives};
 use std::alloc::Global;
@@ -25,17 +26,6 @@ fn gives_up(_alloc: Global, _words: &Words) -> Result<Text, Fault>
     ensures { (reply : Reply) → Answers reply result }
 {
     Err(Fault::NoMemory)
-}
-
-/// Adds a native.
-fn add(natives: &mut Natives, native: Native) -> Result<(), NoMemory>
-    requires { has_name (names_of natives.old) (name_of native) ≡ false }
-    ensures { OnOk result (names_of natives.new ≡ names_of natives.old ++ name_of native ∷ []) }
-{
-    match natives.add(native) {
-        Ok(()) => Ok(()),
-        Err(_) => Err(NoMemory),
-    }
 }
 
 /// A table of the built-ins, of these natives, and of `b` and `a` as further built-ins.

@@ -5,7 +5,8 @@ use crate::rows::{
     WITHOUT,
 };
 use crate::telling::{
-    add_part, came, check_commands, check_same, on, on_form, on_request, parts, request,
+    Told, add_part, came, check_commands, check_same, on, on_form, on_request, parts, request,
+    told_on,
 };
 use conn_host::{ConnHost, credentials_of, path};
 use std::alloc::{AllocGlobal, Global};
@@ -17,9 +18,40 @@ use txt_core::{NoMemory, Pairs, Text, Words};
 /// How many channels may be open.
 const MOST_CHANNELS: u8 = 64;
 
+/// What is done with a host.
+#[derive(Clone, Copy)]
+enum Deed {
+    /// The commands of rows.
+    Commands(&'static str),
+    /// The same, once as many channels are open as may be.
+    Crowded,
+    /// The same without a connection.
+    Without,
+    /// It is filled and cleared.
+    Cleared,
+    /// Parts of a long body are taken.
+    Long,
+}
+
+/// Does something with a host.
+fn check_deed<R: Abort + AllocGlobal>(rt: &R, host: &mut ConnHost, deed: Deed) -> Result<(), Fail> {
+    match deed {
+        Deed::Commands(rows) => check_commands(rt, host, rows),
+        Deed::Crowded => check_crowded(rt, host),
+        Deed::Without => check_without(rt, host),
+        Deed::Cleared => check_cleared(rt, host),
+        Deed::Long => check_long(rt, host),
+    }
+}
+
+/// Does something with a host of its own.
+fn check_on<R: Abort + AllocGlobal>(rt: &R, mut host: ConnHost, deed: Deed) -> Result<(), Fail> {
+    check_deed(rt, &mut host, deed)
+}
+
 /// Does the commands of the rows in order, on the request of a form.
-fn check_on_form<R: Abort + AllocGlobal>(rt: &R, rows: &str) -> Result<(), Fail> {
-    check_commands(rt, &mut on_form(rt.alloc())?, rows)
+fn check_on_form<R: Abort + AllocGlobal>(rt: &R, rows: &'static str) -> Result<(), Fail> {
+    check_on(rt, on_form(rt.alloc())?, Deed::Commands(rows))
 }
 
 #[test]
@@ -101,7 +133,7 @@ fn add_pair(
 }
 
 /// How many pairs the form of a host's request has, and each of them.
-fn form(alloc: Global, host: &mut ConnHost) -> Result<Text, NoMemory> {
+pub fn form(alloc: Global, host: &mut ConnHost) -> Result<Text, NoMemory> {
     let mut told = came(alloc, host, "ns_set|size|s2")?;
     for place in 0..8u8 {
         add_pair(alloc, host, &mut told, place)?;
@@ -109,16 +141,23 @@ fn form(alloc: Global, host: &mut ConnHost) -> Result<Text, NoMemory> {
     Ok(told)
 }
 
-/// How many pairs the form of a request has, and each of them.
+/// The fields, the query and the body that a row spells.
+fn sent_with(spelled: &str) -> Option<(&str, &str, &str)> {
+    let (lines, sent) = spelled.split_once("|")?;
+    let (query, body) = sent.split_once("|")?;
+    Some((lines, query, body))
+}
+
+/// The pairs of the form of a request.
 fn form_of(alloc: Global, lines: &str, query: &str, body: &str) -> Result<Text, NoMemory> {
-    form(alloc, &mut on_request(alloc, lines, query, body)?)
+    let host = on_request(alloc, lines, query, body)?;
+    told_on(alloc, host, Told::Form, "")
 }
 
 /// Reads the form of the request that a row spells.
 fn check_form<R: Abort + AllocGlobal>(rt: &R, row: &str) -> Result<(), Fail> {
     let (spelled, want) = parts(row)?;
-    let (lines, sent) = spelled.split_once("|").ok_or("a row has a query")?;
-    let (query, body) = sent.split_once("|").ok_or("a row has a body")?;
+    let (lines, query, body) = sent_with(spelled).ok_or("a row has a query and a body")?;
     let told = form_of(rt.alloc(), lines, query, body)?;
     check_same(rt, told.bytes(), want.as_bytes(), row)
 }
@@ -132,7 +171,7 @@ fn forms(rt: HostRuntime) -> Result<(), Fail> {
 }
 
 /// The user and the password of a host's request.
-fn user_and_password(alloc: Global, host: &mut ConnHost) -> Result<Text, NoMemory> {
+pub fn user_and_password(alloc: Global, host: &mut ConnHost) -> Result<Text, NoMemory> {
     let mut told = came(alloc, host, "ns_conn|authuser")?;
     told.append(came(alloc, host, "ns_conn|authpassword")?.bytes())?;
     Ok(told)
@@ -140,7 +179,8 @@ fn user_and_password(alloc: Global, host: &mut ConnHost) -> Result<Text, NoMemor
 
 /// The user and the password of a request with these fields.
 fn credentials_in(alloc: Global, lines: &str) -> Result<Text, NoMemory> {
-    user_and_password(alloc, &mut on_request(alloc, lines, "", "")?)
+    let host = on_request(alloc, lines, "", "")?;
+    told_on(alloc, host, Told::Credentials, "")
 }
 
 /// Reads the user and the password of a row.
@@ -201,7 +241,7 @@ fn check_crowded<R: Abort + AllocGlobal>(rt: &R, host: &mut ConnHost) -> Result<
 #[test]
 fn answers_to_open(rt: HostRuntime) -> Result<(), Fail> {
     check_on_form(&rt, OPENED)?;
-    check_crowded(&rt, &mut on_form(rt.alloc())?)
+    check_on(&rt, on_form(rt.alloc())?, Deed::Crowded)
 }
 
 /// Whether a host keeps a request and a response, or neither, and so many output fields.
@@ -223,7 +263,7 @@ fn check_without<R: Abort + AllocGlobal>(rt: &R, host: &mut ConnHost) -> Result<
 
 #[test]
 fn without_a_connection(rt: HostRuntime) -> Result<(), Fail> {
-    check_without(&rt, &mut ConnHost::without(rt.alloc(), 5)?)
+    check_on(&rt, ConnHost::without(rt.alloc(), 5)?, Deed::Without)
 }
 
 /// Gives a host a channel, an output field and a response.
@@ -245,7 +285,7 @@ fn check_cleared<R: Abort + AllocGlobal>(rt: &R, host: &mut ConnHost) -> Result<
 
 #[test]
 fn clearing(rt: HostRuntime) -> Result<(), Fail> {
-    check_cleared(&rt, &mut on_form(rt.alloc())?)
+    check_on(&rt, on_form(rt.alloc())?, Deed::Cleared)
 }
 
 /// A host on a request whose body is one byte longer than a value may be.
@@ -270,5 +310,5 @@ fn check_long<R: Abort + AllocGlobal>(rt: &R, host: &mut ConnHost) -> Result<(),
 
 #[test]
 fn parts_of_a_long_body(rt: HostRuntime) -> Result<(), Fail> {
-    check_long(&rt, &mut on_long_body(rt.alloc())?)
+    check_on(&rt, on_long_body(rt.alloc())?, Deed::Long)
 }

@@ -1,7 +1,7 @@
 //! Whole requests, by their bytes: what commands tell of them, and the replies to those that are refused.
 
 use crate::rows::{CHUNKS, REQUESTS};
-use crate::telling::{came, on, parts, spelled, text};
+use crate::telling::{Told, on, parts, spelled, text, told_on};
 use http_req::{Carry, Got, Request, read_request};
 use http_resp::{plain, response_bytes};
 use outside::MemSource;
@@ -42,8 +42,7 @@ fn truncated(alloc: Global, have: u64) -> Result<Text, NoMemory> {
 
 /// What a command on a request comes to.
 fn of_request(alloc: Global, request: Request, line: &str) -> Result<Text, NoMemory> {
-    let mut host = on(alloc, request)?;
-    came(alloc, &mut host, line)
+    told_on(alloc, on(alloc, request)?, Told::Command, line)
 }
 
 /// What a command on a request comes to, or why there is none.

@@ -1,7 +1,9 @@
 //! The responses that commands give, and their bytes.
 
 use crate::rows::{RESPONSES, SENT};
-use crate::telling::{add_part, came, check_same, check_text, on_form, parts, spelled};
+use crate::telling::{
+    Told, add_part, came, check_same, check_text, on_form, parts, spelled, told_on,
+};
 use conn_host::ConnHost;
 use http_resp::{Response, response_bytes};
 use std::alloc::{AllocGlobal, Global};
@@ -41,7 +43,7 @@ fn done(alloc: Global, host: &mut ConnHost, line: &str) -> Result<Text, NoMemory
 }
 
 /// What commands come to, and the response where one was given.
-fn given(alloc: Global, host: &mut ConnHost, line: &str) -> Result<Text, NoMemory> {
+pub fn given(alloc: Global, host: &mut ConnHost, line: &str) -> Result<Text, NoMemory> {
     let mut told = done(alloc, host, line)?;
     if let Some(response) = host.response() {
         told.append(b" and ")?;
@@ -52,7 +54,7 @@ fn given(alloc: Global, host: &mut ConnHost, line: &str) -> Result<Text, NoMemor
 
 /// What commands on the request of a form come to, and the response where one was given.
 fn given_on_form(alloc: Global, line: &str) -> Result<Text, NoMemory> {
-    given(alloc, &mut on_form(alloc)?, line)
+    told_on(alloc, on_form(alloc)?, Told::Response, line)
 }
 
 /// Does the commands of a row on the request of a form.
@@ -70,7 +72,7 @@ fn responses(rt: HostRuntime) -> Result<(), Fail> {
 }
 
 /// The bytes of the response that commands give, at the moment 0 on a connection that is kept.
-fn sent(alloc: Global, host: &mut ConnHost, line: &str) -> Result<Text, NoMemory> {
+pub fn sent(alloc: Global, host: &mut ConnHost, line: &str) -> Result<Text, NoMemory> {
     done(alloc, host, line)?;
     match host.response() {
         Some(response) => response_bytes(alloc, response, 0, false, false),
@@ -80,7 +82,7 @@ fn sent(alloc: Global, host: &mut ConnHost, line: &str) -> Result<Text, NoMemory
 
 /// The bytes of the response that commands on the request of a form give.
 fn sent_on_form(alloc: Global, line: &str) -> Result<Text, NoMemory> {
-    sent(alloc, &mut on_form(alloc)?, line)
+    told_on(alloc, on_form(alloc)?, Told::Wire, line)
 }
 
 /// Compares bytes with those that a part of a row spells.

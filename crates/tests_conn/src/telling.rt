@@ -5,6 +5,8 @@
 //! others. Behind a command that asks, `<-` and an answer may stand: what is told then is what comes of
 //! the answer.
 
+use crate::commands::{form, user_and_password};
+use crate::responses::{given, sent};
 use conn_host::ConnHost;
 use http_req::Request;
 use outside::Answer;
@@ -199,6 +201,42 @@ pub fn came(alloc: Global, host: &mut ConnHost, line: &str) -> Result<Text, NoMe
         Some((asked, named)) => of_answer(alloc, host, &words(alloc, asked)?, named),
         None => tell(alloc, &host.call(&words(alloc, line)?)),
     }
+}
+
+/// What is told of a host.
+#[derive(Clone, Copy)]
+pub enum Told {
+    /// What a command comes to.
+    Command,
+    /// The pairs of the form of its request.
+    Form,
+    /// The user and the password of its request.
+    Credentials,
+    /// What commands come to, and the response where one was given.
+    Response,
+    /// The bytes of the response that commands give.
+    Wire,
+}
+
+/// What is told of a host that does the commands of a line.
+fn tell_of(alloc: Global, host: &mut ConnHost, what: Told, line: &str) -> Result<Text, NoMemory> {
+    match what {
+        Told::Command => came(alloc, host, line),
+        Told::Form => form(alloc, host),
+        Told::Credentials => user_and_password(alloc, host),
+        Told::Response => given(alloc, host, line),
+        Told::Wire => sent(alloc, host, line),
+    }
+}
+
+/// What is told of a host of its own that does the commands of a line.
+pub fn told_on(
+    alloc: Global,
+    mut host: ConnHost,
+    what: Told,
+    line: &str,
+) -> Result<Text, NoMemory> {
+    tell_of(alloc, &mut host, what, line)
 }
 
 /// The two parts of a row, before its arrow and behind it.

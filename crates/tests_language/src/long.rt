@@ -34,7 +34,7 @@ struct Case<'a> {
 type TooLong = (&'static str, u32, &'static str, &'static str, &'static str);
 
 /// An error is caught, so that the script goes on.
-const TOO_LONG: [TooLong; 21] = [
+const TOO_LONG: &[TooLong] = &[
     (
         "catch {set b ",
         10_000,
@@ -177,7 +177,7 @@ type TooCostly = (
     &'static str,
 );
 
-const TOO_COSTLY: [TooCostly; 14] = [
+const TOO_COSTLY: &[TooCostly] = &[
     ("list", 300, "", 200_000, "", "spent 200000|"),
     ("catch {list", 100, "} m", 5_000, "", "spent 4999|"),
     ("ns_adp_append", 1, "", 1_025, "", "0  0|"),
@@ -307,7 +307,7 @@ fn check_too_long<L: Ledger, R: Abort + AllocGlobal>(
     natives: &Natives,
     steps: &mut Steps<L>,
 ) -> Result<(), Fail> {
-    for row in TOO_LONG {
+    for &row in TOO_LONG {
         check(rt, natives, &too_long(&row), steps)?;
     }
     Ok(())
@@ -319,7 +319,7 @@ fn check_too_costly<L: Ledger, R: Abort + AllocGlobal>(
     natives: &Natives,
     steps: &mut Steps<L>,
 ) -> Result<(), Fail> {
-    for row in TOO_COSTLY {
+    for &row in TOO_COSTLY {
         check(rt, natives, &too_costly(&row), steps)?;
     }
     check(rt, natives, &RESULTS, steps)

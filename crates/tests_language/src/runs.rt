@@ -65,7 +65,7 @@ fn add(natives: &mut Natives, native: Native) -> Result<(), NoMemory>
 }
 
 /// The commands of the host.
-const ECHOES: [&str; 8] = [
+const ECHOES: &[&str] = &[
     "ask",
     "keep",
     "note",
@@ -107,7 +107,7 @@ fn put_commands<L: Ledger>(
     table: &mut CmdTable,
     steps: &mut Steps<L>,
 ) -> Result<(), NoMemory> {
-    for name in ECHOES {
+    for &name in ECHOES {
         put_echo(alloc, table, name, steps)?;
     }
     let old = Text::new(alloc, b"error")?;
@@ -472,7 +472,7 @@ fn check_pages<L: Ledger, R: Abort + AllocGlobal>(
 /// A script, its budget, the answers that it is given, and what it comes to at the end.
 type Answered = (&'static str, u64, &'static str, &'static str);
 
-const ANSWERED: [Answered; 6] = [
+const ANSWERED: &[Answered] = &[
     (
         "while {[ask] < 3} {append s x}; return $s",
         100,
@@ -546,7 +546,7 @@ type Limit = (
     &'static str,
 );
 
-const LIMITS: [Limit; 12] = [
+const LIMITS: &[Limit] = &[
     (
         ("", "[", "]", 199),
         500,
@@ -619,7 +619,7 @@ fn check_limits<L: Ledger, R: Abort + AllocGlobal>(rt: &R, blank: Blank) -> Resu
 {
     let mut steps = Steps::<L>::new(blank);
     let natives = Natives::new(rt.alloc());
-    for limit in LIMITS {
+    for &limit in LIMITS {
         check_limit(rt, &natives, &limit, &mut steps)?;
     }
     Ok(())
@@ -822,7 +822,7 @@ fn check_tables<L: Ledger, R: Abort + AllocGlobal>(
     check_lines(rt, natives, TURNS, 36, steps)?;
     check_lines(rt, natives, PICKS, 28, steps)?;
     check_lines(rt, natives, COMMANDS, 19, steps)?;
-    for row in ANSWERED {
+    for &row in ANSWERED {
         check_answered(rt, natives, &row, steps)?;
     }
     check_pages(rt, natives, PAGES, 1, 20, steps)?;

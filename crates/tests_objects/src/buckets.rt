@@ -4,7 +4,6 @@ ghost use Rattle.turn_cell.specs.Cells.{IsOf};
 
 use nsv_bucket::{Bucket, Buckets, NsvReply, bucket_of, each_key_by_itself, steps_are_determined};
 use std::alloc::Global;
-use std::process::Abort;
 use std::sync::Wait;
 use std::test::*;
 use std::thread::{Threads, join};
@@ -62,7 +61,7 @@ fn count_answered(alloc: Global, rows: &[(&[u8], Want<'_>)]) -> Result<usize, Fa
 }
 
 /// Lines about values, and what they are answered one after another.
-const VALUES: [(&[u8], Want<'static>); 40] = [
+const VALUES: &[(&[u8], Want<'static>)] = &[
     (b"nsv_incr c n", Says(b"1")),
     (b"nsv_incr c n", Says(b"2")),
     (b"nsv_incr c n -5", Says(b"-3")),
@@ -113,12 +112,12 @@ const VALUES: [(&[u8], Want<'static>); 40] = [
 
 #[test]
 fn values(rt: HostRuntime) -> Result<(), Fail> {
-    assert_eq!(rt; count_answered(rt.alloc(), &VALUES)?, 40);
+    assert_eq!(rt; count_answered(rt.alloc(), VALUES)?, 40);
     Ok(())
 }
 
 /// Lines about arrays, and what they are answered one after another.
-const ARRAYS: [(&[u8], Want<'static>); 40] = [
+const ARRAYS: &[(&[u8], Want<'static>)] = &[
     (b"nsv_array get z", Says(b"")),
     (b"nsv_array names z", Says(b"")),
     (b"nsv_array size z", Says(b"0")),
@@ -169,7 +168,7 @@ const ARRAYS: [(&[u8], Want<'static>); 40] = [
 
 #[test]
 fn arrays(rt: HostRuntime) -> Result<(), Fail> {
-    assert_eq!(rt; count_answered(rt.alloc(), &ARRAYS)?, 40);
+    assert_eq!(rt; count_answered(rt.alloc(), ARRAYS)?, 40);
     Ok(())
 }
 
@@ -210,23 +209,29 @@ fn length_of(alloc: Global, bucket: &Bucket, array: &[u8]) -> Result<Option<usiz
     Ok(bucket.value(&array, &key).map(|text| text.len()))
 }
 
-/// Asserts that a value grows up to the limit, and that nothing longer is made of it.
-fn check_limit(rt: &(impl Abort + AllocGlobal), bucket: &mut Bucket) -> Result<(), Fail> {
-    let alloc = rt.alloc();
-    assert!(rt; appends(alloc, bucket, 1_048_576, 1_048_576)?);
-    assert!(rt; refuses(alloc, bucket, 1)?);
-    assert!(rt; answers(alloc, bucket, b"nsv_array get a", Fails(b"value too long"))?);
-    assert_eq!(rt; length_of(alloc, bucket, b"a")?, Some(1_048_576));
-    assert_eq!(rt; length_of(alloc, bucket, b"b")?, None);
-    Ok(())
+/// Whether a value grows up to the limit, and nothing longer is made of it.
+fn is_limited(alloc: Global, bucket: &mut Bucket) -> Result<bool, Fail> {
+    Ok(
+        appends(alloc, bucket, 1_048_576, 1_048_576)?
+            && refuses(alloc, bucket, 1)?
+            && answers(alloc, bucket, b"nsv_array get a", Fails(b"value too long"))?
+            && length_of(alloc, bucket, b"a")? == Some(1_048_576)
+            && length_of(alloc, bucket, b"b")? == None,
+    )
+}
+
+/// Whether a value of a new bucket does so.
+fn new_is_limited(alloc: Global) -> Result<bool, Fail> {
+    let mut bucket = Bucket::new(alloc);
+    is_limited(alloc, &mut bucket)
 }
 
 #[test]
 fn limit(rt: HostRuntime) -> Result<(), Fail> {
     steps_are_determined();
     each_key_by_itself();
-    let mut bucket = Bucket::new(rt.alloc());
-    check_limit(&rt, &mut bucket)
+    assert!(rt; new_is_limited(rt.alloc())?);
+    Ok(())
 }
 
 /// Which of the numbers 1 and 2 a reply says; 0 where it says neither.
@@ -276,19 +281,35 @@ fn ask_in_two<R: Threads + Wait + Sync>(rt: &R, alloc: Global) -> Result<(u8, u8
     ))
 }
 
+/// Arrays, and the buckets of their names.
+const NAMES: &[(&[u8], u8)] = &[
+    (b"", 0),
+    (b"c", 3),
+    (b"a", 1),
+    (b"ab", 3),
+    (b"counters", 3),
+    (b"\xff", 7),
+];
+
+/// The bucket of the name of an array.
+fn bucket_named(alloc: Global, name: &[u8]) -> Result<u8, NoMemory> {
+    let name = Text::new(alloc, name)?;
+    Ok(bucket_of(&name))
+}
+
+/// The place of the first array that lies in another bucket, if there is one.
+fn first_elsewhere(alloc: Global) -> Result<Option<usize>, NoMemory> {
+    for (at, (name, bucket)) in NAMES.iter().enumerate() {
+        if bucket_named(alloc, name)? != *bucket {
+            return Ok(Some(at));
+        }
+    }
+    Ok(None)
+}
+
 #[test]
 fn each_array_lies_in_the_bucket_of_its_name(rt: HostRuntime) -> Result<(), Fail> {
-    let names: [(&[u8], u8); 6] = [
-        (b"", 0),
-        (b"c", 3),
-        (b"a", 1),
-        (b"ab", 3),
-        (b"counters", 3),
-        (b"\xff", 7),
-    ];
-    for (name, bucket) in names {
-        assert_eq!(rt; bucket_of(&Text::new(rt.alloc(), name)?), bucket);
-    }
+    assert_eq!(rt; first_elsewhere(rt.alloc())?, None);
     Ok(())
 }
 
@@ -307,7 +328,7 @@ fn holds(alloc: Global, bucket: &Bucket, array: &[u8], want: &[u8]) -> Result<bo
 }
 
 /// Lines, and what all buckets answer them one after another.
-const EIGHT: [(&[u8], Want<'static>); 12] = [
+const EIGHT: &[(&[u8], Want<'static>)] = &[
     (b"nsv_set c k 1", Says(b"1")),
     (b"nsv_set a k 2", Says(b"2")),
     (b"nsv_array set ab {k 3}", Says(b"")),
@@ -322,19 +343,29 @@ const EIGHT: [(&[u8], Want<'static>); 12] = [
     (b"nsv_array", Fails(b"")),
 ];
 
-/// Asserts that new buckets answer so, and what one of them holds then.
-fn check_eight(rt: &(impl Abort + AllocGlobal), buckets: &mut Buckets) -> Result<(), Fail> {
+/// How many of these lines buckets answer so, from the first on, and whether one of them then holds what it
+/// should.
+fn count_eight(alloc: Global, buckets: &mut Buckets) -> Result<(usize, bool), Fail> {
+    let mut count = 0usize;
     for (line, want) in EIGHT {
-        assert!(rt; answer(rt.alloc(), buckets, line, want)?);
+        if !answer(alloc, buckets, line, *want)? {
+            return Ok((count, false));
+        }
+        count = count.saturating_add(1);
     }
-    assert!(rt; holds(rt.alloc(), buckets.get(3), b"c", b"1")?);
-    Ok(())
+    Ok((count, holds(alloc, buckets.get(3), b"c", b"1")?))
+}
+
+/// The same of new buckets.
+fn count_new_eight(alloc: Global) -> Result<(usize, bool), Fail> {
+    let mut buckets = Buckets::new(alloc);
+    count_eight(alloc, &mut buckets)
 }
 
 #[test]
 fn eight_buckets(rt: HostRuntime) -> Result<(), Fail> {
-    let mut buckets = Buckets::new(rt.alloc());
-    check_eight(&rt, &mut buckets)
+    assert_eq!(rt; count_new_eight(rt.alloc())?, (12, true));
+    Ok(())
 }
 
 /// Whether a reply is a value of this length.
@@ -374,21 +405,27 @@ fn grows(
     Ok(true)
 }
 
-/// Asserts that a value of nearly a megabyte grows by bytes and by elements.
-fn check_growth(rt: &(impl Abort + AllocGlobal), bucket: &mut Bucket) -> Result<(), Fail> {
-    let alloc = rt.alloc();
-    assert!(rt; appends(alloc, bucket, 900_000, 900_000)?);
-    assert!(rt; grows(alloc, bucket, b"nsv_append a k {}", 900_000, 0, 100_000)?);
-    assert!(rt; grows(alloc, bucket, b"nsv_lappend a k x", 900_000, 2, 20_000)?);
-    Ok(())
+/// Whether a value of nearly a megabyte grows by bytes and by elements.
+fn is_grown(alloc: Global, bucket: &mut Bucket) -> Result<bool, Fail> {
+    Ok(
+        appends(alloc, bucket, 900_000, 900_000)?
+            && grows(alloc, bucket, b"nsv_append a k {}", 900_000, 0, 100_000)?
+            && grows(alloc, bucket, b"nsv_lappend a k x", 900_000, 2, 20_000)?,
+    )
+}
+
+/// Whether a value of a new bucket does so.
+fn new_is_grown(alloc: Global) -> Result<bool, Fail> {
+    let mut bucket = Bucket::new(alloc);
+    is_grown(alloc, &mut bucket)
 }
 
 /// A value of nearly a megabyte to which is appended a hundred thousand times: where each turn copied it,
 /// that would be 90 billion bytes.
 #[test]
 fn long_values_grow_in_place(rt: HostRuntime) -> Result<(), Fail> {
-    let mut bucket = Bucket::new(rt.alloc());
-    check_growth(&rt, &mut bucket)
+    assert!(rt; new_is_grown(rt.alloc())?);
+    Ok(())
 }
 
 #[test]

@@ -3,7 +3,6 @@ ghost use Rattle.turn_cell.specs.Cells.{IsOf};
 
 use sched_core::{DueList, SchedCall, SchedReply, Schedule, steps_are_determined};
 use std::alloc::Global;
-use std::process::Abort;
 use std::sync::Wait;
 use std::test::*;
 use std::thread::{Threads, join};
@@ -105,65 +104,79 @@ fn answers(alloc: Global, rows: &[(Ask, Want)]) -> Result<bool, Fail> {
     answers_all(alloc, &mut schedule, rows)
 }
 
-#[test]
-fn due_in_order(rt: HostRuntime) -> Result<(), Fail> {
-    let alloc = rt.alloc();
-    let same_moment = [
+/// Calls in order on a schedule, and what each is answered.
+type Rows = &'static [(Ask, Want)];
+
+/// The place of the first of these lists of calls that a new schedule doesn't answer so, if there is one.
+fn first_wrong(alloc: Global, lists: &[Rows]) -> Result<Option<usize>, Fail> {
+    for (at, rows) in lists.iter().enumerate() {
+        if !answers(alloc, rows)? {
+            return Ok(Some(at));
+        }
+    }
+    Ok(None)
+}
+
+/// What is due: at the same moment, by the moment, once, and behind a gap.
+const IN_ORDER: &[Rows] = &[
+    &[
         (Every(0, 5), Id(0)),
         (Every(0, 5), Id(1)),
         (Due(4), Nothing),
         (Due(5), Two(0, 1)),
         (Due(5), Nothing),
-    ];
-    assert!(rt; answers(alloc, &same_moment)?);
-    let by_moment = [
+    ],
+    &[
         (Every(0, 9), Id(0)),
         (Every(0, 5), Id(1)),
         (Due(9), Two(1, 0)),
-    ];
-    assert!(rt; answers(alloc, &by_moment)?);
-    let once = [(Once(0, 5), Id(0)), (Due(20), One(0)), (Due(20), Nothing)];
-    assert!(rt; answers(alloc, &once)?);
-    let gap = [
+    ],
+    &[(Once(0, 5), Id(0)), (Due(20), One(0)), (Due(20), Nothing)],
+    &[
         (Every(0, 10), Id(0)),
         (Due(35), One(0)),
         (Due(39), Nothing),
         (Due(40), One(0)),
         (Due(49), Nothing),
         (Due(50), One(0)),
-    ];
-    assert!(rt; answers(alloc, &gap)?);
+    ],
+];
+
+#[test]
+fn due_in_order(rt: HostRuntime) -> Result<(), Fail> {
+    assert_eq!(rt; first_wrong(rt.alloc(), IN_ORDER)?, None);
     Ok(())
 }
 
-#[test]
-fn stopped_and_cancelled(rt: HostRuntime) -> Result<(), Fail> {
-    let alloc = rt.alloc();
-    let stopped = [
+/// What is answered by a schedule that was stopped, and of entries that were cancelled.
+const ENDED: &[Rows] = &[
+    &[
         (Every(0, 1), Id(0)),
         (Stop, Stopped),
         (Due(9), Stopped),
         (Stop, Stopped),
         (Every(0, 1), Id(1)),
         (Cancel(0), Cancelled),
-    ];
-    assert!(rt; answers(alloc, &stopped)?);
-    let cancelled = [
+    ],
+    &[
         (Every(0, 5), Id(0)),
         (Cancel(1), NoId),
         (Cancel(0), Cancelled),
         (Cancel(0), NoId),
         (Due(9), Nothing),
         (Every(0, 5), Id(1)),
-    ];
-    assert!(rt; answers(alloc, &cancelled)?);
+    ],
+];
+
+#[test]
+fn stopped_and_cancelled(rt: HostRuntime) -> Result<(), Fail> {
+    assert_eq!(rt; first_wrong(rt.alloc(), ENDED)?, None);
     Ok(())
 }
 
-#[test]
-fn limits(rt: HostRuntime) -> Result<(), Fail> {
-    let alloc = rt.alloc();
-    let seconds = [
+/// The limits of seconds and of moments.
+const LIMITS: &[Rows] = &[
+    &[
         (Every(0, 0), Id(0)),
         (Due(0), Nothing),
         (Due(1), One(0)),
@@ -171,48 +184,67 @@ fn limits(rt: HostRuntime) -> Result<(), Fail> {
         (Once(0, u64::MAX), Id(1)),
         (Due(31_535_999), Nothing),
         (Due(31_536_000), One(1)),
-    ];
-    assert!(rt; answers(alloc, &seconds)?);
-    let last = [
+    ],
+    &[
         (Every(u64::MAX, 1), Id(0)),
         (Due(u64::MAX), Nothing),
         (Every(253_402_300_798, 1), Id(1)),
         (Due(253_402_300_798), Nothing),
         (Due(u64::MAX), One(1)),
         (Due(u64::MAX), Nothing),
-    ];
-    assert!(rt; answers(alloc, &last)?);
+    ],
+];
+
+#[test]
+fn limits(rt: HostRuntime) -> Result<(), Fail> {
+    assert_eq!(rt; first_wrong(rt.alloc(), LIMITS)?, None);
     steps_are_determined();
     Ok(())
 }
 
-/// Asserts that exactly these scripts are due at a moment.
-fn check_due(
-    rt: &(impl Abort + AllocGlobal),
+/// Whether exactly these scripts are due.
+fn are_due(reply: &SchedReply, scripts: &[&[u8]]) -> bool {
+    for (at, script) in scripts.iter().enumerate() {
+        if !script_is(reply, at, script) {
+            return false;
+        }
+    }
+    due_count(reply) == scripts.len()
+}
+
+/// Whether exactly these scripts are due at a moment.
+fn is_due(
+    alloc: Global,
     schedule: &mut Schedule,
     now: u64,
     scripts: &[&[u8]],
-) -> Result<(), Fail> {
-    let reply = reply_to(rt.alloc(), schedule, Due(now))?;
-    assert_eq!(rt; due_count(&reply), scripts.len());
-    for (at, script) in scripts.iter().enumerate() {
-        assert!(rt; script_is(&reply, at, script));
-    }
-    Ok(())
+) -> Result<bool, Fail> {
+    let reply = reply_to(alloc, schedule, Due(now))?;
+    Ok(are_due(&reply, scripts))
 }
 
-/// Asserts that a schedule keeps the scripts of its entries.
-fn check_scripts(rt: &(impl Abort + AllocGlobal), schedule: &mut Schedule) -> Result<(), Fail> {
-    let two = [(Every(0, 5), Id(0)), (Once(0, 5), Id(1))];
-    assert!(rt; answers_all(rt.alloc(), schedule, &two)?);
-    check_due(rt, schedule, 5, &[b"every".as_slice(), b"once".as_slice()])?;
-    check_due(rt, schedule, 10, &[b"every".as_slice()])
+/// Two entries of scripts.
+const TWO: &[(Ask, Want)] = &[(Every(0, 5), Id(0)), (Once(0, 5), Id(1))];
+
+/// Whether a schedule keeps the scripts of its entries.
+fn keeps_scripts(alloc: Global, schedule: &mut Schedule) -> Result<bool, Fail> {
+    Ok(
+        answers_all(alloc, schedule, TWO)?
+            && is_due(alloc, schedule, 5, &[b"every", b"once"])?
+            && is_due(alloc, schedule, 10, &[b"every"])?,
+    )
+}
+
+/// Whether a new schedule does.
+fn new_keeps_scripts(alloc: Global) -> Result<bool, Fail> {
+    let mut schedule = Schedule::new(alloc);
+    keeps_scripts(alloc, &mut schedule)
 }
 
 #[test]
 fn scripts(rt: HostRuntime) -> Result<(), Fail> {
-    let mut schedule = Schedule::new(rt.alloc());
-    check_scripts(&rt, &mut schedule)
+    assert!(rt; new_keeps_scripts(rt.alloc())?);
+    Ok(())
 }
 
 fn script_is(reply: &SchedReply, at: usize, script: &[u8]) -> bool {
@@ -231,28 +263,56 @@ fn count_due(alloc: Global, schedule: &mut Schedule, now: u64) -> Result<usize, 
     Ok(due_count(&reply))
 }
 
-/// Asserts that a new schedule takes ten thousand entries, and no more until one is cancelled.
-fn check_full(rt: &(impl Abort + AllocGlobal), schedule: &mut Schedule) -> Result<(), Fail> {
-    for id in 0..10_000 {
-        assert!(rt; answers_one(rt.alloc(), schedule, Every(0, 5), Id(id))?);
+/// Whether a schedule takes so many entries, which have the numbers from 0 on.
+fn takes(alloc: Global, schedule: &mut Schedule, count: u64) -> Result<bool, Fail> {
+    for id in 0..count {
+        if !answers_one(alloc, schedule, Every(0, 5), Id(id))? {
+            return Ok(false);
+        }
     }
-    assert!(rt; answers_one(rt.alloc(), schedule, Every(0, 5), Full)?);
-    for (now, count) in [(5, 10_000), (100, 10_000), (101, 0)] {
-        assert_eq!(rt; count_due(rt.alloc(), schedule, now)?, count);
+    Ok(true)
+}
+
+/// Moments one after another, and how many of ten thousand entries are due.
+const DUE: &[(u64, usize)] = &[(5, 10_000), (100, 10_000), (101, 0)];
+
+/// Whether so many entries are due at these moments.
+fn are_counted(alloc: Global, schedule: &mut Schedule) -> Result<bool, Fail> {
+    for &(now, count) in DUE {
+        if count_due(alloc, schedule, now)? != count {
+            return Ok(false);
+        }
     }
-    let after = [
-        (Cancel(7), Cancelled),
-        (Every(0, 5), Id(10_000)),
-        (Once(0, 5), Full),
-    ];
-    assert!(rt; answers_all(rt.alloc(), schedule, &after)?);
-    Ok(())
+    Ok(true)
+}
+
+/// What is answered where one of ten thousand entries is cancelled.
+const AFTER: &[(Ask, Want)] = &[
+    (Cancel(7), Cancelled),
+    (Every(0, 5), Id(10_000)),
+    (Once(0, 5), Full),
+];
+
+/// Whether a schedule takes ten thousand entries, and no more until one is cancelled.
+fn fills(alloc: Global, schedule: &mut Schedule) -> Result<bool, Fail> {
+    Ok(
+        takes(alloc, schedule, 10_000)?
+            && answers_one(alloc, schedule, Every(0, 5), Full)?
+            && are_counted(alloc, schedule)?
+            && answers_all(alloc, schedule, AFTER)?,
+    )
+}
+
+/// Whether a new schedule does.
+fn new_fills(alloc: Global) -> Result<bool, Fail> {
+    let mut schedule = Schedule::new(alloc);
+    fills(alloc, &mut schedule)
 }
 
 #[test]
 fn ten_thousand(rt: HostRuntime) -> Result<(), Fail> {
-    let mut schedule = Schedule::new(rt.alloc());
-    check_full(&rt, &mut schedule)
+    assert!(rt; new_fills(rt.alloc())?);
+    Ok(())
 }
 
 fn due_count(reply: &SchedReply) -> usize {

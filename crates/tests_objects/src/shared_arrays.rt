@@ -7,7 +7,6 @@ ghost use Rattle.nsv_shared.specs.Cells.{AreOf, HaveJust};
 use nsv_bucket::{Buckets, NsvReply};
 use nsv_shared::{Nsv, NsvPass};
 use std::alloc::Global;
-use std::process::Abort;
 use std::sync::Wait;
 use std::test::*;
 use std::thread::{Threads, join};
@@ -199,9 +198,23 @@ fn holds(
 #[test]
 fn four_threads_on_one_array(rt: HostRuntime) -> Result<(), Fail> {
     let (buckets, rising) = ask_in_four(&rt, rt.alloc(), &[b"c".as_slice()])?;
-    assert!(rt; rising);
-    assert!(rt; holds(rt.alloc(), &buckets, 3, b"c", 40_000)?);
+    assert!(rt; rising && holds(rt.alloc(), &buckets, 3, b"c", 40_000)?);
     Ok(())
+}
+
+/// Whether the bucket of its place holds this number for each array.
+fn all_hold(
+    alloc: Global,
+    buckets: &Buckets,
+    arrays: &[&[u8]],
+    want: i64,
+) -> Result<bool, NoMemory> {
+    for (at, array) in arrays.iter().enumerate() {
+        if !holds(alloc, buckets, (at % 8) as u8, array, want)? {
+            return Ok(false);
+        }
+    }
+    Ok(true)
 }
 
 #[test]
@@ -217,10 +230,7 @@ fn four_threads_on_eight_buckets(rt: HostRuntime) -> Result<(), Fail> {
         b"g".as_slice(),
     ];
     let (buckets, rising) = ask_in_four(&rt, rt.alloc(), &arrays)?;
-    assert!(rt; rising);
-    for (at, array) in arrays.iter().enumerate() {
-        assert!(rt; holds(rt.alloc(), &buckets, (at % 8) as u8, array, 5_000)?);
-    }
+    assert!(rt; rising && all_hold(rt.alloc(), &buckets, &arrays, 5_000)?);
     Ok(())
 }
 
@@ -240,22 +250,27 @@ fn place<R: Wait>(
     Ok((turn.bucket, turn.place))
 }
 
-/// Asserts where three arrays lie, and that the turns of each bucket are counted by themselves.
-fn check_places(
-    rt: &(impl Wait + Abort + AllocGlobal),
+/// Where three arrays lie: the turns of each bucket are counted by themselves.
+fn places<R: Wait>(
+    rt: &R,
+    alloc: Global,
     nsv: &Nsv,
     pass: &mut NsvPass,
-) -> Result<(), Fail>
+) -> Result<[(u8, u64); 3], NoMemory>
     requires { AreOf nsv.now pass.old }
 {
-    assert_eq!(rt; place(rt, rt.alloc(), nsv, pass, b"c")?, (3, 0));
-    assert_eq!(rt; place(rt, rt.alloc(), nsv, pass, b"a")?, (1, 0));
-    assert_eq!(rt; place(rt, rt.alloc(), nsv, pass, b"ab")?, (3, 1));
-    Ok(())
+    let first = place(rt, alloc, nsv, pass, b"c")?;
+    let second = place(rt, alloc, nsv, pass, b"a")?;
+    let third = place(rt, alloc, nsv, pass, b"ab")?;
+    Ok([first, second, third])
 }
 
 #[test]
 fn places_by_bucket(rt: HostRuntime) -> Result<(), Fail> {
     let (nsv, mut pass) = Nsv::new(rt.alloc())?;
-    check_places(&rt, &nsv, &mut pass)
+    assert_eq!(rt;
+        places(&rt, rt.alloc(), &nsv, &mut pass)?,
+        [(3, 0), (1, 0), (3, 1)]
+    );
+    Ok(())
 }

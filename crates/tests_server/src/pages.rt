@@ -168,7 +168,7 @@ fn check_rows<R: Abort + AllocGlobal>(
 }
 
 /// Rows of commands and of what pages do, each with what it comes to.
-const COMMANDS: [(&str, &str); 61] = [
+const COMMANDS: &[(&str, &str)] = &[
     ("", "-"),
     ("ns_return|200|text/plain|x", "-"),
     ("ns_adp_append", "1:not in a page"),
@@ -268,7 +268,7 @@ const COMMANDS: [(&str, &str); 61] = [
 #[test]
 fn commands(rt: HostRuntime) -> Result<(), Fail> {
     let mut host = AdpHost::new(rt.alloc());
-    check_rows(&rt, &mut host, &COMMANDS)
+    check_rows(&rt, &mut host, COMMANDS)
 }
 
 /// A text of so many bytes.
@@ -281,7 +281,7 @@ fn long(alloc: Global, count: usize) -> Result<Text, NoMemory> {
 }
 
 /// Rows on an output that is full, in a page.
-const FULL: [(&str, &str); 6] = [
+const FULL: &[(&str, &str)] = &[
     ("put|", "0:"),
     ("put|x", "1:output too long"),
     ("ns_adp_append|x", "1:output too long"),
@@ -291,7 +291,7 @@ const FULL: [(&str, &str); 6] = [
 ];
 
 /// Rows on a host that was cleared.
-const CLEARED: [(&str, &str); 2] = [("leave|1", "0:"), ("ns_adp_argc", "1:not in a page")];
+const CLEARED: &[(&str, &str)] = &[("leave|1", "0:"), ("ns_adp_argc", "1:not in a page")];
 
 /// Puts out a text eight times. Each comes to nothing.
 fn check_texts<R: Abort + AllocGlobal>(
@@ -344,10 +344,10 @@ fn check_lengths<R: Abort + AllocGlobal>(rt: &R, host: &mut AdpHost) -> Result<(
 fn limits(rt: HostRuntime) -> Result<(), Fail> {
     let mut host = AdpHost::new(rt.alloc());
     check_lengths(&rt, &mut host)?;
-    check_rows(&rt, &mut host, &FULL)?;
+    check_rows(&rt, &mut host, FULL)?;
     assert_eq!(rt; host.output().len(), 8_388_608);
     host.clear();
-    check_rows(&rt, &mut host, &CLEARED)
+    check_rows(&rt, &mut host, CLEARED)
 }
 
 /// Puts out a text so many times, and gives the length of the output.

@@ -29,7 +29,7 @@ fn again(alloc: Global, script: &str) -> Result<Text, NoMemory> {
 }
 
 /// Scripts, with the script of their definitions or the number of the command that is none.
-const SCRIPTS: [(&str, &str); 25] = [
+const SCRIPTS: &[(&str, &str)] = &[
     (
         "proc hi {} {ns_return 200 text/plain hi}\nns_register_proc GET /hi hi",
         "proc hi {} {ns_return 200 text/plain hi}\nns_register_proc GET /hi hi\n",
@@ -71,7 +71,7 @@ const SCRIPTS: [(&str, &str); 25] = [
 
 #[test]
 fn scripts_are_definitions(rt: HostRuntime) -> Result<(), Fail> {
-    for (script, want) in SCRIPTS {
+    for &(script, want) in SCRIPTS {
         let came = again(rt.alloc(), script)?;
         assert_eq!(rt; came.bytes(), want.as_bytes());
     }
@@ -176,7 +176,7 @@ fn came_of(alloc: Global, rows: &[(u8, &str)]) -> Result<Text, NoMemory> {
 }
 
 /// Publications, saves and looks, one behind the other.
-const CALLS: [(u8, &str); 21] = [
+const CALLS: &[(u8, &str)] = &[
     (b'?', "0"),
     (b'?', "1"),
     (b'+', "proc v {} {}"),
@@ -206,7 +206,7 @@ const CAME: &str =
 
 #[test]
 fn publications_and_saves(rt: HostRuntime) -> Result<(), Fail> {
-    let came = came_of(rt.alloc(), &CALLS)?;
+    let came = came_of(rt.alloc(), CALLS)?;
     assert_eq!(rt; came.bytes(), CAME.as_bytes());
     Ok(())
 }

@@ -79,7 +79,7 @@ fn listing(alloc: Global, routes: &Routes, requests: &[(&str, &str)]) -> Result<
 }
 
 /// Registrations of procedures: the method, the URL, whether what stands below is served too, and the words.
-const REGISTERED: [(&str, &str, bool, &str); 10] = [
+const REGISTERED: &[(&str, &str, bool, &str)] = &[
     ("GET", "/a", true, "first"),
     ("GET", "/a/*.x", true, "second"),
     ("GET", "/n", false, "alone"),
@@ -93,7 +93,7 @@ const REGISTERED: [(&str, &str, bool, &str); 10] = [
 ];
 
 /// Requests: the method and the path.
-const REQUESTS: [(&str, &str); 19] = [
+const REQUESTS: &[(&str, &str)] = &[
     ("GET", "/a/b"),
     ("GET", "/a/b.x"),
     ("GET", "/a/b/c.x"),
@@ -121,8 +121,8 @@ const SERVED: &str =
 
 #[test]
 fn most_segments_then_a_pattern_then_the_latest(rt: HostRuntime) -> Result<(), Fail> {
-    let routes = tables(rt.alloc(), &REGISTERED)?;
-    let came = listing(rt.alloc(), &routes, &REQUESTS)?;
+    let routes = tables(rt.alloc(), REGISTERED)?;
+    let came = listing(rt.alloc(), &routes, REQUESTS)?;
     assert_eq!(rt; came.bytes(), SERVED.as_bytes());
     Ok(())
 }
@@ -148,7 +148,7 @@ fn passed(
 }
 
 /// Registrations of filters: the stage, the method, the pattern, and the words.
-const FILTERS: [(When, &str, &str, &str); 5] = [
+const FILTERS: &[(When, &str, &str, &str)] = &[
     (When::Trace, "GET", "*", "t1"),
     (When::Preauth, "*", "/a*", "f1 x"),
     (When::Preauth, "GET", "/a/?", "f2"),
@@ -157,7 +157,7 @@ const FILTERS: [(When, &str, &str, &str); 5] = [
 ];
 
 /// Requests at a stage: the method, the path, and the first words of the filters that they pass.
-const PASSED: [(When, &str, &str, &str); 7] = [
+const PASSED: &[(When, &str, &str, &str)] = &[
     (When::Preauth, "GET", "/a/b", "f1 f2 "),
     (When::Preauth, "HEAD", "/a/b", "f1 f2 "),
     (When::Preauth, "POST", "/b", "f3 "),
@@ -170,7 +170,7 @@ const PASSED: [(When, &str, &str, &str); 7] = [
 /// The tables of registrations of filters.
 fn filter_tables(alloc: Global) -> Result<Routes, NoMemory> {
     let mut defs = Defs::new(alloc);
-    for row in FILTERS {
+    for &row in FILTERS {
         register_filter(alloc, &mut defs, row)?;
     }
     Routes::build(alloc, &defs)
@@ -179,7 +179,7 @@ fn filter_tables(alloc: Global) -> Result<Routes, NoMemory> {
 #[test]
 fn filters_stand_in_their_order(rt: HostRuntime) -> Result<(), Fail> {
     let routes = filter_tables(rt.alloc())?;
-    for (when, method, path, want) in PASSED {
+    for &(when, method, path, want) in PASSED {
         let came = passed(rt.alloc(), &routes, when, method, path)?;
         assert_eq!(rt; came.bytes(), want.as_bytes());
     }
