@@ -1,10 +1,10 @@
 -- The states that a schedule can be in.
 use Rattle.std.specs.Prelude.{◌≡◌, ◌<◌, ◌≤◌, List, length, Contains}
-use Rattle.sched_core.specs.Entries.{Entry, State, due_of, id_of, AreInOrder}
+use Rattle.sched_core.specs.Entries.{Entry, State, due_of, id_of, AreInOrder, most_seconds}
 
--- each entry runs every 1 to 31,536,000 seconds (a year of 365 days), and is due at most that long after the year 9999
+-- each entry runs every 1 to 31,536,000 seconds, and is due at most that long after the year 9999
 abbrev pub AreSound : List Entry → Type 0
-AreSound es = (e : Entry) → Contains es e → (1 ≤ e.1.seconds) × (e.1.seconds ≤ 31536000) × (due_of e ≤ 253433836799)
+AreSound es = (e : Entry) → Contains es e → (1 ≤ e.1.seconds) × (e.1.seconds ≤ most_seconds) × (due_of e ≤ 253433836799)
 
 -- no two entries have one id
 abbrev pub HaveOwnIds : List Entry → Type 0

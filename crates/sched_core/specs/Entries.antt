@@ -10,6 +10,10 @@ use Rattle.sched_core.specs.declared.plan.Plan.{Plan}
 abbrev pub Entry : Type 0
 Entry = (ℕ × ℕ) × Plan
 
+-- the most seconds from one run to the next: those of a year of 365 days
+abbrev pub most_seconds : ℕ
+most_seconds = 31536000
+
 -- the moment at which an entry is due
 abbrev pub due_of : Entry → ℕ
 due_of e = e.0.0

@@ -3,5 +3,6 @@ pub mod Entries
 pub mod Due
 pub mod Allowed
 pub mod Steps
+pub mod Asking
 -- What only proofs use.
 pub mod Sample

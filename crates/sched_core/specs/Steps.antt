@@ -5,13 +5,13 @@ use Rattle.sched_core.specs.declared.call.SchedCall.{SchedCall}
 use Rattle.sched_core.specs.declared.call.SchedCall.TheVariants.{Add, Cancel, Due, Stop}
 use Rattle.sched_core.specs.declared.call.SchedReply.{SchedReply}
 use Rattle.sched_core.specs.declared.call.SchedReply.TheVariants as replies
-use Rattle.sched_core.specs.Entries.{Entry, State, id_of}
+use Rattle.sched_core.specs.Entries.{Entry, State, id_of, most_seconds}
 use Rattle.sched_core.specs.Due.{is_due, listed, IsAfterDue}
 use Rattle.sched_core.specs.Allowed.{Allowed}
 
 -- no seconds count as one, and more than a year's as a year's
 abbrev pub seconds_of : ℕ → ℕ
-seconds_of seconds = min (max seconds 1) 31536000
+seconds_of seconds = min (max seconds 1) most_seconds
 
 -- the entry that `Add` makes: due so many seconds after its moment
 abbrev pub entry_of : ℕ → ℕ → ℕ → Bool → List ℕ → Entry

@@ -3,7 +3,7 @@ ghost use Rattle.std.specs.Prelude.{◌≡◌, ◌↔◌, ◌⊎◌, ◌≢◌, 
 ghost use Rattle.std.specs.List.{list_any};
 ghost use Rattle.std.specs.Ordering.{eq_by_cmp};
 ghost use Rattle.std.specs.BTreeMap.{get, keys};
-ghost use Rattle.sched_core.specs.Entries.{Entry, due_of, key_cmp, AreInOrder};
+ghost use Rattle.sched_core.specs.Entries.{Entry, due_of, key_cmp, AreInOrder, most_seconds};
 ghost use Rattle.sched_core.specs.Due.{is_due, is_later, listed, IsNext, IsMoved, IsAfterDue};
 ghost use Rattle.sched_core.specs.Allowed.{AreSound, HaveOwnIds};
 ghost use Rattle.txt_core.specs.Limits.{last_moment};
@@ -18,7 +18,7 @@ use txt_core::{NoMemory, Text};
 fn next_moment(due: u64, seconds: u64, now: u64) -> u64
     requires due { due ≤ now }
     requires now { now ≤ last_moment }
-    requires seconds { (1 ≤ seconds) × (seconds ≤ 31536000) }
+    requires seconds { (1 ≤ seconds) × (seconds ≤ most_seconds) }
     ensures next { IsNext now due seconds result }
     ensures bound { result ≤ now + seconds }
 {

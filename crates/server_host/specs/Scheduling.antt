@@ -1,10 +1,11 @@
 -- The commands on the schedule, which are questions.
-use Rattle.std.specs.Prelude.{ℕ, ℤ, pos, negsuc, Bool, true, false, ◌&&◌, ◌==◌, List, length, nat_le, if◌then◌else◌, bytes_eq, codes, Option, Some, None}
+use Rattle.std.specs.Prelude.{ℕ, ℤ, pos, negsuc, Bool, true, false, ◌==◌, List, length, if◌then◌else◌, Option, Some, None}
 use Rattle.txt_core.specs.Number.{number}
 use Rattle.txt_core.specs.ErrorTexts.{no_integer, no_schedule}
 use Rattle.outside.specs.declared.question.Service.TheVariants as service
 use Rattle.tcl_host.specs.Leaf.{Leaf, wants}
 use Rattle.natives.specs.Words.{arg}
+use Rattle.sched_core.specs.Asking.{is_period, is_once_option}
 use Rattle.server_host.specs.Hosts.{HostState}
 use Rattle.server_host.specs.Checks.{fails, passing, is_counted, shaped, fitting}
 
@@ -16,19 +17,11 @@ asks_schedule words host = wants (record { service = service.Schedule; words = w
 
 -- the second word is the option by which the script runs once
 abbrev pub is_once : List (List ℕ) → Bool
-is_once words = bytes_eq (arg words 1) (codes "-once")
+is_once words = is_once_option (arg words 1)
 
 -- three words, or four; behind the option two more
 abbrev pub is_schedule : List (List ℕ) → Bool
 is_schedule words = if is_once words then length words == 4 else is_counted 3 4 words
-
--- so many seconds from one run to the next may be: from 1 to those of 365 days
-abbrev pub most_seconds : ℕ
-most_seconds = 31536000
-
-abbrev pub is_period : ℤ → Bool
-is_period (pos n) = nat_le 1 n && nat_le n most_seconds
-is_period (negsuc n) = false
 
 -- the number of seconds stands at this place
 abbrev pub every : Option ℤ → ℕ → List (List ℕ) → HostState → Leaf HostState

@@ -3,16 +3,14 @@
 ghost use Rattle.std.specs.Prelude.{◌≡◌};
 ghost use Rattle.txt_core.specs.Number.{number};
 ghost use Rattle.server_host.specs.Answers.{Comes};
-ghost use Rattle.server_host.specs.Scheduling.{asks_schedule, is_once, is_schedule, is_period, schedules, by_option, ns_schedule_proc, is_id, unschedules, ns_unschedule_proc};
+ghost use Rattle.server_host.specs.Scheduling.{asks_schedule, is_once, is_schedule, schedules, by_option, ns_schedule_proc, is_id, unschedules, ns_unschedule_proc};
 
 use crate::checks::{arg, is_counted, require_fit, require_words};
 use crate::host::RunHost;
 use outside::{Question, Service};
+use sched_core::{is_once_option, is_period};
 use tcl_host::{HostReply, Refusal, refuse};
 use txt_core::{Words, error_text, read_int_bytes};
-
-/// The most seconds from one run of a script to the next: those of 365 days.
-const MOST_SECONDS: i64 = 31_536_000;
 
 /// Asks the schedule these words.
 fn ask(host: &RunHost, words: &Words) -> Result<HostReply, Refusal>
@@ -28,7 +26,7 @@ fn ask(host: &RunHost, words: &Words) -> Result<HostReply, Refusal>
 fn is_once(words: &Words) -> bool
     ensures { result ≡ is_once words.now }
 {
-    arg(words, 1) == b"-once".as_slice()
+    is_once_option(arg(words, 1))
 }
 
 /// Whether the number of words is one of `ns_schedule_proc`.
@@ -40,13 +38,6 @@ fn is_schedule(words: &Words) -> bool
     } else {
         is_counted(words, 3, 4)
     }
-}
-
-/// Whether a script may run every so many seconds.
-fn is_period(seconds: i64) -> bool
-    ensures { result ≡ is_period seconds }
-{
-    1 <= seconds && seconds <= MOST_SECONDS
 }
 
 /// Asks the schedule, where the word at a place is a number of seconds that may be.

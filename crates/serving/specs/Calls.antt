@@ -9,6 +9,7 @@ use Rattle.outside.specs.declared.question.Answer.TheVariants.{Said, Failed, Pag
 use Rattle.nsv_bucket.specs.Questions.{word_at}
 use Rattle.nsv_bucket.specs.declared.reply.NsvReply.{NsvReply}
 use Rattle.nsv_bucket.specs.declared.reply.NsvReply.TheVariants as arrays
+use Rattle.sched_core.specs.Asking.{is_once_option}
 use Rattle.sched_core.specs.declared.call.SchedCall.{SchedCall}
 use Rattle.sched_core.specs.declared.call.SchedCall.TheVariants.{Add, Cancel}
 use Rattle.sched_core.specs.declared.call.SchedReply.{SchedReply}
@@ -67,7 +68,7 @@ natural_at words place = natural_of (number (word_at words place))
 abbrev pub sched_call : ℕ → List (List ℕ) → SchedCall
 sched_call moment words =
     if bytes_eq (word_at words 0) (codes "ns_unschedule_proc") then Cancel (natural_at words 1)
-    else if bytes_eq (word_at words 1) (codes "-once") then Add moment (natural_at words 2) true (word_at words 3)
+    else if is_once_option (word_at words 1) then Add moment (natural_at words 2) true (word_at words 3)
     else Add moment (natural_at words 1) false (word_at words 2)
 
 -- where the schedule holds as many entries as it may

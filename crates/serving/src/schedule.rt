@@ -7,15 +7,12 @@ ghost use Rattle.sched_core.specs.declared.call.SchedReply.TheVariants as replie
 ghost use Rattle.serving.specs.Calls.{natural_of, sched_call, sched_answer};
 
 use outside::Answer;
-use sched_core::{SchedCall, SchedReply};
+use sched_core::{SchedCall, SchedReply, is_once_option};
 use std::alloc::Global;
 use txt_core::{NoMemory, Text, Words, error_text, read_int_bytes, write_natural};
 
 /// The command that takes an entry out of the schedule.
 const UNSCHEDULE: &[u8] = b"ns_unschedule_proc";
-
-/// The option of an entry whose script runs once.
-const ONCE: &[u8] = b"-once";
 
 /// What is refused at a full schedule.
 const TOO_MANY: &[u8] = b"too many schedules";
@@ -47,7 +44,7 @@ pub fn sched_call(alloc: Global, words: &Words, moment: u64) -> Result<SchedCall
     if word(words, 0) == UNSCHEDULE {
         return Ok(SchedCall::Cancel(natural(word(words, 1))));
     }
-    let once = word(words, 1) == ONCE;
+    let once = is_once_option(word(words, 1));
     let place = if once { 2 } else { 1 };
     Ok(SchedCall::Add {
         moment,
