@@ -298,7 +298,7 @@ fn right_ends<R: Wait>(
     Ok(right)
 }
 
-/// Whether a head is refused that has this line so many times behind another.
+/// Whether a head is refused that has this line so many times between two texts.
 fn refuses_head<R: Wait>(
     rt: &R,
     alloc: Global,
@@ -306,8 +306,9 @@ fn refuses_head<R: Wait>(
     first: &[u8],
     line: &[u8],
     times: usize,
+    behind: &[u8],
 ) -> Result<bool, NoMemory> {
-    let head = repeated_between(alloc, first, line, times, b"\r\n")?;
+    let head = repeated_between(alloc, first, line, times, behind)?;
     let end = End::Refused { status: 431 };
     ends_so(rt, alloc, desk, head.as_slice(), 215, end)
 }
@@ -318,8 +319,9 @@ fn refuses_large_heads<R: Wait>(
     alloc: Global,
     desk: &mut Desk<'_>,
 ) -> Result<bool, NoMemory> {
-    let refuses_long = refuses_head(rt, alloc, desk, b"", b"A", 16_384)?;
-    let refuses_many = refuses_head(rt, alloc, desk, b"GET /x HTTP/1.1\r\n", b"a: b\r\n", 101)?;
+    let refuses_long = refuses_head(rt, alloc, desk, b"", b"A", 16_384, b"")?;
+    let first = b"GET /x HTTP/1.1\r\n";
+    let refuses_many = refuses_head(rt, alloc, desk, first, b"a: b\r\n", 101, b"\r\n")?;
     Ok(refuses_long && refuses_many)
 }
 
