@@ -28,6 +28,12 @@ REASONS = {200: "OK", 201: "Created", 204: "No Content", 302: "Found", 400: "Bad
            500: "Internal Server Error", 501: "Not Implemented", 503: "Service Unavailable"}
 
 
+# What scripts look for, and the package of Debian that has it, where that has another name.
+PACKAGES = {"apache2": "apache2 libapache2-mod-rivet", "ip": "iproute2", "prlimit": "util-linux",
+            "setpriv": "util-linux", "systemctl": "systemd", "systemd-analyze": "systemd", "tclsh": "tcl",
+            "unshare": "util-linux", "useradd": "passwd"}
+
+
 class Missing(Exception):
     """Something that a script needs isn't on this machine."""
 
@@ -461,7 +467,8 @@ def tool(name):
     """The path of a program of this machine."""
     path = shutil.which(name) or shutil.which(name, path="/usr/sbin:/sbin:/usr/local/sbin")
     if path is None:
-        raise Missing(f"needs {name}, which isn't on this machine")
+        raise Missing(f"needs {name}, which isn't on this machine; on Debian: apt-get install "
+                      + PACKAGES.get(name, name))
     return path
 
 

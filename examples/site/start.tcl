@@ -54,6 +54,7 @@ ns_register_filter preauth * /* guard
 ns_register_filter preauth POST /* refuse_foreign
 ns_register_filter trace GET /*.adp count
 nsv_set visits pages 0
+nsv_set server since [ns_time]
 
 # ---- the keeper's pages
 

@@ -9,5 +9,5 @@
         }
     }
 %><form method="post" action="/private/reset"><p><button>Set the counter back</button></p></form>
-<p><a href="/private/motto.adp">Another motto</a></p>
+<p><a href="/private/motto.adp">Another motto</a> <a href="/private/server.adp">What the server holds</a></p>
 <% ns_adp_include parts/foot.html %>
