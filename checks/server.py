@@ -29,8 +29,8 @@ REASONS = {200: "OK", 201: "Created", 204: "No Content", 302: "Found", 400: "Bad
 
 
 # What scripts look for, and the package of Debian that has it, where that has another name.
-PACKAGES = {"apache2": "apache2 libapache2-mod-rivet", "ip": "iproute2", "prlimit": "util-linux",
-            "setpriv": "util-linux", "systemctl": "systemd", "systemd-analyze": "systemd", "tclsh": "tcl",
+PACKAGES = {"apache2": "apache2 libapache2-mod-rivet", "prlimit": "util-linux", "setpriv": "util-linux",
+            "ss": "iproute2", "systemctl": "systemd", "systemd-analyze": "systemd", "tclsh": "tcl",
             "unshare": "util-linux", "useradd": "passwd"}
 
 
