@@ -10,11 +10,32 @@ proc html {text} {
     return $text
 }
 
+# The look of all pages.
+proc style {} {return {
+body { max-width: 40em; margin: 0 auto; padding: 0 1em 2em; font: 1rem/1.5 sans-serif; color: #222; background: #fbfaf7; }
+nav { display: flex; flex-wrap: wrap; gap: 0 1.2em; padding: 0.8em 0; border-bottom: 2px solid #2f6b4f; }
+a { color: #2f6b4f; }
+h1 { margin: 0.8em 0 0.4em; }
+label { display: block; font-weight: bold; }
+input, textarea { width: 100%; box-sizing: border-box; padding: 0.4em; font: inherit; border: 1px solid #888; }
+button { padding: 0.4em 1em; font: inherit; color: #fff; background: #2f6b4f; border: 0; cursor: pointer; }
+article { margin: 1em 0; padding: 0 1em; background: #fff; border: 1px solid #ddd; }
+article h2 { margin: 0.8em 0 0; font-size: 1.1em; }
+table { border-collapse: collapse; }
+th, td { padding: 0.2em 2em 0.2em 0; text-align: left; border-bottom: 1px solid #ddd; }
+.words { white-space: pre-line; overflow-wrap: break-word; }
+}}
+
 # Answers with a small page of its own, for procedures. Pages use parts/head.html in its place.
 proc answer {status title text} {
     ns_return $status "text/html; charset=utf-8" "<!DOCTYPE html>
 <html lang=\"en\">
-<head><meta charset=\"utf-8\"><title>[html $title]</title></head>
+<head>
+<meta charset=\"utf-8\">
+<meta name=\"viewport\" content=\"width=device-width\">
+<title>[html $title]</title>
+<style>[style]</style>
+</head>
 <body>
 <main>
 <h1>[html $title]</h1>
