@@ -35,7 +35,7 @@ proc ns_set {verb set key} {
 proc ns_queryget key {ns_set iget form $key}
 
 # The response: what was written, or what was given at once.
-proc ReturnHeaders {{type text/html}} {set ::status 200}
+proc ns_headers {status type} {set ::status $status}
 proc ns_write text {append ::body $text}
 proc ns_puts text {append ::page $text}
 proc ns_return {status type text} {
