@@ -3,8 +3,9 @@
 ghost use Rattle.std.specs.Prelude.{◌≡◌, ◌<◌, ◌≤◌, length, IfOk, IfSome};
 
 use crate::counts::Faults;
-use crate::request::Request;
+use crate::reply::Reply;
 use crate::silence::Silence;
+use crate::turn::Turn;
 use crate::waiting::{Place, Waiting};
 use outside::{ReadAnswer, Sink, Source, WriteAnswer};
 use std::alloc::{AllocError, Global};
@@ -86,39 +87,46 @@ fn take_away(mut stream: &TcpStream, rounds: u32) {
 ///
 /// Within a request a peer that is silent for 30 seconds is a fault, and so is one that is silent for 5
 /// minutes in all, where the first second of each silence isn't counted. Where another connection waits for
-/// a worker, a request that isn't whole 30 seconds after its first byte is a fault too.
+/// a worker, a request that isn't whole 30 seconds after its first byte is a fault too, and the input ends
+/// between two requests once the connection is served for 30 seconds.
 #[derive(Drop)]
 pub struct TcpSource<R> {
     rt: R,
     line: Arc<Line, Global>,
     pub(crate) waiting: Waiting,
     place: Option<Place>,
-    request: Request,
+    request: Turn,
+    pub(crate) session: Turn,
     pub(crate) faults: Faults,
 }
 
 /// Where the bytes for a peer go. It tells nothing of them.
 ///
 /// Each piece is one write to the system, where its peer takes it within a tenth of a second; else what
-/// was taken by then is told. A peer that takes nothing for 30 seconds is a fault.
+/// was taken by then is told. A peer that takes nothing for 30 seconds is a fault. Where another connection
+/// waits for a worker, so is one that takes less than a mebibyte of a reply, or of those to requests that
+/// came together, in 30 seconds, and not all that is left of it.
 ///
 /// When both ends of a connection are let go, the peer is told that nothing more comes, and what it sends
 /// is taken away until it has closed too or is silent for a second, up to a mebibyte: the system resets a
 /// connection that is let go with bytes unread, and by that the peer may lose the end of a reply. A peer
 /// of which nothing was read, or that was silent for too long before, isn't waited for.
 #[derive(Drop)]
-pub struct TcpSink {
+pub struct TcpSink<R> {
+    rt: R,
     line: Arc<Line, Global>,
-    faults: Faults,
+    waiting: Waiting,
+    pub(crate) reply: Reply,
+    pub(crate) faults: Faults,
 }
 
 /// The two ends of a connection that now waits for a worker.
-pub(crate) fn ends<R: Drop>(
+pub(crate) fn ends<R: Copy + Drop>(
     rt: R,
     alloc: Global,
     stream: TcpStream,
     waiting: &Waiting,
-) -> Result<(TcpSource<R>, TcpSink), AllocError> {
+) -> Result<(TcpSource<R>, TcpSink<R>), AllocError> {
     let line = Arc::new(
         alloc,
         Line {
@@ -128,7 +136,10 @@ pub(crate) fn ends<R: Drop>(
         },
     )?;
     let sink = TcpSink {
+        rt,
         line: Arc::try_clone(&line)?,
+        waiting: waiting.copy()?,
+        reply: Reply::new(),
         faults: Faults::none(),
     };
     let source = TcpSource {
@@ -136,7 +147,8 @@ pub(crate) fn ends<R: Drop>(
         line,
         waiting: waiting.copy()?,
         place: Some(waiting.enter()?),
-        request: Request::new(),
+        request: Turn::of_request(),
+        session: Turn::of_session(),
         faults: Faults::none(),
     };
     Ok((source, sink))
@@ -171,12 +183,25 @@ fn why(kind: ErrorKind) -> Missed {
 }
 
 impl<R: std::rt::Clock> TcpSource<R> {
+    // Whether no request is under way, and the connection has to give way to another one that waits.
+    fn is_over(&mut self) -> bool
+        ensures { self.new.faults ≡ self.old.faults }
+    {
+        if !self.line.silence.is_idle() || !self.session.needs_moment(&self.waiting) {
+            return false;
+        }
+        match Instant::now(&self.rt) {
+            Ok(now) => self.session.gives_way(now, &self.waiting),
+            Err(_) => false,
+        }
+    }
+
     // Whether a request is under way that has to give way to a connection that waits.
     fn gives_way(&mut self) -> bool
         ensures { self.new.faults ≡ self.old.faults }
     {
         if self.line.silence.is_idle() {
-            self.request = Request::new();
+            self.request = Turn::of_request();
             return false;
         }
         if !self.request.needs_moment(&self.waiting) {
@@ -246,6 +271,9 @@ impl<R: std::rt::Clock> Source for TcpSource<R> {
 
     fn read(&mut self, into: &mut [u8]) -> ReadAnswer {
         self.place = None;
+        if self.is_over() {
+            return ReadAnswer::Bytes(0);
+        }
         match self.await_bytes(into) {
             Some(count) => ReadAnswer::Bytes(count),
             None => {
@@ -256,7 +284,20 @@ impl<R: std::rt::Clock> Source for TcpSource<R> {
     }
 }
 
-impl TcpSink {
+impl<R: std::rt::Clock> TcpSink<R> {
+    // Whether the rest of a reply has to give way to a connection that waits.
+    fn gives_way(&mut self) -> bool
+        ensures { self.new.faults ≡ self.old.faults }
+    {
+        if !self.reply.needs_moment(&self.waiting) {
+            return false;
+        }
+        match Instant::now(&self.rt) {
+            Ok(now) => self.reply.gives_way(now, &self.waiting),
+            Err(_) => false,
+        }
+    }
+
     // Writes for one round.
     fn send(&self, piece: &[u8]) -> Result<usize, Missed>
         requires { 0 < length piece.now }
@@ -269,16 +310,26 @@ impl TcpSink {
         }
     }
 
-    // Writes for as many rounds as there may be; `None` where the connection failed or stalled.
-    fn take(&self, piece: &[u8]) -> Option<usize>
+    // Writes for as many rounds as there may be; `None` where the connection failed or stalled, or gave way
+    // to another.
+    fn take(&mut self, piece: &[u8]) -> Option<usize>
         requires { 0 < length piece.now }
-        ensures { IfSome result (λ count. (0 < count) × (count ≤ length piece.now)) }
+        ensures taken { IfSome result (λ count. (0 < count) × (count ≤ length piece.now)) }
+        ensures faults { self.new.faults ≡ self.old.faults }
     {
         let mut stalled = 0u32;
         for _try in 0..u64::MAX {
+            if self.gives_way() {
+                self.line.open.store(false, Ordering::SeqCst);
+                return None;
+            }
             match self.send(piece) {
-                Ok(count) => return Some(count),
+                Ok(count) => {
+                    self.reply.note_piece(count, piece.len());
+                    return Some(count);
+                }
                 Err(Missed::Over) => {
+                    self.reply.note_pause();
                     stalled = stalled.saturating_add(1);
                     if STALLED_ROUNDS <= stalled {
                         return None;
@@ -292,7 +343,7 @@ impl TcpSink {
     }
 }
 
-impl Sink for TcpSink {
+impl<R: std::rt::Clock> Sink for TcpSink<R> {
     ghost use Rattle.std.specs.Prelude.{None};
 
     ghost taken = { λ s. None };
@@ -300,6 +351,9 @@ impl Sink for TcpSink {
     ghost faults = { λ s. s.faults.count };
 
     fn write(&mut self, piece: &[u8]) -> WriteAnswer {
+        if !self.line.silence.is_idle() {
+            self.reply = Reply::new();
+        }
         self.line.silence.note_reply();
         match self.take(piece) {
             Some(count) => WriteAnswer::Took(count),

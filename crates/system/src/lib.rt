@@ -11,7 +11,7 @@ mod conn;
 mod counts;
 mod folder;
 mod net;
-mod request;
+mod reply;
 mod silence;
 mod stack;
 #[cfg(test)]
@@ -21,7 +21,10 @@ mod tests_closing;
 #[cfg(test)]
 mod tests_folder;
 #[cfg(test)]
+mod tests_reply;
+#[cfg(test)]
 mod tests_waiting;
+mod turn;
 mod waiting;
 
 pub use clock::SystemClock;

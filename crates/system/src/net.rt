@@ -59,7 +59,7 @@ impl<R: Copy + Drop> TcpNet<R> {
         &self,
         stream: TcpStream,
         peer: SocketAddr,
-    ) -> Result<(TcpSource<R>, TcpSink, Text), NoMemory> {
+    ) -> Result<(TcpSource<R>, TcpSink<R>, Text), NoMemory> {
         let name = name_of(self.alloc, peer.ip())?;
         let (source, sink) = ends(self.rt, self.alloc, stream, &self.waiting)?;
         Ok((source, sink, name))
@@ -127,7 +127,7 @@ impl<T: std::rt::Clock + Copy + Drop> TcpNet<T> {
 
     /// The two ends of the next connection and its peer's address, for which it waits. `None` where there
     /// is no listener, or none any more.
-    fn next_connection(&self) -> Option<(TcpSource<T>, TcpSink, Text)> {
+    fn next_connection(&self) -> Option<(TcpSource<T>, TcpSink<T>, Text)> {
         let listener = self.listener.as_ref()?;
         for _try in 0..u64::MAX {
             let (stream, peer) = self.next_stream(listener)?;
@@ -146,7 +146,7 @@ impl<T: std::rt::Clock + Copy + Send + Drop> Net for TcpNet<T> {
 
     type S = TcpSource<T>;
 
-    type K = TcpSink;
+    type K = TcpSink<T>;
 
     ghost state = { λ s. record { faults = s.faults.count; given = s.given; ended = false; coming = None } };
 
@@ -168,7 +168,7 @@ impl<T: std::rt::Clock + Copy + Send + Drop> Net for TcpNet<T> {
     fn accept<R: Wait + std::net::Net<Listener = TcpListener, Stream = TcpStream>>(
         &mut self,
         _rt: &R,
-    ) -> Accepted<TcpSource<T>, TcpSink> {
+    ) -> Accepted<TcpSource<T>, TcpSink<T>> {
         let Some((source, sink, peer)) = self.next_connection() else {
             self.faults.rise();
             return Accepted::Failed;

@@ -124,7 +124,7 @@ pub(crate) fn next_ends<
         + Copy
         + Send
         + Drop,
->(rt: &R, net: &mut TcpNet<R>) -> Result<(TcpSource<R>, TcpSink), Fail> {
+>(rt: &R, net: &mut TcpNet<R>) -> Result<(TcpSource<R>, TcpSink<R>), Fail> {
     match net.accept(rt) {
         Accepted::Conn { source, sink, peer } => {
             if peer.bytes() == b"127.0.0.1".as_slice() {

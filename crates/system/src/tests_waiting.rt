@@ -1,13 +1,13 @@
 //! Requests that take long, where another connection waits and where none does.
 
-use crate::request::Request;
+use crate::turn::Turn;
 use crate::waiting::Waiting;
 use std::alloc::{AllocError, Global};
 use std::test::*;
 use std::time::{Duration, Instant};
 
 /// The moment so many milliseconds behind another.
-fn behind(moment: Instant, milliseconds: u64) -> Result<Instant, Fail> {
+pub(crate) fn behind(moment: Instant, milliseconds: u64) -> Result<Instant, Fail> {
     match moment.checked_add(Duration::from_millis(milliseconds)) {
         Some(later) => Ok(later),
         None => Err(Fail::from("no such moment")),
@@ -31,7 +31,7 @@ fn looks(waiting: &Waiting) -> Result<[(bool, bool); 4], AllocError> {
 /// The first of these moments at which a new request gives way, where it is asked at each in turn. They are
 /// told in milliseconds since it began.
 fn way_at(waiting: &Waiting, begun: Instant, moments: &[u64]) -> Result<Option<u64>, Fail> {
-    let mut request = Request::new();
+    let mut request = Turn::of_request();
     for at in moments {
         let moment = behind(begun, *at)?;
         if request.gives_way(moment, waiting) {
@@ -58,7 +58,7 @@ fn way_beside(alloc: Global, begun: Instant, moments: &[u64]) -> Result<Option<u
 
 /// Whether a request gives way, beside which another connection waits for a moment, a hundred times.
 fn gives_way_to_passing(waiting: &Waiting, begun: Instant) -> Result<bool, Fail> {
-    let mut request = Request::new();
+    let mut request = Turn::of_request();
     let mut gives_way = request.gives_way(begun, waiting);
     for round in 0..100 {
         let moment = behind(begun, 60_000 + round * 200)?;
@@ -71,7 +71,7 @@ fn gives_way_to_passing(waiting: &Waiting, begun: Instant) -> Result<bool, Fail>
 
 /// Whether a request has to be told the moment: at first, then, and when another waits.
 fn needs(waiting: &Waiting, begun: Instant) -> Result<[bool; 3], AllocError> {
-    let mut request = Request::new();
+    let mut request = Turn::of_request();
     let first = request.needs_moment(waiting);
     let _way = request.gives_way(begun, waiting);
     let alone = request.needs_moment(waiting);
