@@ -88,7 +88,7 @@ fn take_away(mut stream: &TcpStream, rounds: u32) {
 /// Within a request a peer that is silent for 30 seconds is a fault, and so is one that is silent for 5
 /// minutes in all, where the first second of each silence isn't counted. Where another connection waits for
 /// a worker, a request that isn't whole 30 seconds after its first byte is a fault too, and the input ends
-/// between two requests once the connection is served for 30 seconds.
+/// behind a request that came in pieces once the connection is served for 30 seconds.
 #[derive(Drop)]
 pub struct TcpSource<R> {
     rt: R,
@@ -183,11 +183,13 @@ fn why(kind: ErrorKind) -> Missed {
 }
 
 impl<R: std::rt::Clock> TcpSource<R> {
-    // Whether no request is under way, and the connection has to give way to another one that waits.
+    // Whether no request is under way, and the connection has to give way to another one that waits: its
+    // last request came in pieces. Of a peer whose requests come whole the next one may be there already.
     fn is_over(&mut self) -> bool
         ensures { self.new.faults ≡ self.old.faults }
     {
-        if !self.line.silence.is_idle() || !self.session.needs_moment(&self.waiting) {
+        let is_asked = self.request.is_begun() || !self.session.is_begun();
+        if !is_asked || !self.line.silence.is_idle() || !self.session.needs_moment(&self.waiting) {
             return false;
         }
         match Instant::now(&self.rt) {

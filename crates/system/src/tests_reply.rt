@@ -206,8 +206,10 @@ fn a_long_session_ends_between_requests(rt: HostRuntime) -> Result<(), Fail> {
     let (mut source, mut sink) = next_ends(&rt, &mut net)?;
     let _over = source.session.gives_way(earlier, &source.waiting);
     let mut bytes = [0u8; 16];
-    peer.write_all(b"first")?;
-    assert_eq!(rt; source.read(&mut bytes), ReadAnswer::Bytes(5));
+    peer.write_all(b"fir")?;
+    assert_eq!(rt; source.read(&mut bytes), ReadAnswer::Bytes(3));
+    peer.write_all(b"st")?;
+    assert_eq!(rt; source.read(&mut bytes), ReadAnswer::Bytes(2));
     assert_eq!(rt; sink.write(b"reply"), WriteAnswer::Took(5));
     let other: TcpStream = TcpStream::connect(&rt, place)?;
     let ends = next_ends(&rt, &mut net)?;
@@ -220,6 +222,26 @@ fn a_long_session_ends_between_requests(rt: HostRuntime) -> Result<(), Fail> {
     peer.write_all(b"last")?;
     assert_eq!(rt; source.read(&mut bytes), ReadAnswer::Bytes(0));
     assert_eq!(rt; source.faults.count, 0);
+    drop((peer, other, ends));
+    Ok(())
+}
+
+#[test]
+fn a_session_of_whole_requests_goes_on(rt: HostRuntime) -> Result<(), Fail> {
+    let earlier = long_ago(&rt)?;
+    let (mut net, place) = listening(&rt, rt.alloc())?;
+    let mut peer: TcpStream = TcpStream::connect(&rt, place)?;
+    let (mut source, mut sink) = next_ends(&rt, &mut net)?;
+    let _over = source.session.gives_way(earlier, &source.waiting);
+    let other: TcpStream = TcpStream::connect(&rt, place)?;
+    let ends = next_ends(&rt, &mut net)?;
+    let mut bytes = [0u8; 16];
+    for _request in 0..3 {
+        peer.write_all(b"whole")?;
+        assert_eq!(rt; source.read(&mut bytes), ReadAnswer::Bytes(5));
+        assert_eq!(rt; sink.write(b"reply"), WriteAnswer::Took(5));
+        thread::sleep(&rt, Duration::from_millis(60));
+    }
     drop((peer, other, ends));
     Ok(())
 }

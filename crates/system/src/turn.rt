@@ -9,7 +9,7 @@ const REQUEST_SECONDS: u64 = 30;
 /// Seconds that a peer has for each mebibyte of a reply, after which it gives way to such a connection.
 const REPLY_SECONDS: u64 = 30;
 
-/// Seconds after which a connection ends between two requests, where such a connection waits.
+/// Seconds after which a connection ends behind a request that came in pieces, where such a connection waits.
 const SESSION_SECONDS: u64 = 30;
 
 /// Milliseconds that such a connection has waited at least. One that a free worker takes at once is none.
@@ -60,6 +60,11 @@ impl Turn {
             begun: None,
             look: None,
         }
+    }
+
+    /// Whether it was told a moment since it began.
+    pub(crate) fn is_begun(&self) -> bool {
+        self.begun.is_some()
     }
 
     /// Whether it has to be told the moment: the first since it began, and each at which others wait.
