@@ -34,7 +34,7 @@ struct Taker {
 fn way_at(waiting: &Waiting, begun: Instant, taker: Taker) -> Result<Option<u64>, Fail> {
     let mut reply = Reply::new();
     for time in 0..taker.times {
-        let moment = behind(begun, time * taker.apart)?;
+        let moment = behind(begun, time.saturating_mul(taker.apart))?;
         if reply.gives_way(moment, waiting) {
             return Ok(Some(time));
         }
