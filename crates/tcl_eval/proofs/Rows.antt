@@ -1,6 +1,7 @@
 -- Commands, words and pieces of a script by their places.
 use Rattle.std.proofs.Common.{◌≡◌, ℕ, zero, suc, ◌+◌, ◌<◌, ◌≤◌, List, [], ◌∷◌, ◌++◌, map, length, Option, Some, None, Bool, true, false, refl, sym, ap, ◌∙◌, arith, add-one, nat_lt, subst}
-use Rattle.std.specs.Prelude.{slice_get, unwrap_or, set, drop}
+use Rattle.std.specs.Prelude.{slice_get, unwrap_or, set, drop, bytes_eq}
+use Rattle.std.proofs.lemmas.Slice.Eq.{bytes_eq-Decides}
 use Rattle.std.proofs.lemmas.Option.{unwrap_or-slice_get}
 use Rattle.tcl_eval.specs.Eval.{arg}
 use Rattle.std.proofs.lemmas.Bool.{ltb-true, ltb-false}
@@ -166,3 +167,9 @@ first_set (w ∷ ws) name h = refl
 pub first_put : (ws : List (List ℕ)) (name : List ℕ) → length ws ≡ 0 → ws ++ name ∷ [] ≡ name ∷ drop 1 ws
 first_put [] name e = refl
 first_put (w ∷ ws) name e = absurd (omega (arith, e))
+
+-- a text that is the first word stands in front of the others
+pub first_is : (ws : List (List ℕ)) (first name : List ℕ) → Some first ≡ slice_get ws 0 → bytes_eq first name ≡ true → ws ≡ name ∷ drop 1 ws
+first_is [] first name there same = absurd (cc)
+first_is (w ∷ ws) first name there same =
+    ap (λ (o : Option (List ℕ)). unwrap_or o name ∷ ws) (sym there) ∙ ap (λ (n : List ℕ). n ∷ ws) ((bytes_eq-Decides first name).0 same)

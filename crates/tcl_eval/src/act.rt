@@ -24,7 +24,9 @@ use crate::value::{
     do_break, do_continue, do_error, do_return, done, error, failed, too_long, wrong_words,
 };
 use crate::verb::{Verb, find_verb};
-use crate::words::{BYTES_FOR_ONE, behind_name, copy_word, joined, push_word, with_name, word_at};
+use crate::words::{
+    BYTES_FOR_ONE, behind_name, copy_word, joined, push_word, share_word, with_name, word_at,
+};
 use cmd_table::{Cmd, Def, Renamed, Steps};
 use natives::{Fault, Native, Natives};
 use outside::{Answer, Question, Service};
@@ -71,14 +73,14 @@ fn addressed(alloc: Global, question: Question, levels: u32) -> Result<Question,
     }
 }
 
-/// The definition that `proc` makes.
+/// The definition that `proc` makes. Copies of it share the parameters and the body.
 fn proc_of(alloc: Global, words: &Words) -> Result<Def, NoMemory>
     ensures { IfOk result (λ def. def ≡ proc_of words.now) }
 {
     Ok(Def::Proc {
         name: copy_word(alloc, words, 1)?,
-        params: copy_word(alloc, words, 2)?,
-        body: copy_word(alloc, words, 3)?,
+        params: share_word(alloc, words, 2)?,
+        body: share_word(alloc, words, 3)?,
     })
 }
 

@@ -98,23 +98,13 @@ fn bind(alloc: Global, parameters: &[Parameter], words: &[Text]) -> Result<Optio
         }
         match rest.split_first() {
             Some((word, behind)) => {
-                push_value(
-                    alloc,
-                    &mut values,
-                    &parameter.name,
-                    Text::new(alloc, word.bytes())?,
-                )?;
+                push_value(alloc, &mut values, &parameter.name, word.copy(alloc)?)?;
                 rest = behind;
             }
             None => match &parameter.default {
                 None => return Ok(None),
                 Some(value) => {
-                    push_value(
-                        alloc,
-                        &mut values,
-                        &parameter.name,
-                        Text::new(alloc, value.bytes())?,
-                    )?;
+                    push_value(alloc, &mut values, &parameter.name, value.copy(alloc)?)?;
                 }
             },
         }

@@ -1,6 +1,6 @@
 //! The words of commands.
 
-ghost use Rattle.std.specs.Prelude.{◌≡◌, ◌∷◌, ◌<◌, ◌++◌, IfOk, OnOk, drop, []};
+ghost use Rattle.std.specs.Prelude.{◌≡◌, ◌∷◌, ◌<◌, ◌++◌, IfOk, OnOk, IsTrue, drop, []};
 ghost use Rattle.tcl_eval.specs.Eval.{command_cost, arg, joined};
 
 use std::alloc::Global;
@@ -19,11 +19,22 @@ pub fn word_at(words: &Words, place: usize) -> &[u8]
     }
 }
 
-/// A copy of the word at a place; the empty text where there is none.
+/// The word at a place once more; the empty text where there is none.
 pub fn copy_word(alloc: Global, words: &Words, place: usize) -> Result<Text, NoMemory>
     ensures { IfOk result (λ word. word ≡ arg words.now place) }
 {
-    Text::new(alloc, word_at(words, place))
+    match words.get(place) {
+        Some(word) => word.copy(alloc),
+        None => Ok(Text::empty(alloc)),
+    }
+}
+
+/// The word at a place once more, of which copies are cheap: they share its bytes.
+pub fn share_word(alloc: Global, words: &Words, place: usize) -> Result<Text, NoMemory>
+    ensures { IfOk result (λ word. word ≡ arg words.now place) }
+{
+    let mut word = copy_word(alloc, words, place)?;
+    word.share(alloc)
 }
 
 /// What a command costs.
@@ -61,12 +72,36 @@ pub fn behind_name(words: &Words) -> &[Text]
     }
 }
 
-/// The words of a call of a built-in, with its own name as the first one. No other word is copied.
-#[tactic(auto, using(crate::proofs::Rows::first_set, crate::proofs::Rows::first_put))]
-pub fn with_name(alloc: Global, name: &Text, mut words: Words) -> Result<Words, NoMemory>
+/// Whether this is the first word.
+#[tactic(auto, using(crate::proofs::Rows::first_is))]
+fn begins_with(words: &Words, name: &Text) -> bool
+    ensures { IsTrue result → words.now ≡ name.now ∷ drop 1 words.now }
+{
+    match words.get(0) {
+        Some(first) => first == name,
+        None => false,
+    }
+}
+
+/// The words of a call of a built-in, with its own name as the first one. No other word is copied, and
+/// where the name is the first word already, nothing is.
+pub fn with_name(alloc: Global, name: &Text, words: Words) -> Result<Words, NoMemory>
     ensures { IfOk result (λ renamed. renamed ≡ name.now ∷ drop 1 words) }
 {
-    let name = Text::new(alloc, name.bytes())?;
+    if begins_with(&words, name) {
+        return Ok(words);
+    }
+    renamed(alloc, name, words)
+}
+
+/// The words of a call under another name, with the built-in's own name as the first one.
+#[cold]
+#[inline(never)]
+#[tactic(auto, using(crate::proofs::Rows::first_set, crate::proofs::Rows::first_put))]
+fn renamed(alloc: Global, name: &Text, mut words: Words) -> Result<Words, NoMemory>
+    ensures { IfOk result (λ renamed. renamed ≡ name.now ∷ drop 1 words) }
+{
+    let name = name.copy(alloc)?;
     if words.len() == 0 {
         push_word(&mut words, name)?;
         return Ok(words);
