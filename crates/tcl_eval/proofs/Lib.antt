@@ -14,5 +14,6 @@ pub mod Pages
 pub mod Parameters
 pub mod Pairs
 pub mod Rows
+pub mod Plain
 pub mod Stacks
 pub mod Steps

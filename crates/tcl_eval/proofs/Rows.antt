@@ -102,6 +102,25 @@ some_word_here (w ∷ ws) (suc at) x e = some_word_here ws at x e
 pub some_word : (ws : List code_word.Word) (at : ℕ) (x : code_word.Word) → Some x ≡ slice_get ws at → parts (map part_of (out-Word x).pieces.items) ≡ first_word (words_from at (words (map word_of ws)))
 some_word ws at x e = sym (ap parts (word_is x)) ∙ some_word_here ws at x e
 
+-- the word at a place of a command, by what is found there
+pub no_word_left : (ws : List code_word.Word) (at : ℕ) → None ≡ slice_get ws at → words_from at (words (map word_of ws)) ≡ no_words
+no_word_left [] zero e = refl
+no_word_left [] (suc at) e = refl
+no_word_left (w ∷ ws) zero e = absurd (cc)
+no_word_left (w ∷ ws) (suc at) e = no_word_left ws at e
+
+word_left_here : (ws : List code_word.Word) (at : ℕ) (x : code_word.Word) → Some x ≡ slice_get ws at → words_from at (words (map word_of ws)) ≡ word (parts (word_of x)) (words_from (suc at) (words (map word_of ws)))
+word_left_here [] zero x e = absurd (cc)
+word_left_here [] (suc at) x e = absurd (cc)
+word_left_here (w ∷ ws) zero x e = ap (λ (o : Option code_word.Word). elim o as (λ _. Words) [ None ↦ no_words | Some y ↦ word (parts (word_of y)) (words (map word_of ws)) ]) (sym e)
+word_left_here (w ∷ ws) (suc at) x e = word_left_here ws at x e
+
+pub word_left : (ws : List code_word.Word) (at : ℕ) (x : code_word.Word) → Some x ≡ slice_get ws at → words_from at (words (map word_of ws)) ≡ word (parts (map part_of (out-Word x).pieces.items)) (words_from (at + 1) (words (map word_of ws)))
+word_left ws at x e =
+    word_left_here ws at x e
+    ∙ ap (λ (w : tree.Word). word (parts w) (words_from (suc at) (words (map word_of ws)))) (word_is x)
+    ∙ ap (λ (n : ℕ). word (parts (map part_of (out-Word x).pieces.items)) (words_from n (words (map word_of ws)))) (sym (add-one at))
+
 pub no_piece : (ps : List Piece) (at : ℕ) → None ≡ slice_get ps at → parts_from at (parts (map part_of ps)) ≡ no_parts
 no_piece [] zero e = refl
 no_piece [] (suc at) e = refl

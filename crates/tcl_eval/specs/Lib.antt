@@ -26,4 +26,5 @@ pub mod SeenPieces
 pub mod Verbs
 pub mod Places
 pub mod Kept
+pub mod Simple
 pub mod Stack

@@ -19,6 +19,7 @@ mod parameter;
 mod place;
 mod run;
 mod settle;
+mod simple;
 mod stack;
 mod switch;
 mod value;

@@ -1,10 +1,10 @@
 //! Places in scripts.
 
 ghost use Rattle.std.specs.Prelude.{◌≡◌, ◌<◌, ◌+◌, ◌^◌, MatchOption, IfOk, IsSome, IsTrue, map, slice_get};
-ghost use Rattle.tcl_parse.specs.Tree.{parts, no_parts, words};
+ghost use Rattle.tcl_parse.specs.Tree.{parts, no_parts, word, words, no_words};
 ghost use Rattle.tcl_parse.specs.View.{part_of, word_of};
 ghost use Rattle.std.specs.Option.{option_copied};
-ghost use Rattle.tcl_eval.specs.Places.{tree_of, word_parts, inside, parts_from, walk, place_parts, command_at, behind, index_of, HasCommand, HasWord};
+ghost use Rattle.tcl_eval.specs.Places.{tree_of, word_parts, inside, parts_from, walk, place_parts, command_at, words_from, behind, index_of, HasCommand, HasWord};
 ghost use Rattle.tcl_eval.specs.SeenPieces.{SeenAs, SeenAt};
 
 use std::alloc::Global;
@@ -39,7 +39,7 @@ pub fn has_command(script: &Script, at: usize) -> bool
 }
 
 /// The words of a command; none where there is no such command.
-fn words_of(script: &Script, at: usize) -> &[Word]
+pub fn words_of(script: &Script, at: usize) -> &[Word]
     ensures { words (map word_of result.now) ≡ command_at at (tree_of script.now) }
 {
     match item_at(script.commands.as_slice(), at) {
@@ -81,6 +81,16 @@ pub fn alone(alloc: Global, pieces: Vec<Piece>) -> Result<Place, NoMemory>
     })
 }
 
+/// The pieces of the word at a place of a command, if it has one there.
+pub fn pieces_at(all: &[Word], at: usize) -> Option<&[Piece]>
+    ensures { MatchOption result (words_from at (words (map word_of all.now)) ≡ no_words) (λ pieces. words_from at (words (map word_of all.now)) ≡ word (parts (map part_of pieces.now)) (words_from (at + 1) (words (map word_of all.now)))) }
+{
+    match item_at(all, at) {
+        None => None,
+        Some(word) => Some(word.pieces.as_slice()),
+    }
+}
+
 /// What a piece is. The index of an element isn't told.
 pub enum Seen<'a> {
     Bytes(&'a Text),
@@ -90,7 +100,7 @@ pub enum Seen<'a> {
 }
 
 /// What a piece is.
-fn look(piece: &Piece) -> Seen<'_>
+pub fn look(piece: &Piece) -> Seen<'_>
     ensures { SeenAs result (part_of piece.now) }
 {
     match piece {

@@ -11,13 +11,12 @@ ghost use Rattle.tcl_eval.specs.declared.stack.Frame.{Frame};
 
 use crate::engine::Engine;
 use crate::gather::{Gathered, SoFar};
-use crate::message::variable_fault;
-use crate::place::{Place, Seen, has_command, has_word};
+use crate::place::{Place, Seen, has_command, has_word, words_of};
+use crate::simple::{Simple, variable_value};
 use crate::stack::{Ended, Frame, Ready, Settled, Step};
-use crate::value::{done, error, kept_value, returned, too_long};
+use crate::value::{done, kept_value, returned, too_long};
 use crate::words::BYTES_FOR_ONE;
 use std::rc::Rc;
-use tcl_frame::VarFault;
 use tcl_host::{Host, OK};
 use tcl_parse::Script;
 use txt_core::{MOST_BYTES, NoMemory, Text};
@@ -39,11 +38,7 @@ impl<H: Host> Engine<H> {
     fn read(&self, name: &Text) -> Result<Ended, NoMemory>
         ensures { IfOk result (λ value. value ≡ read_as self.now.frames name.now) }
     {
-        match self.frames.read(name) {
-            Ok(result) => Ok(Ended { code: OK, result }),
-            Err(VarFault::NoMemory) => Err(NoMemory),
-            Err(why) => error(self.alloc, variable_fault(self.alloc, why, name.bytes())?),
-        }
+        variable_value(self.alloc, &self.frames, name)
     }
 
     /// Goes on with the index of an element of an array.
@@ -165,8 +160,35 @@ impl<H: Host> Engine<H> {
         }
     }
 
-    /// Goes on with the next word of a command.
+    /// Goes on with the next words of a command.
     fn next_word(
+        &mut self,
+        script: Rc<Script>,
+        at: usize,
+        mut values: Gathered,
+        levels: u32,
+    ) -> Result<Step, NoMemory>
+        ensures means { IfOk result (λ step. (names : Names) → Same names H.table self.new self.old (step_next names H.table step) (run_words names H.table (nested names H.table levels) (words_from (length values) (command_at at (tree_of script.value))) values)) }
+        ensures falls { IfOk result (λ step. stack_weight self.new.stack.items + step_weight step ≤ stack_weight self.old.stack.items + words_size (words_from (length values) (command_at at (tree_of script.value)))) }
+        ensures keeps { IfOk result (λ step. Stays step self.new self.old) }
+        ensures holds { Holds self.new self.old }
+    {
+        let simple = self.simple_words(words_of(&script, at), &mut values)?;
+        match simple {
+            Simple::Stands => {
+                let step = self.enter_word(script, at, values, levels)?;
+                Ok(step)
+            }
+            Simple::Fails(value) => Ok(Step::Value(value)),
+            Simple::Costly => {
+                let step = self.next_costly(script, at, values.len(), levels)?;
+                Ok(step)
+            }
+        }
+    }
+
+    /// Goes on with a command behind words for which nothing is run.
+    fn enter_word(
         &mut self,
         script: Rc<Script>,
         at: usize,

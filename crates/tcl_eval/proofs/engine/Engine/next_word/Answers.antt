@@ -1,32 +1,36 @@
-use Rattle.std.proofs.Common.{ℕ, List, ◌∙◌, ap, refl, arith, length}
-use Rattle.tcl_parse.specs.Tree.{Parts, Words}
-use Rattle.tcl_parse.specs.declared.tree.Script.{Script}
+use Rattle.std.proofs.Common.{ℕ, ap, arith, ◌∙◌}
 use Rattle.tcl_eval.specs.Eval.{nested}
-use Rattle.tcl_eval.specs.Places.{tree_of, word_parts, walk, parts_size, words_size}
+use Rattle.tcl_eval.specs.Kept.{run_costly}
+use Rattle.tcl_eval.specs.Places.{tree_of, command_at, words_from, words_size}
 use Rattle.tcl_eval.specs.Stack.{stack_next}
 use Rattle.tcl_eval.specs.Engine.{state_of}
-use Rattle.tcl_eval.proofs.Alike.{run_script_alike}
-use Rattle.tcl_eval.proofs.Stacks.{weighed}
-use Rattle.tcl_eval.proofs.Steps.{word_step, words_done}
 use Rattle.tcl_eval.proofs.engine.Engine.next_word.Goals as goal
 
-pub returns-then-not-has_word-clause-means : goal.returns-then-not-has_word-clause-means
-returns-then-not-has_word-clause-means g c = λ ns gv.
+pub returns-in_ok-step-in-Stands-clause-means : goal.returns-in_ok-step-in-Stands-clause-means
+returns-in_ok-step-in-Stands-clause-means g c = λ ns gv.
+    let before = rw (c.in-Stands.is, c.words_of.ensures, c.deref.ensures) at c.in_ok-simple.ensures.means in
+    c.in_ok-step-in-Stands.ensures.means ns gv ∙ before ns c.args.levels gv
+
+pub returns-in_ok-step-in-Stands-clause-falls : goal.returns-in_ok-step-in-Stands-clause-falls
+returns-in_ok-step-in-Stands-clause-falls g c =
+    let less = rw (c.words_of.ensures, c.deref.ensures) at c.in_ok-simple.ensures.shorter in
+    omega (arith, less, c.in_ok-step-in-Stands.ensures.falls)
+
+pub returns-in-Fails-clause-means : goal.returns-in-Fails-clause-means
+returns-in-Fails-clause-means g c = λ ns gv.
+    let before = rw (c.in-Fails.is, c.words_of.ensures, c.deref.ensures) at c.in_ok-simple.ensures.means in
+    before ns c.args.levels gv
+
+pub returns-in_ok-step-in-Costly-clause-means : goal.returns-in_ok-step-in-Costly-clause-means
+returns-in_ok-step-in-Costly-clause-means g c = λ ns gv.
     let t = g.H.Host.table in
     let e = c.args.self.now in
-    let none = rw (c.len-word.ensures, c.deref.ensures) at c.if-not-has_word.ensures.there in
-    words_done ns t (nested ns t c.args.levels) _ c.args.values _ (stack_next ns t e.stack.items) (state_of e) e.budget gv none c.into_words.ensures
+    let before = rw (c.in-Costly.is, c.words_of.ensures, c.deref.ensures) at c.in_ok-simple.ensures.means in
+    c.in_ok-step-in-Costly.ensures.means ns gv
+    ∙ ap (λ (n : ℕ). run_costly (nested ns t c.args.levels) (words_from n (command_at c.args.at (tree_of c.args.script.value))) (stack_next ns t e.stack.items) (state_of e) e.budget gv) c.len.ensures
+    ∙ before ns c.args.levels gv
 
-pub returns-clause-means : goal.returns-clause-means
-returns-clause-means g c = λ ns gv.
-    let t = g.H.Host.table in
-    let here = rw (c.len-word.ensures, c.deref.ensures) at c.if-not-has_word.ensures.there in
-    let first = ap (λ (path : List ℕ). walk path (word_parts c.args.at c.len-word.result (tree_of c.in_ok-clone.field-0.value))) c.new.ensures.items ∙ ap (λ (n : ℕ). word_parts c.args.at n (tree_of c.in_ok-clone.field-0.value)) c.len-word.ensures ∙ ap (λ (s : Script). word_parts c.args.at (length c.args.values) (tree_of s)) c.in_ok-clone.ensures.cases in
-    word_step ns t (nested ns t c.args.levels) (run_script_alike ns t c.args.levels) _ _ _ _ _ _ _ _ c.args.values _ _ gv c.in_ok-push.ensures.items (λ k. refl) here first c.empty.ensures
-
-pub returns-clause-falls : goal.returns-clause-falls
-returns-clause-falls g c =
-    let here = rw (c.len-word.ensures, c.deref.ensures) at c.if-not-has_word.ensures.there in
-    let first = ap (λ (path : List ℕ). walk path (word_parts c.args.at c.len-word.result (tree_of c.in_ok-clone.field-0.value))) c.new.ensures.items ∙ ap (λ (n : ℕ). word_parts c.args.at n (tree_of c.in_ok-clone.field-0.value)) c.len-word.ensures ∙ ap (λ (s : Script). word_parts c.args.at (length c.args.values) (tree_of s)) c.in_ok-clone.ensures.cases in
-    let e = weighed _ _ _ c.in_ok-push.ensures.items in
-    omega (arith, e, ap (λ (ws : Words). words_size ws) here, ap (λ (ps : Parts). parts_size ps) first)
+pub returns-in_ok-step-in-Costly-clause-falls : goal.returns-in_ok-step-in-Costly-clause-falls
+returns-in_ok-step-in-Costly-clause-falls g c =
+    let less = rw (c.words_of.ensures, c.deref.ensures) at c.in_ok-simple.ensures.shorter in
+    omega (arith, less, c.in_ok-step-in-Costly.ensures.falls, ap (λ (n : ℕ). words_size (words_from n (command_at c.args.at (tree_of c.args.script.value)))) c.len.ensures)
