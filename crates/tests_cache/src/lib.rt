@@ -1,0 +1,5 @@
+//! Tests of scripts that are kept.
+#![tactic(auto)]
+
+#[cfg(test)]
+mod kept;
