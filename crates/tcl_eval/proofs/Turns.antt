@@ -60,16 +60,16 @@ module _ {H : Type 0} (ns : Names) (t : LeafTable H) where
       ∙ sym (ap (λ (c : Bool). cond c (spent (state_of old)) (go k (state_of old) (old.budget - 1) g)) (le-ltb old.budget 1 less))
 
   -- behind a body the script between two turns begins
-  pub next_step : (fs fs1 : List Frame) (turning : _) (next text : List ℕ) (code left levels : ℕ) (result : List ℕ) (s : State H) (b : ℕ) (g : Given) (x : Out H) → fs1 ≡ fs ++ Branching (branch.Next turning left levels) ∷ [] → On ≡ flow_of code result → Some next ≡ turning.value.next → text ≡ next → x ≡ (nested ns t levels).run (unread text) (stack_next ns t fs1) s b g → x ≡ in_loop (between (nested ns t levels) turning.value.next (turns (nested ns t levels) turning.value left (stack_next ns t fs)) (stack_next ns t fs)) (stack_next ns t fs) code result s b g
-  next_step fs fs1 turning next text code left levels result s b g x push on there same e =
+  pub next_step : (fs fs1 : List Frame) (shared : _) (turning : Turning) (next : List ℕ) (code left levels : ℕ) (result : List ℕ) (s : State H) (b : ℕ) (g : Given) (x : Out H) → fs1 ≡ fs ++ Branching (branch.Next shared left levels) ∷ [] → shared.value ≡ turning → On ≡ flow_of code result → Some next ≡ turning.next → x ≡ (nested ns t levels).run (unread next) (stack_next ns t fs1) s b g → x ≡ in_loop (between (nested ns t levels) turning.next (turns (nested ns t levels) turning left (stack_next ns t fs)) (stack_next ns t fs)) (stack_next ns t fs) code result s b g
+  next_step fs fs1 shared turning next code left levels result s b g x push same on there e =
       let inner = nested ns t levels in
       let k = stack_next ns t fs in
-      let go = turns inner turning.value left k in
+      let go = turns inner turning left k in
       e
-      ∙ ap (λ (y : Next H). inner.run (unread text) y s b g) (pushed ns t fs fs1 (Branching (branch.Next turning left levels)) push)
-      ∙ ap (λ (n : List ℕ). inner.run (unread n) (in_loop go k) s b g) same
+      ∙ ap (λ (y : Next H). inner.run (unread next) y s b g) (pushed ns t fs fs1 (Branching (branch.Next shared left levels)) push)
+      ∙ ap (λ (v : Turning). inner.run (unread next) (in_loop (turns inner v left k) k) s b g) same
       ∙ ap (λ (o : Option (List ℕ)). between inner o go k s b g) there
-      ∙ loop_on code result (between inner turning.value.next go k) k s b g on
+      ∙ loop_on code result (between inner turning.next go k) k s b g on
 
   -- a loop is read off its words
   pub while_step : (inner : Inner H) (words : List (List ℕ)) (condition body : List ℕ) (k : Next H) (s : State H) (b : ℕ) (g : Given) (x : Out H) → length words ≡ 3 → condition ≡ arg words 1 → body ≡ arg words 2 → x ≡ turn_on inner (record { condition = condition; next = None; body = body }) k s b g → x ≡ do_while inner words k s b g

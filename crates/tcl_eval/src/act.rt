@@ -17,7 +17,7 @@ ghost use Rattle.tcl_eval.specs.declared.verb.Verb.{Verb};
 ghost use Rattle.tcl_eval.specs.declared.engine.OpenQuestion.{OpenQuestion};
 
 use crate::engine::{Engine, OpenQuestion};
-use crate::message::{command_exists, fault_text, no_command, variable_fault};
+use crate::message::{command_exists, no_command, variable_fault};
 use crate::parameter::{bound, parameters};
 use crate::stack::{Acted, Ended, Frame};
 use crate::value::{
@@ -31,11 +31,9 @@ use cmd_table::{Cmd, Def, Renamed, Steps};
 use natives::{Fault, Native, Natives};
 use outside::{Answer, Question, Service};
 use std::alloc::Global;
-use std::rc::Rc;
 use std::sync::ledger::Ledger;
 use tcl_frame::{VarFault, is_element_name};
 use tcl_host::{Host, HostReply, OK};
-use tcl_parse::{ParseFault, parse};
 use tcl_varcmd::{is_var_command, var_command};
 use txt_core::error_text::unknown_command;
 use txt_core::{MOST_BYTES, MOST_NESTED, NoMemory, Pairs, Text, Words};
@@ -97,34 +95,6 @@ fn is_for_host(def: &Def) -> bool
 
 #[tactic(auto, using(crate::proofs::Stacks::frees_push))]
 impl<H: Host> Engine<H> {
-    /// Runs a text as a script.
-    pub(crate) fn enter_text(&mut self, text: &Text, levels: u32) -> Result<Acted, NoMemory>
-        ensures means { IfOk result (λ acted. (names : Names) (opened : Option OpenQuestion) → Same names H.table self.new self.old (acted_next names H.table acted opened) (run_script names H.table levels (unread text.now))) }
-        ensures lower { OnOk result (Lower self.new self.old 0) }
-        ensures enters { IfOk result (λ acted. Enters acted (credit self.new ≤ credit self.old)) }
-        ensures opens { IfOk result (λ acted. Opens acted self.new self.old) }
-        ensures holds { Holds self.new self.old }
-    {
-        if levels == 0 {
-            return Ok(Acted::TooDeep);
-        }
-        match parse(self.alloc, text) {
-            Err(ParseFault::NoMemory) => Err(NoMemory),
-            Err(ParseFault::Unclosed { at, kind }) => {
-                let message = fault_text(self.alloc, kind, at)?;
-                Ok(Acted::Gives(error(self.alloc, message)?))
-            }
-            Ok(script) => {
-                self.stack.push(Frame::Script {
-                    script: Rc::new(self.alloc, script)?,
-                    next: 0,
-                    levels: levels - 1,
-                })?;
-                Ok(Acted::Gives(done(self.alloc)))
-            }
-        }
-    }
-
     /// Gives an error with this text.
     pub(crate) fn fails(&self, message: Text) -> Result<Acted, NoMemory>
         ensures { IfOk result (λ acted. acted ≡ Acted.Gives (error_of message)) }

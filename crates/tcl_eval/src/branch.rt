@@ -5,6 +5,7 @@ ghost use Rattle.tcl_eval.specs.Branches.{from_condition, last_body};
 ghost use Rattle.tcl_eval.specs.BranchesSeen.{without_then, clauses_before};
 
 use adp_parse::PieceList;
+use parse_cache::ReadScript;
 use std::alloc::Global;
 use std::rc::Rc;
 use txt_core::{NoMemory, Pairs, Text, Words};
@@ -17,20 +18,20 @@ pub struct Branches {
 }
 
 /// A `while` or a `for`: its condition, the script between two turns, which a `while` hasn't, and its
-/// body.
+/// body. Scripts are read once, whether or not they come to run.
 #[derive(Debug, Drop)]
 pub struct Turning {
     pub condition: Text,
-    pub next: Option<Text>,
-    pub body: Text,
+    pub next: Option<ReadScript>,
+    pub body: ReadScript,
 }
 
-/// A `foreach`: its names, all its values and its body.
+/// A `foreach`: its names, all its values and its body, which is read once.
 #[derive(Debug, Drop)]
 pub struct Walk {
     pub names: Words,
     pub values: Words,
-    pub body: Text,
+    pub body: ReadScript,
 }
 
 /// Suspended work that goes on with a text, where what it waited for lets it. `levels` is how many levels are

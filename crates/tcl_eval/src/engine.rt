@@ -16,6 +16,7 @@ ghost use Rattle.tcl_eval.specs.Engine.{Holds, Lasts, FellTo, IsKeepable, kept_b
 ghost use Rattle.tcl_eval.specs.declared.outcome.Outcome.TheVariants.{Asks};
 
 use crate::outcome::{Outcome, Work};
+use crate::readings::Readings;
 use crate::stack::Frame;
 use cmd_table::{Cmd, CmdTable, Def, Defs, Steps};
 use natives::Natives;
@@ -49,6 +50,7 @@ pub struct Engine<H> {
     pub(crate) stack: Vec<Frame>,
     pub(crate) budget: u64,
     pub(crate) question: Option<OpenQuestion>,
+    pub(crate) readings: Readings,
 }
 
 impl<H: Host> Engine<H> {
@@ -68,6 +70,7 @@ impl<H: Host> Engine<H> {
             stack: Vec::new(alloc),
             budget: 0,
             question: None,
+            readings: Readings::new(),
         }
     }
 
@@ -181,6 +184,13 @@ impl<H: Host> Engine<H> {
         ensures { result.now ≡ self.now.made }
     {
         &self.made
+    }
+
+    /// How often a text was run as a script that was kept from an earlier time. It takes no memory.
+    /// No clause says when a script is kept: at most 512 are, each of at most 4,096 bytes, from the
+    /// first start on, those that were run most recently.
+    pub fn hits(&self) -> u64 {
+        self.readings.hits()
     }
 
     /// Puts a definition, which applies, into the table, without listing it as made; a `Set` is kept as a

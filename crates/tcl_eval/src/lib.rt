@@ -17,6 +17,7 @@ mod outcome;
 mod page;
 mod parameter;
 mod place;
+mod readings;
 mod run;
 mod settle;
 mod simple;

@@ -121,10 +121,12 @@ impl<H: Host> Engine<H> {
         if words.len() != 3 {
             return Ok(Acted::Gives(wrong_words(self.alloc, words)?));
         }
+        let condition = copy_word(self.alloc, words, 1)?;
+        let body = self.readings.read_word(self.alloc, words, 2)?;
         let turning = Turning {
-            condition: copy_word(self.alloc, words, 1)?,
+            condition,
             next: None,
-            body: copy_word(self.alloc, words, 2)?,
+            body,
         };
         let acted = self.begin_turns(turning, levels)?;
         Ok(acted)
@@ -141,10 +143,13 @@ impl<H: Host> Engine<H> {
             return Ok(Acted::Gives(wrong_words(self.alloc, words)?));
         }
         let start = copy_word(self.alloc, words, 1)?;
+        let condition = copy_word(self.alloc, words, 2)?;
+        let next = self.readings.read_word(self.alloc, words, 3)?;
+        let body = self.readings.read_word(self.alloc, words, 4)?;
         let turning = Turning {
-            condition: copy_word(self.alloc, words, 2)?,
-            next: Some(copy_word(self.alloc, words, 3)?),
-            body: copy_word(self.alloc, words, 4)?,
+            condition,
+            next: Some(next),
+            body,
         };
         let turning = Rc::new(self.alloc, turning)?;
         self.stack
@@ -195,7 +200,7 @@ impl<H: Host> Engine<H> {
             turns: left,
             levels,
         }))?;
-        let acted = self.enter_text(&turning.body, levels)?;
+        let acted = self.enter_read(&turning.body, levels)?;
         Ok(acted)
     }
 
@@ -251,13 +256,13 @@ impl<H: Host> Engine<H> {
                     Ok(acted)
                 }
                 Some(next) => {
-                    let next = Text::new(self.alloc, next.bytes())?;
+                    let again = turning.clone()?;
                     self.stack.push(Frame::Branch(Branch::Next {
-                        turning,
+                        turning: again,
                         turns: left,
                         levels,
                     }))?;
-                    let acted = self.enter_text(&next, levels)?;
+                    let acted = self.enter_read(next, levels)?;
                     Ok(acted)
                 }
             },
@@ -340,7 +345,7 @@ impl<H: Host> Engine<H> {
             turns: left,
             levels,
         }))?;
-        let acted = self.enter_text(&walk.body, levels)?;
+        let acted = self.enter_read(&walk.body, levels)?;
         Ok(acted)
     }
 
@@ -413,7 +418,7 @@ impl<H: Host> Engine<H> {
                 Ok(acted)
             }
             Ok(values) => {
-                let body = copy_word(self.alloc, words, 3)?;
+                let body = self.readings.read_word(self.alloc, words, 3)?;
                 let walk = Walk {
                     names,
                     values,

@@ -153,6 +153,7 @@ impl<H: Host> Engine<H> {
         ensures counts { Counts steps.new steps.old self.new self.old }
         ensures kept { OnErr result (self.new.made ≡ self.old.made) }
     {
+        self.readings.begin(self.alloc)?;
         match work {
             Work::Script(text) => {
                 let acted = self.enter_text(&text, MOST_LEVELS + 1 - depth)?;

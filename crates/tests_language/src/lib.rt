@@ -3,6 +3,8 @@
 
 mod echo;
 #[cfg(test)]
+mod kept;
+#[cfg(test)]
 mod lines;
 #[cfg(test)]
 mod long;

@@ -711,6 +711,21 @@ pub fn run_script<L: Ledger>(
     run_and_abandon(engine, natives, work, steps, all)
 }
 
+/// Runs a text as a script and abandons what is left of it; appends what it came to.
+pub fn run_text<L: Ledger>(
+    engine: &mut Engine<Echo>,
+    natives: &Natives,
+    script: &Text,
+    steps: &mut Steps<L>,
+    all: &mut Text,
+) -> Result<(), NoMemory>
+    requires { IsIdle engine.old }
+    ensures { OnOk result (IsIdle engine.new) }
+{
+    let work = Work::Script(script.copy(engine.host().alloc)?);
+    run_and_abandon(engine, natives, work, steps, all)
+}
+
 /// Stands at a question in `f`, which is abandoned, and runs on after that.
 fn leave_alone<L: Ledger>(
     engine: &mut Engine<Echo>,

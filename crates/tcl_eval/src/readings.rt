@@ -1,0 +1,163 @@
+//! What an engine keeps of the texts that it read.
+
+ghost use Rattle.std.specs.Prelude.{◌≡◌, ◌≤◌, ℕ, List, IfOk, OnOk, Option, length};
+ghost use Rattle.parse_cache.specs.Readings.{IsReading};
+ghost use Rattle.tcl_eval.specs.Natives.{Names};
+ghost use Rattle.tcl_eval.specs.Eval.{arg, run_script, unread};
+ghost use Rattle.tcl_eval.specs.Engine.{Same, Holds, Enters, Opens, Lower, credit, acted_next};
+ghost use Rattle.tcl_eval.specs.declared.engine.OpenQuestion.{OpenQuestion};
+
+use crate::engine::Engine;
+use crate::message::fault_text;
+use crate::stack::{Acted, Frame};
+use crate::value::{done, error};
+use crate::words::copy_word;
+use parse_cache::{Cache, ReadScript, Reading};
+use std::alloc::Global;
+use std::marker::Model;
+use tcl_host::Host;
+use txt_core::{NoMemory, Text, Words};
+
+/// How many scripts an engine keeps by their texts.
+const SCRIPTS: usize = 512;
+
+/// How many bytes a text has at most whose script is kept. A longer one is read each time.
+const MOST_KEPT_BYTES: usize = 4_096;
+
+/// The scripts that an engine keeps by their texts, from its first start on. Contracts see nothing of
+/// them, as what is kept changes no run.
+#[derive(Drop)]
+pub(crate) struct Readings {
+    scripts: Option<Cache>,
+}
+
+impl Model for Readings {
+    ghost use Rattle.std.specs.Prelude.{⊤};
+
+    ghost Value = { ⊤ };
+
+    ghost view = { λ _. tt };
+}
+
+impl Readings {
+    /// Nothing is kept yet. It takes no memory.
+    pub(crate) fn new() -> Readings {
+        Readings { scripts: None }
+    }
+
+    /// Begins to keep scripts, where that hasn't begun. The only error is want of memory.
+    pub(crate) fn begin(&mut self, alloc: Global) -> Result<(), NoMemory> {
+        if self.scripts.is_none() {
+            let scripts = Cache::new(alloc, SCRIPTS)?;
+            self.scripts = Some(scripts);
+        }
+        Ok(())
+    }
+
+    /// What a text is as a script; that of a short one is kept. The only error is want of memory.
+    pub(crate) fn read(&mut self, alloc: Global, text: &Text) -> Result<Reading, NoMemory>
+        ensures { IfOk result (λ read. IsReading text.now read) }
+    {
+        match &mut self.scripts {
+            Some(scripts) => read_by(scripts, alloc, text),
+            None => Reading::of(alloc, text),
+        }
+    }
+
+    /// The word at a place with what it is as a script; the empty text where there is none. The only
+    /// error is want of memory.
+    pub(crate) fn read_word(
+        &mut self,
+        alloc: Global,
+        words: &Words,
+        place: usize,
+    ) -> Result<ReadScript, NoMemory>
+        ensures { IfOk result (λ read. read ≡ arg words.now place) }
+    {
+        let text = copy_word(alloc, words, place)?;
+        let reading = self.read(alloc, &text)?;
+        Ok(ReadScript::with(text, reading))
+    }
+
+    /// How often a text was read whose script was kept. It takes no memory.
+    pub(crate) fn hits(&self) -> u64 {
+        match &self.scripts {
+            Some(scripts) => scripts.hits(),
+            None => 0,
+        }
+    }
+}
+
+/// What a text is as a script, by a cache where it is short enough for one.
+fn read_by(scripts: &mut Cache, alloc: Global, text: &Text) -> Result<Reading, NoMemory>
+    ensures { IfOk result (λ read. IsReading text.now read) }
+{
+    if text.len() > MOST_KEPT_BYTES {
+        return Reading::of(alloc, text);
+    }
+    read_short(scripts, text)
+}
+
+/// What a text is as a script, by a cache. The condition is that it is short enough for one.
+fn read_short(scripts: &mut Cache, text: &Text) -> Result<Reading, NoMemory>
+    requires { length text.now ≤ 4096 }
+    ensures { IfOk result (λ read. IsReading text.now read) }
+{
+    scripts.read(text)
+}
+
+#[tactic(auto, using(crate::proofs::Stacks::frees_push))]
+impl<H: Host> Engine<H> {
+    /// Runs what a text is as a script.
+    fn enter_reading(&mut self, reading: Reading, levels: u32) -> Result<Acted, NoMemory>
+        ensures means { IfOk result (λ acted. (text : List ℕ) → IsReading text reading → (names : Names) (opened : Option OpenQuestion) → Same names H.table self.new self.old (acted_next names H.table acted opened) (run_script names H.table levels (unread text))) }
+        ensures lower { OnOk result (Lower self.new self.old 0) }
+        ensures enters { IfOk result (λ acted. Enters acted (credit self.new ≤ credit self.old)) }
+        ensures opens { IfOk result (λ acted. Opens acted self.new self.old) }
+        ensures holds { Holds self.new self.old }
+    {
+        if levels == 0 {
+            return Ok(Acted::TooDeep);
+        }
+        match reading {
+            Reading::Fault { at, kind } => {
+                let message = fault_text(self.alloc, kind, at)?;
+                Ok(Acted::Gives(error(self.alloc, message)?))
+            }
+            Reading::Script(script) => {
+                self.stack.push(Frame::Script {
+                    script,
+                    next: 0,
+                    levels: levels - 1,
+                })?;
+                Ok(Acted::Gives(done(self.alloc)))
+            }
+        }
+    }
+
+    /// Runs a text as a script.
+    pub(crate) fn enter_text(&mut self, text: &Text, levels: u32) -> Result<Acted, NoMemory>
+        ensures means { IfOk result (λ acted. (names : Names) (opened : Option OpenQuestion) → Same names H.table self.new self.old (acted_next names H.table acted opened) (run_script names H.table levels (unread text.now))) }
+        ensures lower { OnOk result (Lower self.new self.old 0) }
+        ensures enters { IfOk result (λ acted. Enters acted (credit self.new ≤ credit self.old)) }
+        ensures opens { IfOk result (λ acted. Opens acted self.new self.old) }
+        ensures holds { Holds self.new self.old }
+    {
+        let reading = self.readings.read(self.alloc, text)?;
+        let acted = self.enter_reading(reading, levels)?;
+        Ok(acted)
+    }
+
+    /// Runs a text that was read.
+    pub(crate) fn enter_read(&mut self, text: &ReadScript, levels: u32) -> Result<Acted, NoMemory>
+        ensures means { IfOk result (λ acted. (names : Names) (opened : Option OpenQuestion) → Same names H.table self.new self.old (acted_next names H.table acted opened) (run_script names H.table levels (unread text.now))) }
+        ensures lower { OnOk result (Lower self.new self.old 0) }
+        ensures enters { IfOk result (λ acted. Enters acted (credit self.new ≤ credit self.old)) }
+        ensures opens { IfOk result (λ acted. Opens acted self.new self.old) }
+        ensures holds { Holds self.new self.old }
+    {
+        let reading = text.reading()?;
+        let acted = self.enter_reading(reading, levels)?;
+        Ok(acted)
+    }
+}
