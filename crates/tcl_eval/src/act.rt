@@ -203,6 +203,7 @@ impl<H: Host> Engine<H> {
 
     /// What the host said of a command, or of an answer to its question. Only behind an answer a page is
     /// entered.
+    #[inline(never)]
     pub(crate) fn replied(
         &mut self,
         reply: HostReply,
@@ -248,6 +249,7 @@ impl<H: Host> Engine<H> {
     }
 
     /// Does a command of the host's.
+    #[inline(never)]
     fn call_host(&mut self, words: Words, levels: u32) -> Result<Acted, NoMemory>
         ensures means { IfOk result (λ acted. (names : Names) → Same names H.table self.new self.old (acted_next names H.table acted self.new.question) (λ k state. leaf H.table (nested names H.table levels) words (H.table.calls words state.host) k state)) }
         ensures lower { OnOk result (Lower self.new self.old 1) }
@@ -508,6 +510,7 @@ impl<H: Host> Engine<H> {
     }
 
     /// Does a built-in of a kind, whose own name is the first word.
+    #[inline(never)]
     fn built_in<L: Ledger>(
         &mut self,
         verb: Verb,
@@ -577,6 +580,7 @@ impl<H: Host> Engine<H> {
     }
 
     /// Calls a procedure.
+    #[inline(never)]
     fn call_proc(
         &mut self,
         params: &Text,

@@ -21,6 +21,8 @@ fn push_quoted(message: &mut Text, text: &[u8]) -> Result<(), NoMemory>
 }
 
 /// There is no command of this name to be renamed.
+#[cold]
+#[inline(never)]
 pub fn no_command(alloc: Global, name: &[u8]) -> Result<Text, NoMemory>
     ensures { IfOk result (λ message. message ≡ no_command name.now) }
 {
@@ -30,6 +32,8 @@ pub fn no_command(alloc: Global, name: &[u8]) -> Result<Text, NoMemory>
 }
 
 /// The new name is that of a command.
+#[cold]
+#[inline(never)]
 pub fn command_exists(alloc: Global, name: &[u8]) -> Result<Text, NoMemory>
     ensures { IfOk result (λ message. message ≡ command_exists name.now) }
 {
@@ -53,6 +57,8 @@ fn fault_name(kind: Kind) -> &'static [u8]
 }
 
 /// A text is no script: this is wrong with it, at this byte.
+#[cold]
+#[inline(never)]
 pub fn fault_text(alloc: Global, kind: Kind, place: u64) -> Result<Text, NoMemory>
     ensures { IfOk result (λ message. message ≡ fault_text kind place) }
 {
@@ -63,6 +69,8 @@ pub fn fault_text(alloc: Global, kind: Kind, place: u64) -> Result<Text, NoMemor
 }
 
 /// A variable of this name isn't read or written.
+#[cold]
+#[inline(never)]
 pub fn variable_fault(alloc: Global, why: VarFault, name: &[u8]) -> Result<Text, NoMemory>
     ensures { IfOk result (λ message. message ≡ variable_fault why name.now) }
 {
@@ -76,6 +84,8 @@ pub fn variable_fault(alloc: Global, why: VarFault, name: &[u8]) -> Result<Text,
 }
 
 /// A name is that of no procedure.
+#[cold]
+#[inline(never)]
 pub fn no_procedure(alloc: Global, name: &[u8]) -> Result<Text, NoMemory>
     ensures { IfOk result (λ message. message ≡ no_procedure name.now) }
 {
@@ -85,6 +95,8 @@ pub fn no_procedure(alloc: Global, name: &[u8]) -> Result<Text, NoMemory>
 }
 
 /// A text is no expression: it is bad at this byte.
+#[cold]
+#[inline(never)]
 pub fn bad_expression(alloc: Global, place: u64) -> Result<Text, NoMemory>
     ensures { IfOk result (λ message. message ≡ bad_expression place) }
 {
@@ -94,6 +106,8 @@ pub fn bad_expression(alloc: Global, place: u64) -> Result<Text, NoMemory>
 }
 
 /// A value has no truth.
+#[cold]
+#[inline(never)]
 pub fn no_boolean(alloc: Global, value: &[u8]) -> Result<Text, NoMemory>
     ensures { IfOk result (λ message. message ≡ no_boolean value.now) }
 {
@@ -142,6 +156,8 @@ fn no_operand(alloc: Global, op: Op) -> Result<Text, NoMemory>
 }
 
 /// An operator gives no value, where this operand has no truth.
+#[cold]
+#[inline(never)]
 pub fn operator_fault(
     alloc: Global,
     why: ExprFault,

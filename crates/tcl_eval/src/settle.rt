@@ -42,6 +42,7 @@ impl<H: Host> Engine<H> {
     }
 
     /// Goes on with the index of an element of an array.
+    #[inline(never)]
     fn enter_index(
         &mut self,
         array: Text,
@@ -254,6 +255,7 @@ impl<H: Host> Engine<H> {
     }
 
     /// Goes on with the next word of a command whose first words cost more than is left of the budget.
+    #[inline(never)]
     fn next_costly(
         &mut self,
         script: Rc<Script>,
@@ -290,6 +292,7 @@ impl<H: Host> Engine<H> {
     }
 
     /// Gives a command whose first words cost too much that its next word is there. Its value isn't kept.
+    #[inline(never)]
     fn give_costly(
         &mut self,
         script: Rc<Script>,
@@ -364,6 +367,7 @@ impl<H: Host> Engine<H> {
     }
 
     /// Reads an element of an array, by its index.
+    #[inline(never)]
     fn give_index(&mut self, array: Text, value: Ended) -> Result<Step, NoMemory>
         ensures means { IfOk result (λ step. (names : Names) → Same names H.table self.new self.old (step_next names H.table step) (λ k. frame_next names H.table (Frame.Index array) k value.code value.result)) }
         ensures falls { IfOk result (λ step. stack_weight self.new.stack.items + step_weight step < stack_weight self.old.stack.items + frame_weight (Frame.Index array)) }
@@ -397,6 +401,7 @@ impl<H: Host> Engine<H> {
     }
 
     /// Ends a procedure, whose frame of variables goes.
+    #[inline(never)]
     fn end_procedure(&mut self, value: Ended) -> Result<Step, NoMemory>
         ensures means { IfOk result (λ step. (names : Names) → Same names H.table self.new self.old (step_next names H.table step) (λ k. proc_end k value.code value.result)) }
         ensures falls { IfOk result (λ step. stack_weight self.new.stack.items + step_weight step ≤ stack_weight self.old.stack.items) }
@@ -412,6 +417,7 @@ impl<H: Host> Engine<H> {
     }
 
     /// Ends a `catch`: the code is the result, and the result goes to the variable, where one is named.
+    #[inline(never)]
     fn end_catch(&mut self, name: Option<Text>, value: Ended) -> Result<Step, NoMemory>
         ensures means { IfOk result (λ step. (names : Names) → Same names H.table self.new self.old (step_next names H.table step) (λ k. catch_end name k value.code value.result)) }
         ensures falls { IfOk result (λ step. stack_weight self.new.stack.items + step_weight step ≤ stack_weight self.old.stack.items) }

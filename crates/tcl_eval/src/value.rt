@@ -24,6 +24,8 @@ pub fn done(alloc: Global) -> Ended
 }
 
 /// The error of a word, a value or a result that is too long.
+#[cold]
+#[inline(never)]
 pub fn too_long(alloc: Global) -> Result<Ended, NoMemory>
     ensures { IfOk result (λ value. value ≡ ended 1 too_long) }
 {
@@ -67,6 +69,8 @@ pub fn failed(message: Text) -> Ended
 }
 
 /// An error with this text.
+#[cold]
+#[inline(never)]
 pub fn error(alloc: Global, message: Text) -> Result<Ended, NoMemory>
     ensures { IfOk result (λ value. value ≡ error_of message) }
 {
@@ -80,6 +84,8 @@ pub fn error(alloc: Global, message: Text) -> Result<Ended, NoMemory>
 }
 
 /// A built-in has the wrong number of words.
+#[cold]
+#[inline(never)]
 pub fn wrong_words(alloc: Global, words: &Words) -> Result<Ended, NoMemory>
     ensures { IfOk result (λ value. value ≡ wrong_words words.now) }
 {
