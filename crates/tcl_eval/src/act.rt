@@ -25,7 +25,8 @@ use crate::value::{
 };
 use crate::verb::{Verb, find_verb};
 use crate::words::{
-    BYTES_FOR_ONE, behind_name, copy_word, joined, push_word, share_word, with_name, word_at,
+    BYTES_FOR_ONE, behind_name, copy_word, first_word, joined, push_word, share_word, with_name,
+    word_at,
 };
 use cmd_table::{Cmd, Def, Renamed, Steps};
 use natives::{Fault, Native, Natives};
@@ -549,8 +550,9 @@ impl<H: Host> Engine<H> {
         ensures counts { Counts steps.new steps.old self.new self.old }
         ensures kept { OnErr result (self.new.made ≡ self.old.made) }
     {
-        let name = copy_word(self.alloc, &words, 0)?;
-        if let Some(native) = natives.find(&name) {
+        let empty = Text::empty(self.alloc);
+        let name = first_word(&words, &empty);
+        if let Some(native) = natives.find(name) {
             let value = self.call_native(native, &words)?;
             return Ok(Acted::Gives(value));
         }
@@ -570,7 +572,7 @@ impl<H: Host> Engine<H> {
         ensures holds { Holds self.new self.old }
     {
         'values: for pair in values.as_slice() {
-            let value = Text::new(self.alloc, pair.1.bytes())?;
+            let value = pair.1.copy(self.alloc)?;
             let written = self.store(&pair.0, value, Text::empty(self.alloc))?;
             if written.code != OK {
                 return Ok(Some(written));
@@ -623,8 +625,9 @@ impl<H: Host> Engine<H> {
         ensures counts { Counts steps.new steps.old self.new self.old }
         ensures kept { OnErr result (self.new.made ≡ self.old.made) }
     {
-        let name = copy_word(self.alloc, &words, 0)?;
-        match self.table.get(&name) {
+        let empty = Text::empty(self.alloc);
+        let name = first_word(&words, &empty);
+        match self.table.get(name) {
             None => {
                 let message = unknown_command(self.alloc, name.bytes())?;
                 Ok(Acted::Gives(error(self.alloc, message)?))
@@ -635,8 +638,8 @@ impl<H: Host> Engine<H> {
                 Ok(acted)
             }
             Some(Cmd::Proc { params, body }) => {
-                let params = Text::new(self.alloc, params.bytes())?;
-                let body = Text::new(self.alloc, body.bytes())?;
+                let params = params.copy(self.alloc)?;
+                let body = body.copy(self.alloc)?;
                 let acted = self.call_proc(&params, &body, &words, levels)?;
                 Ok(acted)
             }

@@ -19,6 +19,17 @@ pub fn word_at(words: &Words, place: usize) -> &[u8]
     }
 }
 
+/// The first word; where there is none, the empty text that is handed in.
+pub fn first_word<'a>(words: &'a Words, empty: &'a Text) -> &'a Text
+    requires { empty.now ≡ [] }
+    ensures { result.now ≡ arg words.now 0 }
+{
+    match words.get(0) {
+        Some(word) => word,
+        None => empty,
+    }
+}
+
 /// The word at a place once more; the empty text where there is none.
 pub fn copy_word(alloc: Global, words: &Words, place: usize) -> Result<Text, NoMemory>
     ensures { IfOk result (λ word. word ≡ arg words.now place) }
