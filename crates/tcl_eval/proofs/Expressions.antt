@@ -36,17 +36,16 @@ use Rattle.tcl_eval.proofs.Stacks.{pushed}
 
 module _ {H : Type 0} (ns : Names) (t : LeafTable H) where
   -- an expression begins
-  pub expression_step : (fs fs1 : List Frame) (expr expr' : Expr) (levels : ℕ) (value : Ended) (s : State H) (b : ℕ) (g : Given) → fs1 ≡ fs ++ Expression expr' levels ∷ [] → expr' ≡ expr → value ≡ ended 0 [] → give value (stack_next ns t fs1) s b g ≡ run_expression (nested ns t levels) (tree_of expr) (stack_next ns t fs) s b g
-  expression_step fs fs1 expr expr' levels value s b g e same is =
+  pub expression_step : (fs fs1 : List Frame) (expr : _) (levels : ℕ) (value : Ended) (s : State H) (b : ℕ) (g : Given) → fs1 ≡ fs ++ Expression expr levels ∷ [] → value ≡ ended 0 [] → give value (stack_next ns t fs1) s b g ≡ run_expression (nested ns t levels) (tree_of expr.value) (stack_next ns t fs) s b g
+  expression_step fs fs1 expr levels value s b g e is =
       ap (λ (v : Ended). give v (stack_next ns t fs1) s b g) is
-      ∙ ap (λ (k : Next H). k 0 [] s b g) (pushed ns t fs fs1 (Expression expr' levels) e)
-      ∙ ap (λ (x : Expr). run_expression (nested ns t levels) (tree_of x) (stack_next ns t fs) s b g) same
+      ∙ ap (λ (k : Next H). k 0 [] s b g) (pushed ns t fs fs1 (Expression expr levels) e)
 
   -- a part of an expression begins, for whose value a frame waits
-  pub part_step : (fs fs1 fs2 : List Frame) (f : Frame) (expr expr' : Expr) (levels : ℕ) (value : Ended) (s : State H) (b : ℕ) (g : Given) → fs1 ≡ fs ++ f ∷ [] → fs2 ≡ fs1 ++ Expression expr' levels ∷ [] → expr' ≡ expr → value ≡ ended 0 [] → give value (stack_next ns t fs2) s b g ≡ run_expression (nested ns t levels) (tree_of expr) (frame_next ns t f (stack_next ns t fs)) s b g
-  part_step fs fs1 fs2 f expr expr' levels value s b g e1 e2 same is =
-      expression_step fs1 fs2 expr expr' levels value s b g e2 same is
-      ∙ ap (λ (k : Next H). run_expression (nested ns t levels) (tree_of expr) k s b g) (pushed ns t fs fs1 f e1)
+  pub part_step : (fs fs1 fs2 : List Frame) (f : Frame) (expr : _) (levels : ℕ) (value : Ended) (s : State H) (b : ℕ) (g : Given) → fs1 ≡ fs ++ f ∷ [] → fs2 ≡ fs1 ++ Expression expr levels ∷ [] → value ≡ ended 0 [] → give value (stack_next ns t fs2) s b g ≡ run_expression (nested ns t levels) (tree_of expr.value) (frame_next ns t f (stack_next ns t fs)) s b g
+  part_step fs fs1 fs2 f expr levels value s b g e1 e2 is =
+      expression_step fs1 fs2 expr levels value s b g e2 is
+      ∙ ap (λ (k : Next H). run_expression (nested ns t levels) (tree_of expr.value) k s b g) (pushed ns t fs fs1 f e1)
 
   -- an expression begins, behind a good end
   pub begun : (expr expr' : Expr) (levels code : ℕ) (result : List ℕ) (k : Next H) (s : State H) (b : ℕ) (g : Given) (x : Out H) → code ≡ 0 → expr ≡ expr' → x ≡ run_expression (nested ns t levels) (tree_of expr') k s b g → x ≡ on_ok (λ r. run_expression (nested ns t levels) (tree_of expr) k) k code result s b g
@@ -65,10 +64,10 @@ module _ {H : Type 0} (ns : Names) (t : LeafTable H) where
       ∙ sym (ap (λ (c : Bool). cond c (spent (state_of old)) (run_answer inner text (expression_of text) k (state_of old) (old.budget - 1) g)) (le-ltb old.budget 1 less))
 
   -- the text is an expression, which begins
-  pub read_step : (old paid : Engine H) (fs1 : List Frame) (expr expr' : Expr) (levels cost : ℕ) (text : List ℕ) (value : Ended) (g : Given) → cost ≡ 1 → cost ≤ old.budget → paid ≡ record old { budget = old.budget - cost } → Reads text (tree (tree_of expr)) → fs1 ≡ paid.stack.items ++ Expression expr' levels ∷ [] → expr' ≡ expr → value ≡ ended 0 [] → give value (stack_next ns t fs1) (state_of paid) paid.budget g ≡ evaluate (nested ns t levels) text (stack_next ns t old.stack.items) (state_of old) old.budget g
-  read_step old paid fs1 expr expr' levels cost text value g one enough is reads push same done =
-      evaluated (nested ns t levels) old paid cost text (tree (tree_of expr)) g _ one enough is reads
-      (expression_step paid.stack.items fs1 expr expr' levels value (state_of paid) paid.budget g push same done)
+  pub read_step : (old paid : Engine H) (fs1 : List Frame) (expr : _) (levels cost : ℕ) (text : List ℕ) (value : Ended) (g : Given) → cost ≡ 1 → cost ≤ old.budget → paid ≡ record old { budget = old.budget - cost } → fs1 ≡ paid.stack.items ++ Expression expr levels ∷ [] → Reads text (tree (tree_of expr.value)) → value ≡ ended 0 [] → give value (stack_next ns t fs1) (state_of paid) paid.budget g ≡ evaluate (nested ns t levels) text (stack_next ns t old.stack.items) (state_of old) old.budget g
+  read_step old paid fs1 expr levels cost text value g one enough is push reads done =
+      evaluated (nested ns t levels) old paid cost text (tree (tree_of expr.value)) g _ one enough is reads
+      (expression_step paid.stack.items fs1 expr levels value (state_of paid) paid.budget g push done)
 
   -- the text is none
   pub bad_step : (old paid : Engine H) (inner : Inner H) (cost at left : ℕ) (text message : List ℕ) (value : Ended) (g : Given) → cost ≡ 1 → cost ≤ old.budget → paid ≡ record old { budget = old.budget - cost } → at + left ≡ length text → Reads text (bad_from left) → message ≡ bad_expression at → value ≡ error_of message → give value (stack_next ns t paid.stack.items) (state_of paid) paid.budget g ≡ evaluate inner text (stack_next ns t old.stack.items) (state_of old) old.budget g
@@ -78,10 +77,6 @@ module _ {H : Type 0} (ns : Names) (t : LeafTable H) where
       (ap (λ (v : Ended). give v (stack_next ns t paid.stack.items) (state_of paid) paid.budget g) error
       ∙ ap (λ (m : List ℕ). give (error_of m) (stack_next ns t paid.stack.items) (state_of paid) paid.budget g) says
       ∙ ap (λ (n : ℕ). give (error_of (bad_expression n)) (stack_next ns t paid.stack.items) (state_of paid) paid.budget g) place)
-
-  -- an expression begins, on which all hangs
-  pub chosen_step : (old : Engine H) (fs1 : List Frame) (expr expr' : Expr) (levels : ℕ) (value : Ended) (g : Given) → fs1 ≡ old.stack.items ++ Expression expr' levels ∷ [] → expr' ≡ expr → value ≡ ended 0 [] → give value (stack_next ns t fs1) (state_of old) old.budget g ≡ run_expression (nested ns t levels) (tree_of expr) (stack_next ns t old.stack.items) (state_of old) old.budget g
-  chosen_step old fs1 expr expr' levels value g push same is = expression_step old.stack.items fs1 expr expr' levels value (state_of old) old.budget g push same is
 
   -- the value of the left operand is there
   pub left_step : (op : Op) (way : Way) (right : Expr) (left : List ℕ) (levels code : ℕ) (k : Next H) (s : State H) (b : ℕ) (g : Given) (x : Out H) → code ≡ 0 → way ≡ way_of op → x ≡ behind_left way left (run_expression (nested ns t levels) (tree_of right) (frame_next ns t (Right op left) k)) k s b g → x ≡ on_ok (λ v. behind_left (way_of op) v (run_expression (nested ns t levels) (tree_of right) (frame_next ns t (Right op v) k)) k) k code left s b g

@@ -6,6 +6,7 @@ use Rattle.std.proofs.lemmas.Option.{unwrap_or-slice_get}
 use Rattle.tcl_eval.specs.Eval.{arg}
 use Rattle.std.proofs.lemmas.Bool.{ltb-true, ltb-false}
 use Rattle.tcl_parse.specs.Tree.{Part, element, Parts, no_parts, part, Words, no_words, word, no_commands, command, parts, words, commands}
+use Rattle.tcl_expr.specs.View.{only_word}
 use Rattle.tcl_parse.specs.View.{part_step, command_step, script_step, word_step, part_of, word_of, command_of, script_of}
 use Rattle.tcl_parse.specs.Tree as tree
 use Rattle.tcl_parse.specs.declared.tree.Script as code_script
@@ -192,3 +193,10 @@ pub first_is : (ws : List (List ℕ)) (first name : List ℕ) → Some first ≡
 first_is [] first name there same = absurd (cc)
 first_is (w ∷ ws) first name there same =
     ap (λ (o : Option (List ℕ)). unwrap_or o name ∷ ws) (sym there) ∙ ap (λ (n : List ℕ). n ∷ ws) ((bytes_eq-Decides first name).0 same)
+
+-- ---- a script that is one word
+
+pub only_parts : (s : tree.Script) → first_word (words_from 0 (command_at 0 (commands s))) ≡ parts (only_word s)
+only_parts [] = refl
+only_parts ([] ∷ cs) = refl
+only_parts ((w ∷ ws) ∷ cs) = refl

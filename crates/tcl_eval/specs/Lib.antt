@@ -28,3 +28,4 @@ pub mod Places
 pub mod Kept
 pub mod Simple
 pub mod Stack
+pub mod ExprReadings

@@ -51,7 +51,7 @@ module _ {H : Type 0} (names : Names) (table : LeafTable H) where
   frame_next Result k = command_end k
   frame_next Procedure k = proc_end k
   frame_next (Caught name) k = catch_end name k
-  frame_next (Expression expr levels) k = on_ok (λ result. run_expression (nested names table levels) (expression_tree expr) k) k
+  frame_next (Expression expr levels) k = on_ok (λ result. run_expression (nested names table levels) (expression_tree expr.value) k) k
   frame_next (Operation op) k = on_ok (λ operand. give (with_one op operand) k) k
   frame_next (Left op right levels) k =
       on_ok (λ left. behind_left (way_of op) left (run_expression (nested names table levels) (expression_tree right.value) (on_ok (λ value. give (with_two op left value) k) k)) k) k
@@ -101,7 +101,7 @@ frame_weight (Index array) = 1
 frame_weight Result = 1
 frame_weight Procedure = 1
 frame_weight (Caught name) = 1
-frame_weight (Expression expr levels) = tree_size (expression_tree expr)
+frame_weight (Expression expr levels) = tree_size (expression_tree expr.value)
 frame_weight (Operation op) = 1
 frame_weight (Left op right levels) = tree_size (expression_tree right.value) + 2
 frame_weight (Right op left) = 1

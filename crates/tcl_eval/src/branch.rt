@@ -4,6 +4,7 @@ ghost use Rattle.std.specs.Prelude.{◌≡◌, ◌+◌, ◌++◌, ◌∷◌, [],
 ghost use Rattle.tcl_eval.specs.Branches.{from_condition, last_body};
 ghost use Rattle.tcl_eval.specs.BranchesSeen.{without_then, clauses_before};
 
+use crate::read_expr::ReadExpr;
 use adp_parse::PieceList;
 use parse_cache::ReadScript;
 use std::alloc::Global;
@@ -17,11 +18,11 @@ pub struct Branches {
     pub last: Option<Text>,
 }
 
-/// A `while` or a `for`: its condition, the script between two turns, which a `while` hasn't, and its
+/// A `while` or a `for`: its condition, which is read once, the script between two turns, which a `while` hasn't, and its
 /// body. Scripts are read once, whether or not they come to run.
 #[derive(Debug, Drop)]
 pub struct Turning {
-    pub condition: Text,
+    pub condition: ReadExpr,
     pub next: Option<ReadScript>,
     pub body: ReadScript,
 }

@@ -1,30 +1,33 @@
 //! Expressions under way.
 
 ghost use Rattle.std.specs.Prelude.{◌≡◌, ◌<◌, ◌≤◌, ◌+◌, IfOk, OnOk, Option};
+ghost use Rattle.tcl_expr.specs.Trees.{binary, choice};
 ghost use Rattle.tcl_expr.specs.View.{tree_of};
 ghost use Rattle.tcl_eval.specs.Natives.{Names};
 ghost use Rattle.tcl_eval.specs.Messages.{no_boolean};
-ghost use Rattle.tcl_eval.specs.Eval.{nested, ended, error_of};
+ghost use Rattle.tcl_eval.specs.Eval.{nested, ended, error_of, give};
 ghost use Rattle.tcl_eval.specs.Expressions.{behind_left, run_expression, evaluate, do_expr};
 ghost use Rattle.tcl_eval.specs.Places.{tree_size};
 ghost use Rattle.tcl_eval.specs.Stack.{frame_next, step_next, frame_weight, stack_weight, step_weight, frame_free, step_free};
-ghost use Rattle.tcl_eval.specs.Engine.{Holds, Same, Stays, Opens, Enters, Lower, acted_next, credit};
+ghost use Rattle.tcl_eval.specs.Engine.{Holds, Same, Stays, Keeps, Opens, Enters, Lower, acted_next, credit};
 ghost use Rattle.tcl_eval.specs.declared.stack.Frame.{Frame};
 ghost use Rattle.tcl_eval.specs.declared.stack.Step.{Step};
 ghost use Rattle.tcl_eval.specs.declared.engine.OpenQuestion.{OpenQuestion};
 
 use crate::engine::Engine;
+use crate::expr_reading::ExprReading;
 use crate::gather::SoFar;
 use crate::message::{bad_expression, no_boolean};
 use crate::operation::{Way, way_of, with_one, with_two};
-use crate::place::alone;
+use crate::place::first_piece;
+use crate::read_expr::ReadExpr;
 use crate::stack::{Acted, Ended, Frame, Step};
 use crate::value::{done, error, wrong_words};
 use crate::words::{behind_name, joined};
-use std::boxed::Box;
-use tcl_expr::{Expr, ExprText, Op, expression_value, parse_expr};
+use std::rc::Rc;
+use tcl_expr::{Expr, Op, expression_value};
 use tcl_host::{Host, OK};
-use tcl_parse::Piece;
+use tcl_parse::Script;
 use txt_core::{NoMemory, Text, Words, read_truth};
 
 /// What an evaluation of an expression costs.
@@ -33,38 +36,76 @@ const EVALUATION_COST: u128 = 1;
 #[tactic(auto, using(crate::proofs::Stacks::frees_push))]
 impl<H: Host> Engine<H> {
     /// Goes on with a word of an expression.
-    fn enter_operand(&self, pieces: Vec<Piece>, levels: u32) -> Result<Step, NoMemory>
-        ensures means { IfOk result (λ step. (names : Names) → Same names H.table self.now self.now (step_next names H.table step) (run_expression (nested names H.table levels) (tree_of (Expr.Word pieces)))) }
-        ensures weighs { IfOk result (λ step. step_weight step < tree_size (tree_of (Expr.Word pieces))) }
-        ensures free { IfOk result (λ step. step_free step ≡ 0) }
+    fn enter_operand(&self, word: Rc<Script>, levels: u32) -> Step
+        ensures means { (names : Names) → Same names H.table self.now self.now (step_next names H.table result) (run_expression (nested names H.table levels) (tree_of (Expr.Word word))) }
+        ensures weighs { step_weight result < tree_size (tree_of (Expr.Word word)) }
+        ensures free { step_free result ≡ 0 }
     {
-        let place = alone(self.alloc, pieces)?;
-        Ok(Step::Pieces {
-            place,
+        Step::Pieces {
+            place: first_piece(self.alloc, word),
             so_far: SoFar::Kept(Text::empty(self.alloc)),
             levels,
-        })
+        }
     }
 
     /// Goes on with a part of an expression, for whose value this frame waits.
-    fn enter_part(&mut self, frame: Frame, part: Box<Expr>, levels: u32) -> Result<Step, NoMemory>
+    fn enter_part(&mut self, frame: Frame, part: Rc<Expr>, levels: u32) -> Result<Step, NoMemory>
         ensures means { IfOk result (λ step. (names : Names) → Same names H.table self.new self.old (step_next names H.table step) (λ k. run_expression (nested names H.table levels) (tree_of part.value) (frame_next names H.table frame k))) }
         ensures weighs { IfOk result (λ step. stack_weight self.new.stack.items + step_weight step ≤ stack_weight self.old.stack.items + (frame_weight frame + tree_size (tree_of part.value))) }
         ensures keeps { IfOk result (λ step. frame_free frame ≡ 0 → Stays step self.new self.old) }
         ensures holds { Holds self.new self.old }
     {
         self.stack.push(frame)?;
-        self.stack.push(Frame::Expression {
-            expr: Box::into_inner(part),
-            levels,
-        })?;
+        self.stack.push(Frame::Expression { expr: part, levels })?;
         Ok(Step::Value(done(self.alloc)))
+    }
+
+    /// Goes on with the left operand of an operator.
+    fn enter_left(
+        &mut self,
+        op: Op,
+        left: &Rc<Expr>,
+        right: &Rc<Expr>,
+        levels: u32,
+    ) -> Result<Step, NoMemory>
+        ensures means { IfOk result (λ step. (names : Names) → Same names H.table self.new self.old (step_next names H.table step) (run_expression (nested names H.table levels) (binary op (tree_of left.now.value) (tree_of right.now.value)))) }
+        ensures weighs { IfOk result (λ step. stack_weight self.new.stack.items + step_weight step < stack_weight self.old.stack.items + tree_size (binary op (tree_of left.now.value) (tree_of right.now.value))) }
+        ensures keeps { IfOk result (λ step. Stays step self.new self.old) }
+        ensures holds { Holds self.new self.old }
+    {
+        let left = left.clone()?;
+        let right = right.clone()?;
+        let step = self.enter_part(Frame::Left { op, right, levels }, left, levels)?;
+        Ok(step)
+    }
+
+    /// Goes on with the test of a choice.
+    fn enter_test(
+        &mut self,
+        test: &Rc<Expr>,
+        first: &Rc<Expr>,
+        second: &Rc<Expr>,
+        levels: u32,
+    ) -> Result<Step, NoMemory>
+        ensures means { IfOk result (λ step. (names : Names) → Same names H.table self.new self.old (step_next names H.table step) (run_expression (nested names H.table levels) (choice (tree_of test.now.value) (tree_of first.now.value) (tree_of second.now.value)))) }
+        ensures weighs { IfOk result (λ step. stack_weight self.new.stack.items + step_weight step < stack_weight self.old.stack.items + tree_size (choice (tree_of test.now.value) (tree_of first.now.value) (tree_of second.now.value))) }
+        ensures keeps { IfOk result (λ step. Stays step self.new self.old) }
+        ensures holds { Holds self.new self.old }
+    {
+        let test = test.clone()?;
+        let frame = Frame::Choice {
+            first: first.clone()?,
+            second: second.clone()?,
+            levels,
+        };
+        let step = self.enter_part(frame, test, levels)?;
+        Ok(step)
     }
 
     /// Evaluates an expression.
     pub(crate) fn give_expression(
         &mut self,
-        expr: Expr,
+        expr: Rc<Expr>,
         levels: u32,
         value: Ended,
     ) -> Result<Step, NoMemory>
@@ -76,27 +117,26 @@ impl<H: Host> Engine<H> {
         if value.code != OK {
             return Ok(Step::Value(value));
         }
-        match expr {
-            Expr::Value(result) => Ok(Step::Value(Ended { code: OK, result })),
-            Expr::Word(pieces) => {
-                let step = self.enter_operand(pieces, levels)?;
-                Ok(step)
+        match &*expr {
+            Expr::Value(text) => {
+                let result = text.copy(self.alloc)?;
+                Ok(Step::Value(Ended { code: OK, result }))
+            }
+            Expr::Word(word) => {
+                let word = word.clone()?;
+                Ok(self.enter_operand(word, levels))
             }
             Expr::Unary(op, operand) => {
-                let step = self.enter_part(Frame::Operation { op }, operand, levels)?;
+                let operand = operand.clone()?;
+                let step = self.enter_part(Frame::Operation { op: *op }, operand, levels)?;
                 Ok(step)
             }
             Expr::Binary(op, left, right) => {
-                let step = self.enter_part(Frame::Left { op, right, levels }, left, levels)?;
+                let step = self.enter_left(*op, left, right, levels)?;
                 Ok(step)
             }
             Expr::Choice(test, first, second) => {
-                let frame = Frame::Choice {
-                    first,
-                    second,
-                    levels,
-                };
-                let step = self.enter_part(frame, test, levels)?;
+                let step = self.enter_test(test, first, second, levels)?;
                 Ok(step)
             }
         }
@@ -118,7 +158,7 @@ impl<H: Host> Engine<H> {
         &mut self,
         op: Op,
         left: Text,
-        right: Box<Expr>,
+        right: Rc<Expr>,
         levels: u32,
     ) -> Result<Step, NoMemory>
         ensures means { IfOk result (λ step. (names : Names) → Same names H.table self.new self.old (step_next names H.table step) (λ k. run_expression (nested names H.table levels) (tree_of right.value) (frame_next names H.table (Frame.Right op left) k))) }
@@ -152,7 +192,7 @@ impl<H: Host> Engine<H> {
         way: Way,
         op: Op,
         left: Text,
-        right: Box<Expr>,
+        right: Rc<Expr>,
         levels: u32,
     ) -> Result<Step, NoMemory>
         ensures means { IfOk result (λ step. (names : Names) → Same names H.table self.new self.old (step_next names H.table step) (λ k. behind_left way left (run_expression (nested names H.table levels) (tree_of right.value) (frame_next names H.table (Frame.Right op left) k)) k)) }
@@ -200,7 +240,7 @@ impl<H: Host> Engine<H> {
     pub(crate) fn give_left(
         &mut self,
         op: Op,
-        right: Box<Expr>,
+        right: Rc<Expr>,
         levels: u32,
         value: Ended,
     ) -> Result<Step, NoMemory>
@@ -228,24 +268,21 @@ impl<H: Host> Engine<H> {
     }
 
     /// Goes on with a part of an expression, whose value is that of the whole.
-    fn enter_chosen(&mut self, part: Box<Expr>, levels: u32) -> Result<Step, NoMemory>
+    fn enter_chosen(&mut self, part: Rc<Expr>, levels: u32) -> Result<Step, NoMemory>
         ensures means { IfOk result (λ step. (names : Names) → Same names H.table self.new self.old (step_next names H.table step) (run_expression (nested names H.table levels) (tree_of part.value))) }
         ensures weighs { IfOk result (λ step. stack_weight self.new.stack.items + step_weight step ≤ stack_weight self.old.stack.items + tree_size (tree_of part.value)) }
         ensures keeps { IfOk result (λ step. Stays step self.new self.old) }
         ensures holds { Holds self.new self.old }
     {
-        self.stack.push(Frame::Expression {
-            expr: Box::into_inner(part),
-            levels,
-        })?;
+        self.stack.push(Frame::Expression { expr: part, levels })?;
         Ok(Step::Value(done(self.alloc)))
     }
 
     /// Goes on with the part that is chosen.
     pub(crate) fn give_choice(
         &mut self,
-        first: Box<Expr>,
-        second: Box<Expr>,
+        first: Rc<Expr>,
+        second: Rc<Expr>,
         levels: u32,
         value: Ended,
     ) -> Result<Step, NoMemory>
@@ -287,8 +324,8 @@ impl<H: Host> Engine<H> {
         }))
     }
 
-    /// Pays for the evaluation of a text as an expression, which is then read and begins.
-    pub(crate) fn evaluate(&mut self, text: &Text, levels: u32) -> Result<Acted, NoMemory>
+    /// Pays for the evaluation of a text as an expression, which then begins.
+    pub(crate) fn evaluate_read(&mut self, text: &ReadExpr, levels: u32) -> Result<Acted, NoMemory>
         ensures means { IfOk result (λ acted. (names : Names) (opened : Option OpenQuestion) → Same names H.table self.new self.old (acted_next names H.table acted opened) (evaluate (nested names H.table levels) text.now)) }
         ensures lower { OnOk result (Lower self.new self.old 0) }
         ensures opens { IfOk result (λ acted. Opens acted self.new self.old) }
@@ -298,17 +335,40 @@ impl<H: Host> Engine<H> {
         if !self.pay(EVALUATION_COST) {
             return Ok(Acted::Spent);
         }
-        match parse_expr(self.alloc, text) {
-            Err(ExprText::NoMemory) => Err(NoMemory),
-            Err(ExprText::Bad { at }) => {
-                let message = bad_expression(self.alloc, at)?;
+        match text.reading() {
+            ExprReading::Bad { at } => {
+                let message = bad_expression(self.alloc, *at)?;
                 Ok(Acted::Gives(error(self.alloc, message)?))
             }
-            Ok(expr) => {
-                self.stack.push(Frame::Expression { expr, levels })?;
-                Ok(Acted::Gives(done(self.alloc)))
+            ExprReading::Good(expr) => {
+                let ended = self.begin_expression(expr, levels)?;
+                Ok(Acted::Gives(ended))
             }
         }
+    }
+
+    /// Begins an expression: this is what its frame gets, which is put on top.
+    fn begin_expression(&mut self, expr: &Rc<Expr>, levels: u32) -> Result<Ended, NoMemory>
+        ensures means { IfOk result (λ ended. (names : Names) → Same names H.table self.new self.old (give ended) (run_expression (nested names H.table levels) (tree_of expr.now.value))) }
+        ensures keeps { OnOk result (Keeps self.new self.old) }
+        ensures holds { Holds self.new self.old }
+    {
+        let expr = expr.clone()?;
+        self.stack.push(Frame::Expression { expr, levels })?;
+        Ok(done(self.alloc))
+    }
+
+    /// Pays for the evaluation of a text as an expression, which is then read and begins.
+    pub(crate) fn evaluate(&mut self, text: &Text, levels: u32) -> Result<Acted, NoMemory>
+        ensures means { IfOk result (λ acted. (names : Names) (opened : Option OpenQuestion) → Same names H.table self.new self.old (acted_next names H.table acted opened) (evaluate (nested names H.table levels) text.now)) }
+        ensures lower { OnOk result (Lower self.new self.old 0) }
+        ensures opens { IfOk result (λ acted. Opens acted self.new self.old) }
+        ensures enters { IfOk result (λ acted. Enters acted (credit self.new + 2 ≤ credit self.old)) }
+        ensures holds { Holds self.new self.old }
+    {
+        let read = ReadExpr::new(self.alloc, text.copy(self.alloc)?)?;
+        let acted = self.evaluate_read(&read, levels)?;
+        Ok(acted)
     }
 
     /// `expr word word*`.

@@ -14,6 +14,7 @@ ghost use Rattle.tcl_eval.specs.declared.engine.OpenQuestion.{OpenQuestion};
 use crate::branch::{Branch, Turning, Walk, place_behind};
 use crate::engine::Engine;
 use crate::message::no_boolean;
+use crate::read_expr::read_word;
 use crate::stack::{Acted, Ended, Frame};
 use crate::value::{done, wrong_words};
 use crate::words::{copy_word, word_at};
@@ -95,7 +96,7 @@ impl<H: Host> Engine<H> {
             turns: left - 1,
             levels,
         }))?;
-        let acted = self.evaluate(&turning.condition, levels)?;
+        let acted = self.evaluate_read(&turning.condition, levels)?;
         Ok(acted)
     }
 
@@ -121,7 +122,7 @@ impl<H: Host> Engine<H> {
         if words.len() != 3 {
             return Ok(Acted::Gives(wrong_words(self.alloc, words)?));
         }
-        let condition = copy_word(self.alloc, words, 1)?;
+        let condition = read_word(self.alloc, words, 1)?;
         let body = self.readings.read_word(self.alloc, words, 2)?;
         let turning = Turning {
             condition,
@@ -143,7 +144,7 @@ impl<H: Host> Engine<H> {
             return Ok(Acted::Gives(wrong_words(self.alloc, words)?));
         }
         let start = copy_word(self.alloc, words, 1)?;
-        let condition = copy_word(self.alloc, words, 2)?;
+        let condition = read_word(self.alloc, words, 2)?;
         let next = self.readings.read_word(self.alloc, words, 3)?;
         let body = self.readings.read_word(self.alloc, words, 4)?;
         let turning = Turning {

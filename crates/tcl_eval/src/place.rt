@@ -2,14 +2,15 @@
 
 ghost use Rattle.std.specs.Prelude.{◌≡◌, ◌<◌, ◌+◌, ◌^◌, MatchOption, IfOk, IsSome, IsTrue, map, slice_get};
 ghost use Rattle.tcl_parse.specs.Tree.{parts, no_parts, word, words, no_words};
-ghost use Rattle.tcl_parse.specs.View.{part_of, word_of};
+ghost use Rattle.tcl_parse.specs.View.{part_of, script_of, word_of};
+ghost use Rattle.tcl_expr.specs.View.{only_word};
 ghost use Rattle.std.specs.Option.{option_copied};
 ghost use Rattle.tcl_eval.specs.Places.{tree_of, word_parts, inside, parts_from, walk, place_parts, command_at, words_from, behind, index_of, HasCommand, HasWord};
 ghost use Rattle.tcl_eval.specs.SeenPieces.{SeenAs, SeenAt};
 
 use std::alloc::Global;
 use std::rc::Rc;
-use tcl_parse::{Command, Piece, Script, Word};
+use tcl_parse::{Piece, Script, Word};
 use txt_core::{NoMemory, Text};
 
 /// A place among the pieces of a word, or of an index within it: the word's command and its own place
@@ -66,19 +67,17 @@ fn word_pieces(script: &Script, at: usize, word: usize) -> &[Piece]
     }
 }
 
-/// The first of these pieces, as those of a word that stands alone.
-pub fn alone(alloc: Global, pieces: Vec<Piece>) -> Result<Place, NoMemory>
-    ensures { IfOk result (λ place. place_parts place ≡ parts (map part_of pieces.items)) }
+/// The first piece of a script's first word.
+pub fn first_piece(alloc: Global, script: Rc<Script>) -> Place
+    ensures { place_parts result ≡ parts (only_word (script_of script.value)) }
 {
-    let words = vec![in alloc; Word { pieces }]?;
-    let commands = vec![in alloc; Command { words }]?;
-    Ok(Place {
-        script: Rc::new(alloc, Script { commands })?,
+    Place {
+        script,
         command: 0,
         word: 0,
         path: Vec::new(alloc),
         next: 0,
-    })
+    }
 }
 
 /// The pieces of the word at a place of a command, if it has one there.

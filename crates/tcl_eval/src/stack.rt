@@ -4,7 +4,6 @@ use crate::branch::Branch;
 use crate::gather::{Gathered, SoFar};
 use crate::place::Place;
 use outside::Question;
-use std::boxed::Box;
 use std::rc::Rc;
 use tcl_expr::{Expr, Op};
 use tcl_parse::Script;
@@ -63,7 +62,7 @@ pub enum Frame {
     },
     /// An expression, which is evaluated once it gets a good end.
     Expression {
-        expr: Expr,
+        expr: Rc<Expr>,
         levels: u32,
     },
     /// A unary operator, which waits for its operand.
@@ -73,7 +72,7 @@ pub enum Frame {
     /// A binary operator, which waits for its left operand.
     Left {
         op: Op,
-        right: Box<Expr>,
+        right: Rc<Expr>,
         levels: u32,
     },
     /// A binary operator, which waits for its right operand.
@@ -83,8 +82,8 @@ pub enum Frame {
     },
     /// A choice within an expression, which waits for its first part.
     Choice {
-        first: Box<Expr>,
-        second: Box<Expr>,
+        first: Rc<Expr>,
+        second: Rc<Expr>,
         levels: u32,
     },
     /// An `expr` under way.

@@ -1,22 +1,22 @@
 //! An expression as a tree.
 
 use crate::operator::Op;
-use std::boxed::Box;
-use tcl_parse::Piece;
+use std::rc::Rc;
+use tcl_parse::Script;
 use txt_core::Text;
 
-/// An expression.
+/// An expression, whose parts can be shared.
 #[derive(Debug, Drop)]
 pub enum Expr {
     /// A number or one of the six words of truth, as it stands.
     Value(Text),
-    /// A word in quotes or braces, a variable, an element or a bracket: the pieces whose values are
-    /// joined.
-    Word(Vec<Piece>),
+    /// A word in quotes or braces, a variable, an element or a bracket, as a script that is this word
+    /// alone: the pieces whose values are joined.
+    Word(Rc<Script>),
     /// A unary operator and its operand.
-    Unary(Op, Box<Expr>),
+    Unary(Op, Rc<Expr>),
     /// A binary operator between two operands.
-    Binary(Op, Box<Expr>, Box<Expr>),
+    Binary(Op, Rc<Expr>, Rc<Expr>),
     /// `x ? y : z`.
-    Choice(Box<Expr>, Box<Expr>, Box<Expr>),
+    Choice(Rc<Expr>, Rc<Expr>, Rc<Expr>),
 }

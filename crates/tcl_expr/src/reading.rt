@@ -1,7 +1,8 @@
 //! Reading an expression from left to right.
 
-ghost use Rattle.std.specs.Prelude.{◌≡◌, ◌<◌, ◌≤◌, ◌∷◌, ℕ, List, length, IfOk, IfSome, MatchOption};
-ghost use Rattle.tcl_expr.specs.Trees.{unary, binary, choice};
+ghost use Rattle.std.specs.Prelude.{◌≡◌, ◌<◌, ◌≤◌, ◌∷◌, ℕ, List, length, map, IfOk, IfSome, MatchOption};
+ghost use Rattle.tcl_parse.specs.View.{part_of};
+ghost use Rattle.tcl_expr.specs.Trees.{word, unary, binary, choice};
 ghost use Rattle.tcl_expr.specs.Outcome.{Outcome, done};
 ghost use Rattle.tcl_expr.specs.Tokens.{level, loosest, next_operator};
 ghost use Rattle.tcl_expr.specs.Grammar.{behind_backslash, InParens, SignedAt, LevelAt, ExpressionBy, run_operand};
@@ -16,8 +17,8 @@ use crate::operator::Op;
 use crate::run::{is_word, names_value, split_run, value_front};
 use crate::token::{level, next_colon, next_operator, next_question, next_sign, skip, stuck};
 use std::alloc::Global;
-use std::boxed::Box;
-use tcl_parse::{Kind, Word, read_enclosed, read_substitution};
+use std::rc::Rc;
+use tcl_parse::{Command, Kind, Piece, Script, Word, read_enclosed, read_substitution};
 use txt_core::{MOST_NESTED, NoMemory, Text};
 
 /// How many operators an expression may have, with its question marks.
@@ -72,6 +73,15 @@ fn bad_word(bytes: &[u8], fault: tcl_parse::Stop) -> Stop
     }
 }
 
+/// A word of these pieces.
+fn word_expression(alloc: Global, pieces: Vec<Piece>) -> Result<Expr, NoMemory>
+    ensures { IfOk result (λ e. tree_of e ≡ word (map part_of pieces.items)) }
+{
+    let words = vec![in alloc; Word { pieces }]?;
+    let commands = vec![in alloc; Command { words }]?;
+    Ok(Expr::Word(Rc::new(alloc, Script { commands })?))
+}
+
 /// A word in quotes or braces.
 fn enclosed(alloc: Global, left: u32, bytes: &[u8]) -> Result<Option<(Expr, u32, &[u8])>, Stop>
     ensures same { GivesAny (λ x. tree_of x.0) (λ x. x.1) (λ x. x.2.now) result (WordGives left bytes.now) }
@@ -82,7 +92,8 @@ fn enclosed(alloc: Global, left: u32, bytes: &[u8]) -> Result<Option<(Expr, u32,
         Ok(None) => Ok(None),
         Ok(Some((word, rest))) => {
             let Word { pieces } = word;
-            Ok(Some((Expr::Word(pieces), left, skip(rest))))
+            let expr = word_expression(alloc, pieces)?;
+            Ok(Some((expr, left, skip(rest))))
         }
     }
 }
@@ -98,7 +109,8 @@ fn substituted(alloc: Global, left: u32, bytes: &[u8]) -> Result<(Expr, u32, &[u
         Ok(Some((piece, rest))) => {
             let mut pieces = Vec::new(alloc);
             pieces.push(piece)?;
-            Ok((Expr::Word(pieces), left, skip(rest)))
+            let expr = word_expression(alloc, pieces)?;
+            Ok((expr, left, skip(rest)))
         }
     }
 }
@@ -202,7 +214,7 @@ fn signed(alloc: Global, room: u32, left: u32, bytes: &[u8]) -> Result<(Expr, u3
 fn unary(alloc: Global, op: Op, operand: Expr) -> Result<Expr, NoMemory>
     ensures { IfOk result (λ e. tree_of e ≡ unary op (tree_of operand)) }
 {
-    Ok(Expr::Unary(op, Box::new(alloc, operand)?))
+    Ok(Expr::Unary(op, Rc::new(alloc, operand)?))
 }
 
 /// Puts unary operators before an operand, the last one nearest.
@@ -221,8 +233,8 @@ fn binary(alloc: Global, waiting: Pending, right: Expr) -> Result<Expr, NoMemory
     ensures { IfOk result (λ e. tree_of e ≡ binary waiting.op (tree_of waiting.tree) (tree_of right)) }
 {
     let Pending { op, tree } = waiting;
-    let left = Box::new(alloc, tree)?;
-    Ok(Expr::Binary(op, left, Box::new(alloc, right)?))
+    let left = Rc::new(alloc, tree)?;
+    Ok(Expr::Binary(op, left, Rc::new(alloc, right)?))
 }
 
 /// Takes what waits last, where its operator binds as tightly as this level or tighter.
@@ -313,9 +325,9 @@ fn choice(alloc: Global, room: u32, left: u32, bytes: &[u8]) -> Result<(Expr, u3
 fn chosen(alloc: Global, test: Expr, middle: Expr, last: Expr) -> Result<Expr, NoMemory>
     ensures { IfOk result (λ e. tree_of e ≡ choice (tree_of test) (tree_of middle) (tree_of last)) }
 {
-    let test = Box::new(alloc, test)?;
-    let middle = Box::new(alloc, middle)?;
-    Ok(Expr::Choice(test, middle, Box::new(alloc, last)?))
+    let test = Rc::new(alloc, test)?;
+    let middle = Rc::new(alloc, middle)?;
+    Ok(Expr::Choice(test, middle, Rc::new(alloc, last)?))
 }
 
 /// Joins the choices whose last part has been read, up to the one that waits for its middle.

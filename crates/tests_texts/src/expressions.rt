@@ -4,9 +4,20 @@ use std::alloc::Global;
 use tcl_expr::{
     Expr, ExprFault, ExprText, Op, apply_binary, apply_unary, expression_value, parse_expr,
 };
-use tcl_parse::Piece;
+use tcl_parse::{Piece, Script};
 use test_rows::{Answer, find};
 use txt_core::{Text, read_truth};
+
+/// The pieces of the only word of a script.
+fn pieces_of(word: &Script) -> &[Piece] {
+    match word.commands.as_slice().first() {
+        None => &[],
+        Some(command) => match command.words.as_slice().first() {
+            None => &[],
+            Some(word) => word.pieces.as_slice(),
+        },
+    }
+}
 
 /// The bytes of a word without substitutions.
 fn word_text(alloc: Global, pieces: &[Piece]) -> Result<Text, ExprFault> {
@@ -23,7 +34,7 @@ fn word_text(alloc: Global, pieces: &[Piece]) -> Result<Text, ExprFault> {
 fn evaluated(alloc: Global, expr: &Expr) -> Result<Text, ExprFault> {
     match expr {
         Expr::Value(text) => Ok(Text::new(alloc, text.bytes())?),
-        Expr::Word(pieces) => word_text(alloc, pieces),
+        Expr::Word(word) => word_text(alloc, pieces_of(word)),
         Expr::Unary(op, x) => apply_unary(alloc, *op, &evaluated(alloc, x)?),
         Expr::Binary(op, x, y) => {
             let x = evaluated(alloc, x)?;

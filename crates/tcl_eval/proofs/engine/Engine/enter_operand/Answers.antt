@@ -11,9 +11,9 @@ pub returns-clause-means : goal.returns-clause-means
 returns-clause-means g c = λ ns gv.
     let t = g.H.Host.table in
     let e = c.args.self.now in
-    operand_step (nested ns t c.args.levels) _ _ _ (stack_next ns t e.stack.items) (state_of e) e.budget gv c.in_ok-place.ensures c.empty.ensures
+    operand_step (nested ns t c.args.levels) _ _ _ (stack_next ns t e.stack.items) (state_of e) e.budget gv c.first_piece.ensures c.empty.ensures
 
 pub returns-clause-weighs : goal.returns-clause-weighs
 returns-clause-weighs g c =
-    let same = ap (λ (p : Parts). parts_size p) c.in_ok-place.ensures in
+    let same = ap (λ (p : Parts). parts_size p) c.first_piece.ensures in
     omega (arith, same)

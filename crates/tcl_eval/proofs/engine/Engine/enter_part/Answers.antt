@@ -1,7 +1,4 @@
-use Rattle.std.proofs.Common.{ap, arith}
-use Rattle.tcl_expr.specs.declared.expr.Expr.{Expr}
-use Rattle.tcl_expr.specs.View.{tree_of}
-use Rattle.tcl_eval.specs.Places.{tree_size}
+use Rattle.std.proofs.Common.{arith}
 use Rattle.tcl_eval.specs.Engine.{state_of}
 use Rattle.tcl_eval.proofs.Stacks.{weighed}
 use Rattle.tcl_eval.proofs.Expressions.{part_step}
@@ -10,11 +7,10 @@ use Rattle.tcl_eval.proofs.engine.Engine.enter_part.Goals as goal
 pub returns-clause-means : goal.returns-clause-means
 returns-clause-means g c = λ ns gv.
     let e = c.args.self.now in
-    part_step ns g.H.Host.table e.stack.items c.push.new.self.items c.push-2.new.self.items c.args.frame c.args.part.value c.into_inner.result c.args.levels c.done.result (state_of e) e.budget gv c.in_ok-push.ensures.items c.in_ok-push-2.ensures.items c.into_inner.ensures c.done.ensures
+    part_step ns g.H.Host.table e.stack.items c.push.new.self.items c.push-2.new.self.items c.args.frame c.args.part c.args.levels c.done.result (state_of e) e.budget gv c.in_ok-push.ensures.items c.in_ok-push-2.ensures.items c.done.ensures
 
 pub returns-clause-weighs : goal.returns-clause-weighs
 returns-clause-weighs g c =
     let e1 = weighed _ _ _ c.in_ok-push.ensures.items in
     let e2 = weighed _ _ _ c.in_ok-push-2.ensures.items in
-    let same = ap (λ (x : Expr). tree_size (tree_of x)) c.into_inner.ensures in
-    omega (arith, e1, e2, same)
+    omega (arith, e1, e2)

@@ -1,0 +1,16 @@
+use Rattle.std.proofs.Common.{◌∙◌, ap}
+use Rattle.tcl_expr.specs.View.{tree_of}
+use Rattle.tcl_expr.specs.declared.expr.Expr.{Expr}
+use Rattle.tcl_eval.specs.Eval.{nested}
+use Rattle.tcl_eval.specs.Expressions.{run_expression}
+use Rattle.tcl_eval.specs.Stack.{stack_next}
+use Rattle.tcl_eval.specs.Engine.{state_of}
+use Rattle.tcl_eval.proofs.Expressions.{expression_step}
+use Rattle.tcl_eval.proofs.engine.Engine.begin_expression.Goals as goal
+
+pub returns-clause-means : goal.returns-clause-means
+returns-clause-means g c = λ ns gv.
+    let t = g.H.Host.table in
+    let e = c.args.self.now in
+    expression_step ns t e.stack.items c.push.new.self.items c.in_ok-expr.expr c.args.levels c.done.result (state_of e) e.budget gv c.in_ok-push.ensures.items c.done.ensures
+    ∙ ap (λ (x : Expr). run_expression (nested ns t c.args.levels) (tree_of x) (stack_next ns t e.stack.items) (state_of e) e.budget gv) c.in_ok-expr.ensures.cases
