@@ -1,5 +1,6 @@
 pub mod Acts
 pub mod Alike
+pub mod AtOnce
 pub mod Bases
 pub mod Branches
 pub mod Every
@@ -17,3 +18,4 @@ pub mod Rows
 pub mod Plain
 pub mod Stacks
 pub mod Steps
+pub mod Values

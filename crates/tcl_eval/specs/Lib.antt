@@ -28,4 +28,5 @@ pub mod Places
 pub mod Kept
 pub mod Simple
 pub mod Stack
+pub mod AtOnce
 pub mod ExprReadings

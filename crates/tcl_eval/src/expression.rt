@@ -21,6 +21,7 @@ use crate::message::{bad_expression, no_boolean};
 use crate::operation::{Way, way_of, with_one, with_two};
 use crate::place::first_piece;
 use crate::read_expr::ReadExpr;
+use crate::simple_value::simple_value;
 use crate::stack::{Acted, Ended, Frame, Step};
 use crate::value::{done, error, wrong_words};
 use crate::words::{behind_name, joined};
@@ -32,6 +33,9 @@ use txt_core::{NoMemory, Text, Words, read_truth};
 
 /// What an evaluation of an expression costs.
 const EVALUATION_COST: u128 = 1;
+
+/// How deep parts of an expression may stand in one another that is evaluated at once.
+const MOST_AT_ONCE: u32 = 60;
 
 #[tactic(auto, using(crate::proofs::Stacks::frees_push))]
 impl<H: Host> Engine<H> {
@@ -324,7 +328,8 @@ impl<H: Host> Engine<H> {
         }))
     }
 
-    /// Pays for the evaluation of a text as an expression, which then begins.
+    /// Pays for the evaluation of a text as an expression, which then begins. One that can't be suspended
+    /// has ended at once.
     pub(crate) fn evaluate_read(&mut self, text: &ReadExpr, levels: u32) -> Result<Acted, NoMemory>
         ensures means { IfOk result (λ acted. (names : Names) (opened : Option OpenQuestion) → Same names H.table self.new self.old (acted_next names H.table acted opened) (evaluate (nested names H.table levels) text.now)) }
         ensures lower { OnOk result (Lower self.new self.old 0) }
@@ -347,15 +352,21 @@ impl<H: Host> Engine<H> {
         }
     }
 
-    /// Begins an expression: this is what its frame gets, which is put on top.
+    /// Begins an expression: this is what it comes to, where it can't be suspended, and else what the frame
+    /// gets that is put on top.
     fn begin_expression(&mut self, expr: &Rc<Expr>, levels: u32) -> Result<Ended, NoMemory>
         ensures means { IfOk result (λ ended. (names : Names) → Same names H.table self.new self.old (give ended) (run_expression (nested names H.table levels) (tree_of expr.now.value))) }
         ensures keeps { OnOk result (Keeps self.new self.old) }
         ensures holds { Holds self.new self.old }
     {
-        let expr = expr.clone()?;
-        self.stack.push(Frame::Expression { expr, levels })?;
-        Ok(done(self.alloc))
+        match simple_value(self.alloc, &self.frames, expr, MOST_AT_ONCE)? {
+            Some(value) => Ok(value),
+            None => {
+                let expr = expr.clone()?;
+                self.stack.push(Frame::Expression { expr, levels })?;
+                Ok(done(self.alloc))
+            }
+        }
     }
 
     /// Pays for the evaluation of a text as an expression, which is then read and begins.

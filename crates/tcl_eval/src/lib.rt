@@ -23,6 +23,7 @@ mod readings;
 mod run;
 mod settle;
 mod simple;
+mod simple_value;
 mod stack;
 mod switch;
 mod value;

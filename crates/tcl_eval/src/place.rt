@@ -67,6 +67,13 @@ fn word_pieces(script: &Script, at: usize, word: usize) -> &[Piece]
     }
 }
 
+/// The pieces of a script's first word; none where it has no word.
+pub fn only_pieces(script: &Script) -> &[Piece]
+    ensures { parts (map part_of result.now) ≡ parts (only_word (script_of script.now)) }
+{
+    word_pieces(script, 0, 0)
+}
+
 /// The first piece of a script's first word.
 pub fn first_piece(alloc: Global, script: Rc<Script>) -> Place
     ensures { place_parts result ≡ parts (only_word (script_of script.value)) }

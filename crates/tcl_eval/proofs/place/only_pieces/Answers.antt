@@ -1,0 +1,7 @@
+use Rattle.std.proofs.Common.{◌∙◌}
+use Rattle.tcl_parse.specs.View.{script_of}
+use Rattle.tcl_eval.proofs.Rows.{only_parts}
+use Rattle.tcl_eval.proofs.place.only_pieces.Goals as goal
+
+pub returns : goal.returns
+returns c = c.word_pieces.ensures ∙ only_parts (script_of c.args.script.now)

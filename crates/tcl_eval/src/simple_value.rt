@@ -1,0 +1,349 @@
+//! Expressions that are evaluated at once: those that can't be suspended.
+
+ghost use Rattle.std.specs.Prelude.{◌≡◌, ◌≤◌, length, IfOk, IfSome, Some, map};
+ghost use Rattle.txt_core.specs.Limits.{most_bytes};
+ghost use Rattle.txt_core.specs.Truth.{truth};
+ghost use Rattle.tcl_parse.specs.Tree.{parts};
+ghost use Rattle.tcl_parse.specs.View.{part_of};
+ghost use Rattle.tcl_expr.specs.View.{tree_of};
+ghost use Rattle.tcl_expr.specs.Trees.{unary, binary, choice};
+ghost use Rattle.tcl_eval.specs.Results.{ended, error_of, read_as};
+ghost use Rattle.tcl_eval.specs.Messages.{no_boolean};
+ghost use Rattle.tcl_eval.specs.Expressions.{way_of};
+ghost use Rattle.tcl_eval.specs.AtOnce.{IsPassed, on_truth, word_at_once, right_at_once, left_at_once, at_once};
+
+use crate::gather::SoFar;
+use crate::message::{no_boolean, variable_fault};
+use crate::operation::{Way, way_of, with_one, with_two};
+use crate::place::only_pieces;
+use crate::stack::Ended;
+use crate::value::{error, kept_value};
+use std::alloc::Global;
+use tcl_expr::{Expr, Op};
+use tcl_frame::{Frames, VarFault};
+use tcl_host::OK;
+use tcl_parse::Piece;
+use txt_core::{MOST_BYTES, NoMemory, Text, read_truth};
+
+/// The value of a variable that is there, and isn't too long for a word, without a copy.
+fn variable<'a>(frames: &'a Frames, name: &Text) -> Option<&'a Text>
+    ensures value { IfSome result (λ text. read_as frames.now name.now ≡ ended 0 text.now) }
+    ensures short { IfSome result (λ text. length text.now ≤ most_bytes) }
+{
+    match frames.value(name) {
+        Err(_) => None,
+        Ok(text) => {
+            if text.len() > MOST_BYTES {
+                return None;
+            }
+            Some(text)
+        }
+    }
+}
+
+/// The value of a word that is a variable alone, which is there, without a copy. Of any other word this
+/// says nothing.
+#[tactic(auto, using(crate::proofs::Values::variable_at_once))]
+fn variable_word<'a>(frames: &'a Frames, pieces: &[Piece]) -> Option<&'a Text>
+    ensures { IfSome result (λ text. word_at_once frames.now (parts (map part_of pieces.now)) ≡ Some (ended 0 text.now)) }
+{
+    let (piece, behind) = pieces.split_first()?;
+    if !behind.is_empty() {
+        return None;
+    }
+    match piece {
+        Piece::Var(name) => variable(frames, name),
+        Piece::Bytes(_) => None,
+        Piece::Elem(_, _) => None,
+        Piece::Sub(_) => None,
+    }
+}
+
+/// The value of an expression that is a literal, or a variable that is there, without a copy. Of any
+/// other one this says nothing.
+fn leaf<'a>(frames: &'a Frames, expr: &'a Expr) -> Option<&'a Text>
+    ensures { IfSome result (λ text. at_once frames.now (tree_of expr.now) ≡ Some (ended 0 text.now)) }
+{
+    match expr {
+        Expr::Value(text) => Some(text),
+        Expr::Word(word) => variable_word(frames, only_pieces(word)),
+        Expr::Unary(_, _) => None,
+        Expr::Binary(_, _, _) => None,
+        Expr::Choice(_, _, _) => None,
+    }
+}
+
+/// What is kept of a word with the value of a variable behind it, or the error of reading that.
+fn with_variable(
+    alloc: Global,
+    frames: &Frames,
+    so_far: SoFar,
+    name: &Text,
+) -> Result<Result<SoFar, Ended>, NoMemory>
+    ensures { IfOk result (λ found. IsPassed (read_as frames.now name.now) so_far found) }
+{
+    match frames.value(name) {
+        Ok(value) => {
+            let after = so_far.with(value.bytes())?;
+            Ok(Ok(after))
+        }
+        Err(VarFault::NoMemory) => {
+            drop(so_far);
+            Err(NoMemory)
+        }
+        Err(why) => {
+            drop(so_far);
+            let value = error(alloc, variable_fault(alloc, why, name.bytes())?)?;
+            Ok(Err(value))
+        }
+    }
+}
+
+/// What a word comes to that has neither a bracket nor an element. Of any other one this says nothing.
+fn simple_word(alloc: Global, frames: &Frames, pieces: &[Piece]) -> Result<Option<Ended>, NoMemory>
+    ensures { IfOk result (λ found. IfSome found (λ value. word_at_once frames.now (parts (map part_of pieces.now)) ≡ Some value)) }
+{
+    let mut so_far = SoFar::Kept(Text::empty(alloc));
+    let mut left = pieces;
+    'pieces: while let Some((piece, behind)) = left.split_first() {
+        match piece {
+            Piece::Bytes(bytes) => so_far = so_far.with(bytes.bytes())?,
+            Piece::Var(name) => match with_variable(alloc, frames, so_far, name)? {
+                Ok(after) => so_far = after,
+                Err(value) => return Ok(Some(value)),
+            },
+            Piece::Elem(_, _) => return Ok(None),
+            Piece::Sub(_) => return Ok(None),
+        }
+        left = behind;
+    }
+    Ok(Some(kept_value(alloc, so_far)?))
+}
+
+/// The error of a value that has no truth.
+fn untrue(alloc: Global, value: &Text) -> Result<Ended, NoMemory>
+    ensures { IfOk result (λ ended. ended ≡ error_of (no_boolean value.now)) }
+{
+    error(alloc, no_boolean(alloc, value.bytes())?)
+}
+
+/// This text as a value.
+fn value_of(alloc: Global, text: &[u8]) -> Result<Ended, NoMemory>
+    ensures { IfOk result (λ value. value ≡ ended 0 text.now) }
+{
+    let result = Text::new(alloc, text)?;
+    Ok(Ended { code: OK, result })
+}
+
+/// What an expression comes to that has neither a bracket nor an element, and whose parts don't stand
+/// deeper in one another than there is room. Of any other one this says nothing.
+#[cycle(simple)]
+#[tactic(auto, using(crate::proofs::Values::good_end, crate::proofs::Values::bad_end))]
+pub fn simple_value(
+    alloc: Global,
+    frames: &Frames,
+    expr: &Expr,
+    room: u32,
+) -> Result<Option<Ended>, NoMemory>
+    ensures { IfOk result (λ found. IfSome found (λ value. at_once frames.now (tree_of expr.now) ≡ Some value)) }
+{
+    if room == 0 {
+        return Ok(None);
+    }
+    match expr {
+        Expr::Value(text) => {
+            let result = text.copy(alloc)?;
+            Ok(Some(Ended { code: OK, result }))
+        }
+        Expr::Word(word) => {
+            let found = simple_word(alloc, frames, only_pieces(word))?;
+            Ok(found)
+        }
+        Expr::Unary(op, operand) => {
+            let found = simple_unary(alloc, frames, *op, operand, room - 1)?;
+            Ok(found)
+        }
+        Expr::Binary(op, left, right) => {
+            let found = simple_binary(alloc, frames, *op, left, right, room - 1)?;
+            Ok(found)
+        }
+        Expr::Choice(test, first, second) => {
+            let found = simple_choice(alloc, frames, test, first, second, room - 1)?;
+            Ok(found)
+        }
+    }
+}
+
+/// An operator before its operand.
+#[cycle(simple)]
+#[tactic(auto, using(crate::proofs::Values::good_end, crate::proofs::Values::bad_end))]
+fn simple_unary(
+    alloc: Global,
+    frames: &Frames,
+    op: Op,
+    operand: &Expr,
+    room: u32,
+) -> Result<Option<Ended>, NoMemory>
+    ensures { IfOk result (λ found. IfSome found (λ value. at_once frames.now (unary op (tree_of operand.now)) ≡ Some value)) }
+{
+    if let Some(text) = leaf(frames, operand) {
+        let value = with_one(alloc, op, text)?;
+        return Ok(Some(value));
+    }
+    match simple_value(alloc, frames, operand, room)? {
+        None => Ok(None),
+        Some(value) => {
+            if value.code != OK {
+                return Ok(Some(value));
+            }
+            let value = with_one(alloc, op, &value.result)?;
+            Ok(Some(value))
+        }
+    }
+}
+
+/// An operator between its operands.
+#[cycle(simple)]
+#[tactic(auto, using(crate::proofs::Values::good_end, crate::proofs::Values::bad_end))]
+fn simple_binary(
+    alloc: Global,
+    frames: &Frames,
+    op: Op,
+    left: &Expr,
+    right: &Expr,
+    room: u32,
+) -> Result<Option<Ended>, NoMemory>
+    ensures { IfOk result (λ found. IfSome found (λ value. at_once frames.now (binary op (tree_of left.now) (tree_of right.now)) ≡ Some value)) }
+{
+    if let Some(text) = leaf(frames, left) {
+        let found = simple_left(alloc, frames, op, text, right, room)?;
+        return Ok(found);
+    }
+    match simple_value(alloc, frames, left, room)? {
+        None => Ok(None),
+        Some(value) => {
+            if value.code != OK {
+                return Ok(Some(value));
+            }
+            let found = simple_left(alloc, frames, op, &value.result, right, room)?;
+            Ok(found)
+        }
+    }
+}
+
+/// An operator behind its left operand, which has this value.
+#[cycle(simple)]
+#[tactic(auto, using(crate::proofs::Values::good_end, crate::proofs::Values::bad_end))]
+fn simple_left(
+    alloc: Global,
+    frames: &Frames,
+    op: Op,
+    left: &Text,
+    right: &Expr,
+    room: u32,
+) -> Result<Option<Ended>, NoMemory>
+    ensures { IfOk result (λ found. IfSome found (λ value. left_at_once (way_of op) op left.now (at_once frames.now (tree_of right.now)) ≡ Some value)) }
+{
+    match way_of(op) {
+        Way::Both => {
+            let found = simple_right(alloc, frames, op, left, right, room)?;
+            Ok(found)
+        }
+        Way::IfTrue => match read_truth(left) {
+            None => Ok(Some(untrue(alloc, left)?)),
+            Some(true) => {
+                let found = simple_right(alloc, frames, op, left, right, room)?;
+                Ok(found)
+            }
+            Some(false) => Ok(Some(value_of(alloc, b"0")?)),
+        },
+        Way::IfFalse => match read_truth(left) {
+            None => Ok(Some(untrue(alloc, left)?)),
+            Some(true) => Ok(Some(value_of(alloc, b"1")?)),
+            Some(false) => {
+                let found = simple_right(alloc, frames, op, left, right, room)?;
+                Ok(found)
+            }
+        },
+    }
+}
+
+/// An operator whose left operand has this value, and whose right one is evaluated.
+#[cycle(simple)]
+#[tactic(auto, using(crate::proofs::Values::good_end, crate::proofs::Values::bad_end))]
+fn simple_right(
+    alloc: Global,
+    frames: &Frames,
+    op: Op,
+    left: &Text,
+    right: &Expr,
+    room: u32,
+) -> Result<Option<Ended>, NoMemory>
+    ensures { IfOk result (λ found. IfSome found (λ value. right_at_once op left.now (at_once frames.now (tree_of right.now)) ≡ Some value)) }
+{
+    if let Some(text) = leaf(frames, right) {
+        let value = with_two(alloc, op, left, text)?;
+        return Ok(Some(value));
+    }
+    match simple_value(alloc, frames, right, room)? {
+        None => Ok(None),
+        Some(value) => {
+            if value.code != OK {
+                return Ok(Some(value));
+            }
+            let value = with_two(alloc, op, left, &value.result)?;
+            Ok(Some(value))
+        }
+    }
+}
+
+/// A choice.
+#[cycle(simple)]
+#[tactic(auto, using(crate::proofs::Values::good_end, crate::proofs::Values::bad_end))]
+fn simple_choice(
+    alloc: Global,
+    frames: &Frames,
+    test: &Expr,
+    first: &Expr,
+    second: &Expr,
+    room: u32,
+) -> Result<Option<Ended>, NoMemory>
+    ensures { IfOk result (λ found. IfSome found (λ value. at_once frames.now (choice (tree_of test.now) (tree_of first.now) (tree_of second.now)) ≡ Some value)) }
+{
+    match simple_value(alloc, frames, test, room)? {
+        None => Ok(None),
+        Some(value) => {
+            if value.code != OK {
+                return Ok(Some(value));
+            }
+            let found = simple_chosen(alloc, frames, &value.result, first, second, room)?;
+            Ok(found)
+        }
+    }
+}
+
+/// The part of a choice that is chosen by this value.
+#[cycle(simple)]
+#[tactic(auto, using(crate::proofs::Values::good_end, crate::proofs::Values::bad_end))]
+fn simple_chosen(
+    alloc: Global,
+    frames: &Frames,
+    value: &Text,
+    first: &Expr,
+    second: &Expr,
+    room: u32,
+) -> Result<Option<Ended>, NoMemory>
+    ensures { IfOk result (λ found. IfSome found (λ ended. on_truth (truth value.now) value.now (at_once frames.now (tree_of first.now)) (at_once frames.now (tree_of second.now)) ≡ Some ended)) }
+{
+    match read_truth(value) {
+        None => Ok(Some(untrue(alloc, value)?)),
+        Some(true) => {
+            let found = simple_value(alloc, frames, first, room)?;
+            Ok(found)
+        }
+        Some(false) => {
+            let found = simple_value(alloc, frames, second, room)?;
+            Ok(found)
+        }
+    }
+}
