@@ -2,6 +2,7 @@
 use Rattle.std.proofs.Common.{◌≡◌, ◌≤◌, ℕ, ◌+◌, ◌-◌, List, [], ◌∷◌, ◌++◌, length, drop, Bool, Option, Err, cond, sym, ap, ◌∙◌, arith}
 use Rattle.std.proofs.lemmas.Bool.{le-ltb}
 use Rattle.txt_core.specs.Truth.{truth}
+use Rattle.tcl_expr.specs.Trees.{Tree}
 use Rattle.tcl_expr.specs.Outcome.{Answer, tree, bad_from}
 use Rattle.tcl_expr.specs.Reading.{IsBad, expression_of, expression_is}
 use Rattle.tcl_expr.specs.Answers.{Answers}
@@ -48,9 +49,9 @@ module _ {H : Type 0} (ns : Names) (t : LeafTable H) where
       ∙ ap (λ (k : Next H). run_expression (nested ns t levels) (tree_of expr.value) k s b g) (pushed ns t fs fs1 f e1)
 
   -- an expression begins, behind a good end
-  pub begun : (expr expr' : Expr) (levels code : ℕ) (result : List ℕ) (k : Next H) (s : State H) (b : ℕ) (g : Given) (x : Out H) → code ≡ 0 → expr ≡ expr' → x ≡ run_expression (nested ns t levels) (tree_of expr') k s b g → x ≡ on_ok (λ r. run_expression (nested ns t levels) (tree_of expr) k) k code result s b g
-  begun expr expr' levels code result k s b g x z is e =
-      e ∙ sym (ap (λ (y : Expr). run_expression (nested ns t levels) (tree_of y) k s b g) is)
+  pub begun : (x : Tree) (expr : Expr) (levels code : ℕ) (result : List ℕ) (k : Next H) (s : State H) (b : ℕ) (g : Given) (y : Out H) → code ≡ 0 → tree_of expr ≡ x → y ≡ run_expression (nested ns t levels) x k s b g → y ≡ on_ok (λ r. run_expression (nested ns t levels) (tree_of expr) k) k code result s b g
+  begun x expr levels code result k s b g y z is e =
+      e ∙ sym (ap (λ (v : Tree). run_expression (nested ns t levels) v k s b g) is)
       ∙ sym (ap (λ (n : ℕ). on_ok (λ r. run_expression (nested ns t levels) (tree_of expr) k) k n result s b g) z)
 
   -- an evaluation is paid for, and the text is read
