@@ -369,7 +369,7 @@ impl<H: Host> Engine<H> {
         }
     }
 
-    /// Pays for the evaluation of a text as an expression, which is then read and begins.
+    /// Pays for the evaluation of a text as an expression, which is read where it isn't kept, and begins.
     pub(crate) fn evaluate(&mut self, text: &Text, levels: u32) -> Result<Acted, NoMemory>
         ensures means { IfOk result (λ acted. (names : Names) (opened : Option OpenQuestion) → Same names H.table self.new self.old (acted_next names H.table acted opened) (evaluate (nested names H.table levels) text.now)) }
         ensures lower { OnOk result (Lower self.new self.old 0) }
@@ -377,7 +377,7 @@ impl<H: Host> Engine<H> {
         ensures enters { IfOk result (λ acted. Enters acted (credit self.new + 2 ≤ credit self.old)) }
         ensures holds { Holds self.new self.old }
     {
-        let read = ReadExpr::new(self.alloc, text.copy(self.alloc)?)?;
+        let read = self.expressions.read(self.alloc, text)?;
         let acted = self.evaluate_read(&read, levels)?;
         Ok(acted)
     }

@@ -7,6 +7,7 @@ mod condition;
 mod engine;
 mod expr_reading;
 mod expression;
+mod expressions;
 mod gather;
 mod info;
 mod law;

@@ -1,0 +1,106 @@
+//! Expressions that were evaluated lately.
+
+ghost use Rattle.std.specs.Prelude.{◌≡◌, IfOk, IfSome};
+
+use crate::read_expr::ReadExpr;
+use lru::LruCache;
+use std::alloc::Global;
+use std::marker::Model;
+use std::num::NonZeroUsize;
+use std::rc::Rc;
+use txt_core::{NoMemory, Text};
+
+/// How many texts are kept.
+const MOST_KEPT: usize = 512;
+
+/// How many bytes a text may have that is kept.
+const LONGEST_KEPT: usize = 4_096;
+
+/// Texts that were evaluated lately, each with what it is as an expression. Contracts see nothing of
+/// which texts these are: what is kept of a text is true by itself.
+///
+/// Texts are found by a hash whose seed is fixed.
+#[derive(Drop)]
+pub struct Expressions {
+    kept: Option<LruCache<Vec<u8>, Rc<ReadExpr>>>,
+}
+
+impl Model for Expressions {
+    ghost use Rattle.std.specs.Prelude.{Unit};
+
+    ghost Value = { Unit {0} };
+
+    ghost view = { λ _. record {} };
+}
+
+impl Expressions {
+    /// None yet. It takes no memory.
+    pub fn new() -> Expressions {
+        Expressions { kept: None }
+    }
+
+    /// A text with what it is as an expression, which is read where it isn't kept. The only error is want
+    /// of memory.
+    pub fn read(&mut self, alloc: Global, text: &Text) -> Result<Rc<ReadExpr>, NoMemory>
+        ensures { IfOk result (λ read. read.value ≡ text.now) }
+    {
+        let found = self.find(text)?;
+        if let Some(read) = found {
+            return Ok(read);
+        }
+        let read = ReadExpr::new(alloc, text.copy(alloc)?)?;
+        let read = Rc::new(alloc, read)?;
+        if text.len() <= LONGEST_KEPT {
+            let kept = read.clone()?;
+            self.keep(alloc, text, kept)?;
+        }
+        Ok(read)
+    }
+
+    /// What is kept of a text, if anything.
+    fn find(&mut self, text: &Text) -> Result<Option<Rc<ReadExpr>>, NoMemory>
+        ensures { IfOk result (λ found. IfSome found (λ read. read.value ≡ text.now)) }
+    {
+        let Some(kept) = &mut self.kept else {
+            return Ok(None);
+        };
+        match kept.get(text.bytes()) {
+            None => Ok(None),
+            Some(read) => {
+                let found = shared_for(read, text)?;
+                Ok(found)
+            }
+        }
+    }
+
+    /// Keeps what a text is.
+    fn keep(&mut self, alloc: Global, text: &Text, read: Rc<ReadExpr>) -> Result<(), NoMemory> {
+        self.begin(alloc)?;
+        if let Some(kept) = &mut self.kept {
+            kept.put(Vec::from_slice(alloc, text.bytes())?, read)?;
+        }
+        Ok(())
+    }
+
+    /// Makes room, where none was made.
+    fn begin(&mut self, alloc: Global) -> Result<(), NoMemory> {
+        if self.kept.is_none() {
+            let Some(most) = NonZeroUsize::new(MOST_KEPT) else {
+                return Ok(());
+            };
+            self.kept = Some(LruCache::sparse(alloc, most)?);
+        }
+        Ok(())
+    }
+}
+
+/// What is kept, where it is that of this text.
+fn shared_for(read: &Rc<ReadExpr>, text: &Text) -> Result<Option<Rc<ReadExpr>>, NoMemory>
+    ensures { IfOk result (λ found. IfSome found (λ read. read.value ≡ text.now)) }
+{
+    if read.text().bytes() != text.bytes() {
+        return Ok(None);
+    }
+    let again = read.clone()?;
+    Ok(Some(again))
+}
