@@ -1,5 +1,6 @@
 -- What the host of pages says of each command, and of an answer.
-use Rattle.std.specs.Prelude.{ℕ, List, bytes_eq, codes, if◌then◌else◌, Option, Some, None}
+use Rattle.std.specs.Prelude.{bytes_eq, codes, if◌then◌else◌, Option, Some, None}
+use Rattle.txt_core.specs.Names.{Bytes, Words}
 use Rattle.outside.specs.declared.question.Answer.{Answer}
 use Rattle.tcl_host.specs.Codes.{page_return, page_break, page_abort}
 use Rattle.tcl_host.specs.Leaf.{Leaf, not_mine, Onward, goes}
@@ -13,7 +14,7 @@ use Rattle.adp_host.specs.declared.verb.Verb.{Verb}
 use Rattle.adp_host.specs.declared.verb.Verb.TheVariants as verbs
 
 -- the command of a name
-abbrev pub verb_of : List ℕ → Option Verb
+abbrev pub verb_of : Bytes → Option Verb
 verb_of name =
     if bytes_eq name (codes "ns_adp_append") then Some verbs.Append
     else if bytes_eq name (codes "ns_adp_puts") then Some verbs.Puts
@@ -26,7 +27,7 @@ verb_of name =
     else None
 
 -- what each command does
-abbrev pub does : Verb → List (List ℕ) → PageState → Leaf PageState
+abbrev pub does : Verb → Words → PageState → Leaf PageState
 does verbs.Append words host = ns_adp_append words host
 does verbs.Puts words host = ns_adp_puts words host
 does verbs.Include words host = ns_adp_include words host
@@ -36,15 +37,15 @@ does verbs.Return words host = leaves_with page_return words host
 does verbs.Break words host = leaves_with page_break words host
 does verbs.Abort words host = leaves_with page_abort words host
 
-abbrev pub by_verb : Option Verb → List (List ℕ) → PageState → Leaf PageState
+abbrev pub by_verb : Option Verb → Words → PageState → Leaf PageState
 by_verb None words host = not_mine host
 by_verb (Some verb) words host = does verb words host
 
 -- the first word names the command; any other name is none of this host's
-abbrev pub page_call : List (List ℕ) → PageState → Leaf PageState
+abbrev pub page_call : Words → PageState → Leaf PageState
 page_call words host = by_verb (verb_of (arg words 0)) words host
 
 -- `ns_adp_include` alone asks a question, so an answer to any other words is none of this host's
-abbrev pub page_answer : List (List ℕ) → Answer → PageState → Onward PageState
+abbrev pub page_answer : Words → Answer → PageState → Onward PageState
 page_answer words answer host =
     if bytes_eq (arg words 0) (codes "ns_adp_include") then page_answered words answer host else goes (not_mine host)

@@ -1,5 +1,6 @@
 -- How pages are left.
-use Rattle.std.specs.Prelude.{ℕ, Bool, ◌||◌, ◌==◌, ◌+◌, min, List, [], if◌then◌else◌}
+use Rattle.std.specs.Prelude.{ℕ, Bool, ◌||◌, ◌==◌, ◌+◌, min, [], if◌then◌else◌}
+use Rattle.txt_core.specs.Names.{Words}
 use Rattle.outside.specs.Faults.{last_count}
 use Rattle.tcl_host.specs.Codes.{ok, error, return, break, continue, page_return, page_break, page_abort}
 use Rattle.tcl_host.specs.Leaf.{Leaf, says}
@@ -7,7 +8,7 @@ use Rattle.adp_host.specs.States.{PageState, has_page, with_output, with_errors,
 use Rattle.adp_host.specs.Checks.{is_counted, shaped, paged}
 
 -- `ns_adp_return`, `ns_adp_break` and `ns_adp_abort` end with their codes and an empty result; they change nothing by themselves
-abbrev pub leaves_with : ℕ → List (List ℕ) → PageState → Leaf PageState
+abbrev pub leaves_with : ℕ → Words → PageState → Leaf PageState
 leaves_with code words host = shaped (is_counted 1 1 words) words (paged (says code [])) host
 
 -- an error, and a break or a continue outside of a loop

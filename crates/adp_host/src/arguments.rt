@@ -37,7 +37,8 @@ fn argument(args: &[Text], place: i64) -> &[u8]
 
 /// All arguments as a list, or the one at the place that the second word is.
 fn argument_text(alloc: Global, args: &Words, words: &Words) -> Result<Text, Refusal>
-    ensures { (host : PageState) → args.now ≡ arguments host → EndsWith result host (argument_text words.now host) }
+    ensures { (host : PageState) → args.now ≡ arguments host
+        → EndsWith result host (argument_text words.now host) }
 {
     if words.len() == 1 {
         return Ok(quote(alloc, args)?);

@@ -61,7 +61,8 @@ pub fn require_page(host: &AdpHost) -> Result<(), Refusal>
 
 /// The arguments of the innermost open page, where one is open.
 pub fn page_arguments(host: &AdpHost) -> Result<&Words, Refusal>
-    ensures ok { IfOk result (λ args. (has_page host.now ≡ true) × (args.now ≡ arguments host.now)) }
+    ensures ok { IfOk result (λ args.
+        (has_page host.now ≡ true) × (args.now ≡ arguments host.now)) }
     ensures err { IfErr result (λ refusal. Refused refusal (has_page host.now) not_in_page) }
 {
     match host.pages.as_slice().last() {

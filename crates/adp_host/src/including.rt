@@ -31,7 +31,8 @@ pub fn ns_adp_include(host: &mut AdpHost, words: &Words) -> Result<HostReply, Re
 
 /// Enters a page, with the words behind the command's name as its arguments.
 fn enter(host: &mut AdpHost, words: &Words, page: &Text) -> Result<HostReply, NoMemory>
-    ensures { IfOk result (λ reply. RepliesTo reply host.new (enters_page words.now page.now host.old)) }
+    ensures { IfOk result (λ reply.
+        RepliesTo reply host.new (enters_page words.now page.now host.old)) }
 {
     let alloc = host.alloc;
     let args = behind_name(words);

@@ -24,7 +24,8 @@ pub struct Block<'a> {
 /// The text before the first such mark, and what stands behind the mark.
 fn around<'a>(text: &'a [u8], mark: &[u8]) -> Option<(&'a [u8], &'a [u8])>
     requires { 0 < length mark.now }
-    ensures { MatchOption result (¬ Holds text.now mark.now) (λ sides. FirstMark text.now mark.now sides.0.now sides.1.now) }
+    ensures { MatchOption result (¬ Holds text.now mark.now) (λ sides.
+        FirstMark text.now mark.now sides.0.now sides.1.now) }
 {
     let at = memmem::find(text, mark)?;
     Some((&text[..at], &text[at + mark.len()..]))
@@ -33,7 +34,8 @@ fn around<'a>(text: &'a [u8], mark: &[u8]) -> Option<(&'a [u8], &'a [u8])>
 /// The first block; `None` exactly where no `<%` is closed. Each search goes over bytes that no
 /// later one sees again, or is the last.
 pub fn first_block(text: &[u8]) -> Option<Block<'_>>
-    ensures { MatchOption result (¬ OpensBlock text.now []) (λ block. FirstBlock text.now block.before.now block.content.now block.behind.now) }
+    ensures { MatchOption result (¬ OpensBlock text.now []) (λ block.
+        FirstBlock text.now block.before.now block.content.now block.behind.now) }
 {
     let (before, inside) = around(text, OPENING)?;
     let (content, behind) = around(inside, CLOSING)?;

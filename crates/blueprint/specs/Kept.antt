@@ -6,6 +6,7 @@ use Rattle.std.specs.declared.cmp.Ordering.{Ordering}
 use Rattle.std.specs.Ordering.{nat_cmp}
 use Rattle.std.specs.Cmp.Lexicographic.{slice_cmp}
 use Rattle.std.specs.BTreeMap.{BTreeMap, get, is_at}
+use Rattle.txt_core.specs.Names.{Bytes, Words, Names}
 use Rattle.cmd_table.specs.declared.definition.Def.{Def}
 use Rattle.cmd_table.specs.Table.{Table, command_of, names_of}
 use Rattle.cmd_table.specs.Commands.{Commands}
@@ -27,11 +28,11 @@ IsFound expected (Ok defs) = expected ≡ definitions defs
 IsFound expected (Err (faults.NotADefinition number)) = expected ≡ no_definition number
 IsFound expected (Err faults.NoMemory) = Unit {0}
 
-abbrev pub IsScripted : List ℕ → Result (List Def) ScriptFault → Type 0
+abbrev pub IsScripted : Bytes → Result (List Def) ScriptFault → Type 0
 IsScripted script result = IsFound (scripted script) result
 
 -- words in front of those that are still to be read
-abbrev pub put_words : List (List ℕ) → Option (List (List ℕ)) → Option (List (List ℕ))
+abbrev pub put_words : Words → Option Words → Option Words
 put_words front (Some words) = Some (front ++ words)
 put_words front None = None
 
@@ -42,26 +43,26 @@ put_defs front (no_definition number) = no_definition number
 
 -- ---- the names that are commands
 
-abbrev pub text_cmp : List ℕ → List ℕ → Ordering
+abbrev pub text_cmp : Bytes → Bytes → Ordering
 text_cmp = slice_cmp nat_cmp
 
-abbrev pub same_name : List ℕ → List ℕ → Bool
+abbrev pub same_name : Bytes → Bytes → Bool
 same_name first second = is_at (text_cmp first) second
 
 -- what is kept of names
 abbrev pub Slots : Type 0
-Slots = BTreeMap (List ℕ) Bool
+Slots = BTreeMap Bytes Bool
 
 -- whether a name is a command
-abbrev pub is_there : Slots → List ℕ → Bool
+abbrev pub is_there : Slots → Bytes → Bool
 is_there slots name = unwrap_or (get text_cmp slots name) false
 
 -- whether names are commands, once this one is as it is said
-abbrev pub with_name : List ℕ → Bool → (List ℕ → Bool) → List ℕ → Bool
+abbrev pub with_name : Bytes → Bool → (Bytes → Bool) → Bytes → Bool
 with_name name there others other = if same_name name other then there else others other
 
 -- whether they were before changes, the first of which stands first
-abbrev pub undone : List Row → (List ℕ → Bool) → List ℕ → Bool
+abbrev pub undone : List Row → (Bytes → Bool) → Bytes → Bool
 undone [] names = names
 undone (row ∷ rows) names = with_name row.name row.before (undone rows names)
 
@@ -74,7 +75,7 @@ HavePlaces slots rows = AllByRecursion (HasPlace slots) rows
 
 -- what is kept of the names is what is a command
 abbrev pub AreCommands : Slots → Table → Type 0
-AreCommands slots table = (name : List ℕ) → is_there slots name ≡ is_some (command_of table name)
+AreCommands slots table = (name : Bytes) → is_there slots name ≡ is_some (command_of table name)
 
 -- ---- the definitions, epoch by epoch
 
@@ -84,7 +85,7 @@ all_of [] = []
 all_of (defs ∷ lists) = defs ++ all_of lists
 
 -- the lines of several lists
-abbrev pub lines_of : List (List Def) → List ℕ
+abbrev pub lines_of : List (List Def) → Bytes
 lines_of [] = []
 lines_of (defs ∷ lists) = script_of defs ++ lines_of lists
 
@@ -94,11 +95,11 @@ rows_from epoch [] = []
 rows_from epoch (defs ∷ lists) = rows_of epoch defs ++ rows_from (epoch + 1) lists
 
 -- what the program keeps, as a state
-abbrev pub state_of : List (List ℕ) → ℕ → List Def → List (List Def) → State
+abbrev pub state_of : Names → ℕ → List Def → List (List Def) → State
 state_of natives base saved later = record { natives = natives; base = base; epoch = base + length later; rows = rows_from base (saved ∷ later) }
 
 -- what it keeps beside is right
-pub record Keeps (natives built : List (List ℕ)) (slots : Slots) (base : ℕ) (saved : List Def) (later : List (List Def)) (count size : ℕ) : Type 0 where
+pub record Keeps (natives built : Names) (slots : Slots) (base : ℕ) (saved : List Def) (later : List (List Def)) (count size : ℕ) : Type 0 where
   pub built_ins : built ≡ names_of (Commands natives [])
   pub names : AreCommands slots (Commands natives (saved ++ all_of later))
   pub allowed : Allowed (state_of natives base saved later)

@@ -1,6 +1,7 @@
 -- The order of a blueprint's states is one, each step goes along it, and the empty blueprint is allowed.
 use Rattle.std.proofs.Common.{◌⊎◌, inl, inr, ◌<◌, ◌≤◌, ℕ, ◌+◌, List, [], ◌∷◌, ◌++◌, append_assoc, refl, sym, ap, ◌∙◌, subst, arith}
 use Rattle.std.specs.List.{AllByRecursion}
+use Rattle.txt_core.specs.Names.{Names}
 use Rattle.cmd_table.specs.declared.definition.Def.{Def}
 use Rattle.blueprint.specs.declared.reply.BlueCall.{BlueCall}
 use Rattle.blueprint.specs.declared.reply.BlueCall.TheVariants as calls
@@ -13,7 +14,7 @@ use Rattle.blueprint.specs.States.{Row, State, fresh, rows_of, Allowed}
 use Rattle.blueprint.specs.Publishing.{Answers, publish_answer, save_answer, saved_defs, with_published, with_saved}
 use Rattle.blueprint.specs.Objects.{Steps, GrewTo, Reaches}
 
-pub fresh_allowed : (natives : List (List ℕ)) → Allowed (fresh natives)
+pub fresh_allowed : (natives : Names) → Allowed (fresh natives)
 fresh_allowed natives = record { applies = refl; count = omega arith; bytes = omega arith; epochs = omega arith; last = omega arith }
 
 pub reaches_self : (state : State) → Reaches state state

@@ -1,10 +1,11 @@
 -- What comes of definitions that are to be published, and of a script that is to be saved.
 use Rattle.std.specs.Prelude.{◌≡◌, ℕ, ◌+◌, List, [], ◌++◌, length, ◌==◌, ◌||◌, nat_lt, if◌then◌else◌, Option, Some, None}
+use Rattle.txt_core.specs.Names.{Bytes, Names}
 use Rattle.cmd_table.specs.declared.definition.Def.{Def}
 use Rattle.cmd_table.specs.Commands.{Commands}
 use Rattle.blueprint.specs.declared.reply.Published.{Published}
 use Rattle.blueprint.specs.declared.reply.Published.TheVariants as replies
-use Rattle.blueprint.specs.declared.reply.Limit.TheVariants.{Count, Bytes}
+use Rattle.blueprint.specs.declared.reply.Limit.TheVariants.{Count, Bytes as In_bytes}
 use Rattle.blueprint.specs.Scripts.{script_of}
 use Rattle.blueprint.specs.Reading.{Scripted, scripted, no_definition}
 use Rattle.blueprint.specs.Reading as reading
@@ -14,7 +15,7 @@ use Rattle.blueprint.specs.States.{State, definitions, rows_of, first_misfit, mo
 abbrev pub by_room : ℕ → List Def → Published
 by_room epoch all =
     if nat_lt most_definitions (length all) || (epoch == last_epoch) then replies.Full Count
-    else if nat_lt most_script (length (script_of all)) then replies.Full Bytes
+    else if nat_lt most_script (length (script_of all)) then replies.Full In_bytes
     else replies.Done (epoch + 1)
 
 -- by the first definition that doesn't apply, if any: that goes before all limits
@@ -23,7 +24,7 @@ by_misfit (Some place) room = replies.NotApplicable place
 by_misfit None room = room
 
 -- what is answered where definitions are put behind others
-abbrev pub answer : List (List ℕ) → ℕ → List Def → List Def → Published
+abbrev pub answer : Names → ℕ → List Def → List Def → Published
 answer natives epoch before made = by_misfit (first_misfit (Commands natives before) made) (by_room epoch (before ++ made))
 
 -- A publication puts its definitions behind those that stand, at once, and raises the epoch by 1.
@@ -64,5 +65,5 @@ Answers state expected other (replies.Full limit) now = (replies.Full limit ≡ 
 abbrev pub Publishes : State → List Def → Published → State → Type 0
 Publishes state made reply now = Answers state (publish_answer state made) (with_published state made) reply now
 
-abbrev pub Saves : State → List ℕ → Published → State → Type 0
+abbrev pub Saves : State → Bytes → Published → State → Type 0
 Saves state script reply now = Answers state (save_answer state (scripted script)) (with_saved state (saved_defs (scripted script))) reply now

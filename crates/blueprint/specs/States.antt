@@ -1,5 +1,6 @@
 -- What a blueprint is.
 use Rattle.std.specs.Prelude.{◌≡◌, ◌≤◌, ℕ, List, [], ◌∷◌, length, map, Option, Some, None, ◌+◌, if◌then◌else◌}
+use Rattle.txt_core.specs.Names.{Names}
 use Rattle.cmd_table.specs.declared.definition.Def.{Def}
 use Rattle.cmd_table.specs.Table.{Table}
 use Rattle.cmd_table.specs.Commands.{defined, fits, Commands}
@@ -12,13 +13,13 @@ pub record Row : Type 0 where
 
 -- The names of the natives, behind those of the other built-ins; the epoch of the last save, or 0; the epoch; and the rows.
 pub record State : Type 0 where
-  pub natives : List (List ℕ)
+  pub natives : Names
   pub base : ℕ
   pub epoch : ℕ
   pub rows : List Row
 
 -- a new blueprint: nothing was published
-abbrev pub fresh : List (List ℕ) → State
+abbrev pub fresh : Names → State
 fresh natives = record { natives = natives; base = 0; epoch = 0; rows = [] }
 
 -- its definitions are those of its rows

@@ -239,7 +239,8 @@ impl Blueprint {
 
     /// Puts definitions in the place of all.
     fn replace(&mut self, defs: Defs) -> Published
-        ensures answer { Answers self.old (answer self.old.natives self.old.epoch [] defs) (with_saved self.old defs) result self.new }
+        ensures answer { Answers self.old (answer self.old.natives self.old.epoch [] defs)
+            (with_saved self.old defs) result self.new }
         ensures allowed { Allowed self.new }
     {
         let Ok(mut names) = Names::new(self.alloc, self.built.as_slice()) else {

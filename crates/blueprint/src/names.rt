@@ -1,7 +1,8 @@
 //! The names that are commands now.
 
-ghost use Rattle.std.specs.Prelude.{◌≡◌, ℕ, List, ◌++◌, None, IfOk, OnOk};
+ghost use Rattle.std.specs.Prelude.{◌≡◌, List, ◌++◌, None, IfOk, OnOk};
 ghost use Rattle.std.specs.List.{list_any};
+ghost use Rattle.txt_core.specs.Names.{Bytes, Names};
 ghost use Rattle.cmd_table.specs.Table.{Table, IsInOrder};
 ghost use Rattle.cmd_table.specs.Renaming.{rename_answer, renamed};
 ghost use Rattle.cmd_table.specs.Commands.{Commands, defined, fits, is_done};
@@ -36,7 +37,8 @@ impl Names {
 
     /// These names.
     pub fn new(alloc: Global, names: &[Text]) -> Result<Names, NoMemory>
-        ensures { IfOk result (λ made. (q : List ℕ) → is_there made.slots q ≡ list_any (λ name. same_name name q) names.now) }
+        ensures { IfOk result (λ made.
+            (q : Bytes) → is_there made.slots q ≡ list_any (λ name. same_name name q) names.now) }
     {
         let mut slots = BTreeMap::new(alloc);
         for name in names {
@@ -57,9 +59,14 @@ impl Names {
 
     /// Makes a name a command or none, and notes what it was. Where memory wants, nothing changes.
     fn set(&mut self, journal: &mut Journal, name: &Text, there: bool) -> Result<(), NoMemory>
-        ensures there { OnOk result ((q : List ℕ) → is_there self.new.slots q ≡ with_name name.now there (is_there self.old.slots) q) }
-        ensures past { (q : List ℕ) → undone journal.new.items (is_there self.new.slots) q ≡ undone journal.old.items (is_there self.old.slots) q }
-        ensures places { HavePlaces self.old.slots journal.old.items → HavePlaces self.new.slots journal.new.items }
+        ensures there { OnOk result
+            ((q : Bytes)
+            → is_there self.new.slots q ≡ with_name name.now there (is_there self.old.slots) q) }
+        ensures past { (q : Bytes)
+            → undone journal.new.items (is_there self.new.slots) q
+            ≡ undone journal.old.items (is_there self.old.slots) q }
+        ensures places { HavePlaces self.old.slots journal.old.items
+            → HavePlaces self.new.slots journal.new.items }
     {
         let before = self.has(name);
         let noted = name.copy(self.alloc)?;
@@ -76,7 +83,8 @@ impl Names {
     /// Takes all changes back. It takes no memory.
     pub fn take_back(&mut self, mut journal: Journal)
         requires { HavePlaces self.old.slots journal.items }
-        ensures { (q : List ℕ) → is_there self.new.slots q ≡ undone journal.items (is_there self.old.slots) q }
+        ensures { (q : Bytes)
+            → is_there self.new.slots q ≡ undone journal.items (is_there self.old.slots) q }
     {
         while let Some(row) = journal.pop() {
             self.put_back(row);
@@ -86,8 +94,11 @@ impl Names {
     /// Makes a name that has its place what it was.
     fn put_back(&mut self, row: Row)
         requires { HasPlace self.old.slots row }
-        ensures there { (q : List ℕ) → is_there self.new.slots q ≡ with_name row.name row.before (is_there self.old.slots) q }
-        ensures places { (other : Row) → HasPlace self.old.slots other → HasPlace self.new.slots other }
+        ensures there { (q : Bytes)
+            → is_there self.new.slots q
+            ≡ with_name row.name row.before (is_there self.old.slots) q }
+        ensures places { (other : Row) → HasPlace self.old.slots other
+            → HasPlace self.new.slots other }
     {
         let Row { name, before } = row;
         if let Some(there) = self.slots.get_mut(&name) {
@@ -97,10 +108,15 @@ impl Names {
 
     /// Renames a command, and tells whether that applies.
     fn rename(&mut self, journal: &mut Journal, old: &Text, new: &Text) -> Result<bool, NoMemory>
-        ensures fits { (table : Table) → AreCommands self.old.slots table → IfOk result (λ applies. applies ≡ is_done (rename_answer table old.now new.now)) }
-        ensures made { (table : Table) → IsInOrder table → AreCommands self.old.slots table → OnOk result (AreCommands self.new.slots (renamed table old.now new.now)) }
-        ensures past { (q : List ℕ) → undone journal.new.items (is_there self.new.slots) q ≡ undone journal.old.items (is_there self.old.slots) q }
-        ensures places { HavePlaces self.old.slots journal.old.items → HavePlaces self.new.slots journal.new.items }
+        ensures fits { (table : Table) → AreCommands self.old.slots table
+            → IfOk result (λ applies. applies ≡ is_done (rename_answer table old.now new.now)) }
+        ensures made { (table : Table) → IsInOrder table → AreCommands self.old.slots table
+            → OnOk result (AreCommands self.new.slots (renamed table old.now new.now)) }
+        ensures past { (q : Bytes)
+            → undone journal.new.items (is_there self.new.slots) q
+            ≡ undone journal.old.items (is_there self.old.slots) q }
+        ensures places { HavePlaces self.old.slots journal.old.items
+            → HavePlaces self.new.slots journal.new.items }
     {
         tables_are_maps();
         if !self.has(old) {
@@ -120,10 +136,15 @@ impl Names {
 
     /// Makes a definition, and tells whether it applies.
     fn apply(&mut self, journal: &mut Journal, def: &Def) -> Result<bool, NoMemory>
-        ensures fits { (table : Table) → AreCommands self.old.slots table → IfOk result (λ applies. applies ≡ fits table def.now) }
-        ensures made { (table : Table) → IsInOrder table → AreCommands self.old.slots table → OnOk result (AreCommands self.new.slots (defined table def.now)) }
-        ensures past { (q : List ℕ) → undone journal.new.items (is_there self.new.slots) q ≡ undone journal.old.items (is_there self.old.slots) q }
-        ensures places { HavePlaces self.old.slots journal.old.items → HavePlaces self.new.slots journal.new.items }
+        ensures fits { (table : Table) → AreCommands self.old.slots table
+            → IfOk result (λ applies. applies ≡ fits table def.now) }
+        ensures made { (table : Table) → IsInOrder table → AreCommands self.old.slots table
+            → OnOk result (AreCommands self.new.slots (defined table def.now)) }
+        ensures past { (q : Bytes)
+            → undone journal.new.items (is_there self.new.slots) q
+            ≡ undone journal.old.items (is_there self.old.slots) q }
+        ensures places { HavePlaces self.old.slots journal.old.items
+            → HavePlaces self.new.slots journal.new.items }
     {
         tables_are_maps();
         match def {
@@ -144,10 +165,18 @@ impl Names {
         journal: &mut Journal,
         defs: &[Def],
     ) -> Result<Option<usize>, NoMemory>
-        ensures place { (natives : List (List ℕ)) → (before : List Def) → AreCommands self.old.slots (Commands natives before) → IfOk result (λ place. place ≡ first_misfit (Commands natives before) defs.now) }
-        ensures made { (natives : List (List ℕ)) → (before : List Def) → AreCommands self.old.slots (Commands natives before) → IfOk result (λ place. place ≡ None → AreCommands self.new.slots (Commands natives (before ++ defs.now))) }
-        ensures past { (q : List ℕ) → undone journal.new.items (is_there self.new.slots) q ≡ undone journal.old.items (is_there self.old.slots) q }
-        ensures places { HavePlaces self.old.slots journal.old.items → HavePlaces self.new.slots journal.new.items }
+        ensures place { (natives : Names) → (before : List Def)
+            → AreCommands self.old.slots (Commands natives before)
+            → IfOk result (λ place. place ≡ first_misfit (Commands natives before) defs.now) }
+        ensures made { (natives : Names) → (before : List Def)
+            → AreCommands self.old.slots (Commands natives before)
+            → IfOk result (λ place.
+            place ≡ None → AreCommands self.new.slots (Commands natives (before ++ defs.now))) }
+        ensures past { (q : Bytes)
+            → undone journal.new.items (is_there self.new.slots) q
+            ≡ undone journal.old.items (is_there self.old.slots) q }
+        ensures places { HavePlaces self.old.slots journal.old.items
+            → HavePlaces self.new.slots journal.new.items }
     {
         tables_are_maps();
         'defs: for (place, def) in defs.iter().enumerate() {

@@ -1,6 +1,7 @@
 //! Whether definitions can be put behind others.
 
-ghost use Rattle.std.specs.Prelude.{◌≡◌, ◌≤◌, ◌++◌, ℕ, List, length, OnOk};
+ghost use Rattle.std.specs.Prelude.{◌≡◌, ◌≤◌, ◌++◌, List, length, OnOk};
+ghost use Rattle.txt_core.specs.Names.{Bytes, Names};
 ghost use Rattle.cmd_table.specs.declared.definition.Def.{Def};
 ghost use Rattle.cmd_table.specs.Commands.{Commands};
 ghost use Rattle.blueprint.specs.Scripts.{script_of};
@@ -41,10 +42,19 @@ impl Room {
     ) -> Result<Room, Published>
         requires count { self.count ≤ most_definitions }
         requires size { self.size ≤ most_script }
-        ensures answer { (natives : List (List ℕ)) → (before : List Def) → AreCommands names.old.slots (Commands natives before) → self.count ≡ length before → self.size ≡ length (script_of before) → IsChecked (answer natives self.epoch before defs.now) self.epoch (before ++ defs.now) result }
-        ensures made { (natives : List (List ℕ)) → (before : List Def) → AreCommands names.old.slots (Commands natives before) → OnOk result (AreCommands names.new.slots (Commands natives (before ++ defs.now))) }
-        ensures past { (q : List ℕ) → undone journal.new.items (is_there names.new.slots) q ≡ undone journal.old.items (is_there names.old.slots) q }
-        ensures places { HavePlaces names.old.slots journal.old.items → HavePlaces names.new.slots journal.new.items }
+        ensures answer { (natives : Names) → (before : List Def)
+            → AreCommands names.old.slots (Commands natives before)
+            → self.count ≡ length before → self.size ≡ length (script_of before)
+            → IsChecked (answer natives self.epoch before defs.now) self.epoch (before ++ defs.now)
+            result }
+        ensures made { (natives : Names) → (before : List Def)
+            → AreCommands names.old.slots (Commands natives before)
+            → OnOk result (AreCommands names.new.slots (Commands natives (before ++ defs.now))) }
+        ensures past { (q : Bytes)
+            → undone journal.new.items (is_there names.new.slots) q
+            ≡ undone journal.old.items (is_there names.old.slots) q }
+        ensures places { HavePlaces names.old.slots journal.old.items
+            → HavePlaces names.new.slots journal.new.items }
     {
         match names.find_misfit(journal, defs.as_slice()) {
             Err(NoMemory) => Err(Published::NoMemory),
@@ -57,7 +67,10 @@ impl Room {
     fn measure(self, alloc: Global, defs: &Defs) -> Result<Room, Published>
         requires count { self.count ≤ most_definitions }
         requires size { self.size ≤ most_script }
-        ensures { (before : List Def) → self.count ≡ length before → self.size ≡ length (script_of before) → IsChecked (by_room self.epoch (before ++ defs.now)) self.epoch (before ++ defs.now) result }
+        ensures { (before : List Def) → self.count ≡ length before
+            → self.size ≡ length (script_of before)
+            → IsChecked (by_room self.epoch (before ++ defs.now)) self.epoch (before ++ defs.now)
+            result }
     {
         if defs.len() > MOST_DEFINITIONS - self.count || self.epoch == u64::MAX {
             return Err(Published::Full(Limit::Count));

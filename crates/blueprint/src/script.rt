@@ -47,7 +47,8 @@ fn route_words(
     inherit: bool,
     words: &Words,
 ) -> Result<Words, NoMemory>
-    ensures { IfOk result (λ command. command ≡ registering inherit (method.now ∷ url.now ∷ words.now)) }
+    ensures { IfOk result (λ command.
+        command ≡ registering inherit (method.now ∷ url.now ∷ words.now)) }
 {
     let mut command = registering(alloc, inherit)?;
     add_word(alloc, &mut command, method.bytes())?;
@@ -64,7 +65,9 @@ fn filter_words(
     pattern: &Text,
     words: &Words,
 ) -> Result<Words, NoMemory>
-    ensures { IfOk result (λ command. command ≡ codes "ns_register_filter" ∷ when_name when ∷ method.now ∷ pattern.now ∷ words.now) }
+    ensures { IfOk result (λ command.
+        command
+        ≡ codes "ns_register_filter" ∷ when_name when ∷ method.now ∷ pattern.now ∷ words.now) }
 {
     let mut command = Words::new(alloc);
     add_word(alloc, &mut command, b"ns_register_filter")?;

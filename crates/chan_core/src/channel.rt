@@ -33,10 +33,11 @@ pub struct Channel {
 }
 
 impl Model for Channel {
-    ghost use Rattle.std.specs.Prelude.{ℕ, List, ◌≤◌, drop, length};
+    ghost use Rattle.std.specs.Prelude.{◌≤◌, drop, length};
     ghost use Rattle.std.specs.Coded.{coded_list, coded_ℕ};
+    ghost use Rattle.txt_core.specs.Names.{Bytes};
 
-    ghost Value = { List ℕ };
+    ghost Value = { Bytes };
 
     ghost coded = { coded_list coded_ℕ };
 

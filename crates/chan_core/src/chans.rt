@@ -43,11 +43,12 @@ pub struct Chans {
 }
 
 impl Model for Chans {
-    ghost use Rattle.std.specs.Prelude.{ℕ, List, Option, ◌≡◌, ◌≤◌};
+    ghost use Rattle.std.specs.Prelude.{List, Option, ◌≡◌, ◌≤◌};
     ghost use Rattle.std.specs.Coded.{coded_list, coded_option, coded_ℕ};
+    ghost use Rattle.txt_core.specs.Names.{Bytes};
     ghost use Rattle.chan_core.specs.Chans.{open_count};
 
-    ghost Value = { List (Option (List ℕ)) };
+    ghost Value = { List (Option Bytes) };
 
     ghost coded = { coded_list (coded_option (coded_list coded_ℕ)) };
 
@@ -126,7 +127,8 @@ impl Chans {
     /// `Full` never. Whatever the fault, no channel is changed.
     pub fn gets(&mut self, chan: u64) -> Result<Option<Text>, ChanFault>
         ensures line { IfOk result (λ line. line ≡ line_of (left_in self.old chan)) }
-        ensures ok { OnOk result (self.new ≡ with_left self.old chan (behind_line (left_in self.old chan))) }
+        ensures ok { OnOk result
+            (self.new ≡ with_left self.old chan (behind_line (left_in self.old chan))) }
 
         ensures absent { (result ≡ Err ChanFault.NoChannel) ↔ (channel self.old chan ≡ None) }
         ensures other { result ≢ Err ChanFault.Full }
@@ -143,7 +145,8 @@ impl Chans {
     /// open channel has this number, and `Full` never. Whatever the fault, no channel is changed.
     pub fn read(&mut self, chan: u64, most: u64) -> Result<Text, ChanFault>
         ensures bytes { IfOk result (λ bytes. bytes ≡ take most (left_in self.old chan)) }
-        ensures ok { OnOk result (self.new ≡ with_left self.old chan (drop most (left_in self.old chan))) }
+        ensures ok { OnOk result
+            (self.new ≡ with_left self.old chan (drop most (left_in self.old chan))) }
 
         ensures absent { (result ≡ Err ChanFault.NoChannel) ↔ (channel self.old chan ≡ None) }
         ensures other { result ≢ Err ChanFault.Full }

@@ -1,6 +1,7 @@
 -- The commands that definitions make, from the built-in names on, and the global variables.
 use Rattle.std.specs.Prelude.{◌≡◌, ◌⊎◌, ◌++◌, ℕ, List, [], ◌∷◌, codes, Bool, true, false, not, if◌then◌else◌, None, IsSome, fold, sum_by}
 use Rattle.std.specs.FinMap as map
+use Rattle.txt_core.specs.Names.{Names}
 use Rattle.tcl_frame.specs.Names.{named, is_element}
 use Rattle.tcl_frame.specs.Variables.{Scalars}
 use Rattle.cmd_table.specs.declared.command.Cmd.TheVariants as commands
@@ -12,7 +13,7 @@ use Rattle.cmd_table.specs.declared.renaming.Renamed.TheVariants.{Done, NoOld, N
 use Rattle.cmd_table.specs.Renaming.{rename_answer, renamed, rename_writes}
 
 -- the names of the commands of the language that are no natives
-unfoldable pub language_names : List (List ℕ)
+unfoldable pub language_names : Names
 language_names =
     codes "set" ∷ codes "unset" ∷ codes "incr" ∷ codes "append" ∷ codes "lappend" ∷ codes "global" ∷ codes "array" ∷ codes "info"
     ∷ codes "proc" ∷ codes "rename" ∷ codes "if" ∷ codes "while" ∷ codes "for" ∷ codes "foreach" ∷ codes "switch" ∷ codes "catch"
@@ -20,7 +21,7 @@ language_names =
 
 -- The names of the commands of the server: of sets and channels, of the connection, of texts and moments, of
 -- pages, of definitions, interpreters and the schedule, of shared arrays.
-unfoldable pub server_names : List (List ℕ)
+unfoldable pub server_names : Names
 server_names =
     codes "ns_set" ∷ codes "open" ∷ codes "gets" ∷ codes "read" ∷ codes "eof" ∷ codes "close"
     ∷ codes "ns_conn" ∷ codes "ns_queryget" ∷ codes "ns_return" ∷ codes "ns_returnredirect" ∷ codes "ns_returnnotfound"
@@ -33,15 +34,15 @@ server_names =
     ∷ codes "nsv_lappend" ∷ codes "nsv_unset" ∷ codes "nsv_names" ∷ codes "nsv_array" ∷ []
 
 -- the names of the built-ins that are no natives
-unfoldable pub built_ins : List (List ℕ)
+unfoldable pub built_ins : Names
 built_ins = language_names ++ server_names
 
 -- a table in which these names have their built-ins, whatever they had before; all other names have theirs
-abbrev pub with_built : Table → List (List ℕ) → Table
+abbrev pub with_built : Table → Names → Table
 with_built table names = fold (λ table name. with_command table name (commands.Built name)) table names
 
 -- The table of the built-in names, those of the natives behind the others: each has its built-in, and no other name has a command.
-abbrev pub built : List (List ℕ) → Table
+abbrev pub built : Names → Table
 built natives = with_built [] (built_ins ++ natives)
 
 -- The table after a definition: `Proc` sets a name, and `Rename` moves or removes one. A rename that
@@ -55,7 +56,7 @@ defined table (Cleanup script) = table
 defined table (Set name value) = table
 
 -- the commands of definitions that were made one after the other on the built-in names, those of the natives behind the others
-abbrev pub Commands : List (List ℕ) → List Def → Table
+abbrev pub Commands : Names → List Def → Table
 Commands natives defs = fold defined (built natives) defs
 
 -- The global variables after a definition: `Set` gives a name its value. One whose name has the form of

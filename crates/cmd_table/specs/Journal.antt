@@ -1,7 +1,8 @@
 -- What a command table was before each change, by what its journal notes.
-use Rattle.std.specs.Prelude.{◌≡◌, ◌||◌, ℕ, List, [], ◌∷◌, Option, Some, None}
+use Rattle.std.specs.Prelude.{◌≡◌, ◌||◌, List, [], ◌∷◌, Option, Some, None}
 use Rattle.std.specs.Map.{remove_entry, set_value}
 use Rattle.std.specs.BTreeMap.{is_at}
+use Rattle.txt_core.specs.Names.{Bytes}
 use Rattle.cmd_table.specs.declared.command.Cmd.{Cmd}
 use Rattle.cmd_table.specs.declared.journal.Row.{Row}
 use Rattle.cmd_table.specs.Table.{Table, name_order}
@@ -9,7 +10,7 @@ use Rattle.cmd_table.specs.Places.{has_command}
 use Rattle.cmd_table.specs.Slots.{Slots, present, has_slot, AreFull}
 
 -- the slots in which the slot of this name is what it was: it holds this again, or there is none
-abbrev pub with_slot : Slots → List ℕ → Option (Option Cmd) → Slots
+abbrev pub with_slot : Slots → Bytes → Option (Option Cmd) → Slots
 with_slot slots name None = remove_entry (is_at (name_order name)) slots
 with_slot slots name (Some cmd) = set_value (is_at (name_order name)) slots cmd
 
@@ -29,7 +30,7 @@ past_of (row ∷ rows) slots = present (undone (row ∷ rows) slots) ∷ past_of
 
 -- in a change, slots came for names that have a command behind it, and no other slot came or went
 abbrev pub AreMore : Slots → Slots → Type 0
-AreMore before after = (name : List ℕ) → has_slot after name ≡ (has_slot before name || has_command (present after) name)
+AreMore before after = (name : Bytes) → has_slot after name ≡ (has_slot before name || has_command (present after) name)
 
 -- so it was in each change
 abbrev pub AreGrown : List Row → Slots → Type 0

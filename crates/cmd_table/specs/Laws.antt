@@ -2,6 +2,7 @@
 use Rattle.std.specs.Prelude.{◌≡◌, ◌≤◌, ◌++◌, ◌↔◌, ℕ, List, Some, None, IsTrue, if◌then◌else◌}
 use Rattle.std.specs.Str.{bytes_eq}
 use Rattle.std.specs.List.Sorted.{IsStrictlySortedBy}
+use Rattle.txt_core.specs.Names.{Bytes, Names}
 use Rattle.natives.specs.Names.{has_name}
 use Rattle.cmd_table.specs.declared.command.Cmd.{Cmd}
 use Rattle.cmd_table.specs.declared.definition.Def.{Def}
@@ -12,19 +13,19 @@ use Rattle.cmd_table.specs.Commands.{built_ins, built, Commands, Applies, fits}
 
 -- a command that is put is found under its name, and any other name has what it had
 abbrev pub PuttingSetsOneName : Type 0
-PuttingSetsOneName = (table : Table) (name other : List ℕ) (cmd : Cmd) → command_of (with_command table name cmd) other ≡ (if bytes_eq name other then Some cmd else command_of table other)
+PuttingSetsOneName = (table : Table) (name other : Bytes) (cmd : Cmd) → command_of (with_command table name cmd) other ≡ (if bytes_eq name other then Some cmd else command_of table other)
 
 -- a name that is removed has no command, and any other name has what it had
 abbrev pub RemovingDropsOneName : Type 0
-RemovingDropsOneName = (table : Table) (name other : List ℕ) → IsInOrder table → command_of (without_command table name) other ≡ (if bytes_eq name other then None else command_of table other)
+RemovingDropsOneName = (table : Table) (name other : Bytes) → IsInOrder table → command_of (without_command table name) other ≡ (if bytes_eq name other then None else command_of table other)
 
 -- whatever is defined, the names stand in their order, each once
 abbrev pub CommandsAreInOrder : Type 0
-CommandsAreInOrder = (natives : List (List ℕ)) (defs : List Def) → IsInOrder (Commands natives defs)
+CommandsAreInOrder = (natives : Names) (defs : List Def) → IsInOrder (Commands natives defs)
 
 -- each built-in name has its built-in, those of the natives too, and no other name has a command
 abbrev pub BuiltInsAreThere : Type 0
-BuiltInsAreThere = (natives : List (List ℕ)) (name : List ℕ) → command_of (built natives) name ≡ (if has_name (built_ins ++ natives) name then Some (commands.Built name) else None)
+BuiltInsAreThere = (natives : Names) (name : Bytes) → command_of (built natives) name ≡ (if has_name (built_ins ++ natives) name then Some (commands.Built name) else None)
 
 -- the truth value says whether a definition applies
 abbrev pub FitsWhereApplies : Type 0
@@ -48,7 +49,7 @@ PlacesAreInOrder = (state : State) → IsStrictlySortedBy name_order (placed sta
 
 -- they are exactly those that have a command now, or had one before a change that can be taken back
 abbrev pub PlacesAreOfCommands : Type 0
-PlacesAreOfCommands = (state : State) (name : List ℕ) → has_name (placed state) name ≡ has_place state name
+PlacesAreOfCommands = (state : State) (name : Bytes) → has_name (placed state) name ≡ has_place state name
 
 -- taken back to where an earlier state was, a table has the places that it had there
 abbrev pub PlacesGoBack : Type 0

@@ -95,7 +95,8 @@ pub(crate) fn fill_built_ins<L: Ledger>(
     steps: &mut Steps<L>,
 ) -> Result<(), NoMemory>
     requires { AreReady slots.old.entries }
-    ensures table { OnOk result (present slots.new.entries ≡ with_built (present slots.old.entries) built_ins) }
+    ensures table { OnOk result
+        (present slots.new.entries ≡ with_built (present slots.old.entries) built_ins) }
     ensures ready { AreReady slots.new.entries }
     ensures steps { OnOk result (steps.new ≡ steps.old + length built_ins) }
     ensures least { steps.old ≤ steps.new }
@@ -113,7 +114,9 @@ fn fill_names<L: Ledger>(
     steps: &mut Steps<L>,
 ) -> Result<(), NoMemory>
     requires { AreReady slots.old.entries }
-    ensures table { OnOk result (present slots.new.entries ≡ with_built (present slots.old.entries) (map (λ name. name.now) names.now)) }
+    ensures table { OnOk result
+        (present slots.new.entries
+        ≡ with_built (present slots.old.entries) (map (λ name. name.now) names.now)) }
     ensures ready { AreReady slots.new.entries }
     ensures steps { OnOk result (steps.new ≡ steps.old + length names.now) }
     ensures least { steps.old ≤ steps.new }
@@ -133,7 +136,9 @@ pub(crate) fn fill_natives<L: Ledger>(
     steps: &mut Steps<L>,
 ) -> Result<(), NoMemory>
     requires { AreReady slots.old.entries }
-    ensures table { OnOk result (present slots.new.entries ≡ with_built (present slots.old.entries) (native_names natives.now)) }
+    ensures table { OnOk result
+        (present slots.new.entries
+        ≡ with_built (present slots.old.entries) (native_names natives.now)) }
     ensures ready { AreReady slots.new.entries }
     ensures steps { OnOk result (steps.new ≡ steps.old + length (native_names natives.now)) }
     ensures least { steps.old ≤ steps.new }
@@ -155,7 +160,9 @@ fn fill<L: Ledger>(
     steps: &mut Steps<L>,
 ) -> Result<(), NoMemory>
     requires { AreReady slots.old.entries }
-    ensures table { OnOk result (present slots.new.entries ≡ with_command (present slots.old.entries) name.now (Cmd.Built name.now)) }
+    ensures table { OnOk result
+        (present slots.new.entries
+        ≡ with_command (present slots.old.entries) name.now (Cmd.Built name.now)) }
     ensures ready { AreReady slots.new.entries }
     ensures steps { OnOk result (steps.new ≡ steps.old + 1) }
     ensures err { OnErr result ((slots.new.entries ≡ slots.old.entries) × (steps.new ≡ steps.old)) }
@@ -169,7 +176,8 @@ fn fill<L: Ledger>(
 /// Gives a name this command.
 fn put_slot(slots: &mut Slots, name: Text, cmd: Cmd) -> Result<(), NoMemory>
     requires { AreReady slots.old.entries }
-    ensures table { OnOk result (present slots.new.entries ≡ with_command (present slots.old.entries) name cmd) }
+    ensures table { OnOk result
+        (present slots.new.entries ≡ with_command (present slots.old.entries) name cmd) }
     ensures ready { AreReady slots.new.entries }
     ensures err { OnErr result (slots.new.entries ≡ slots.old.entries) }
 {

@@ -38,9 +38,13 @@ pub(crate) fn change(
     requires ordered { AreInOrder slots.old.entries }
     requires placed { ArePlaced journal.old.items slots.old.entries }
     requires some { IsTrue (is_some cmd || has_command (present slots.old.entries) name) }
-    ensures table { OnOk result (present slots.new.entries ≡ with_option (present slots.old.entries) name cmd) }
-    ensures past { OnOk result (past_of journal.new.items slots.new.entries ≡ past_of journal.old.items slots.old.entries ++ present slots.old.entries ∷ []) }
-    ensures err { OnErr result ((journal.new.items ≡ journal.old.items) × (slots.new.entries ≡ slots.old.entries)) }
+    ensures table { OnOk result
+        (present slots.new.entries ≡ with_option (present slots.old.entries) name cmd) }
+    ensures past { OnOk result
+        (past_of journal.new.items slots.new.entries
+        ≡ past_of journal.old.items slots.old.entries ++ present slots.old.entries ∷ []) }
+    ensures err { OnErr result
+        ((journal.new.items ≡ journal.old.items) × (slots.new.entries ≡ slots.old.entries)) }
     ensures ordered { AreInOrder slots.new.entries }
     ensures placed { ArePlaced journal.new.items slots.new.entries }
 {
@@ -56,7 +60,8 @@ pub(crate) fn take_back(slots: &mut Slots, journal: &mut Journal)
     requires some { 0 < length journal.old.items }
     requires ordered { AreInOrder slots.old.entries }
     requires placed { ArePlaced journal.old.items slots.old.entries }
-    ensures past { past_of journal.old.items slots.old.entries ≡ past_of journal.new.items slots.new.entries ++ present slots.new.entries ∷ [] }
+    ensures past { past_of journal.old.items slots.old.entries
+        ≡ past_of journal.new.items slots.new.entries ++ present slots.new.entries ∷ [] }
     ensures ordered { AreInOrder slots.new.entries }
     ensures placed { ArePlaced journal.new.items slots.new.entries }
 {
@@ -83,7 +88,8 @@ fn put_back(slots: &mut Slots, row: Row)
 /// Makes the slot of a name hold this, where it is there.
 fn set_slot(slots: &mut Slots, name: &Text, cmd: Option<Cmd>)
     requires { AreInOrder slots.old.entries }
-    ensures set { slots.new.entries ≡ set_value (is_at (name_order name.now)) slots.old.entries cmd }
+    ensures set { slots.new.entries
+        ≡ set_value (is_at (name_order name.now)) slots.old.entries cmd }
     ensures ordered { AreInOrder slots.new.entries }
 {
     if let Some(slot) = slots.get_mut(name) {

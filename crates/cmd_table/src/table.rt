@@ -59,9 +59,11 @@ impl CmdTable {
     ) -> Result<CmdTable, NoMemory>
         ensures table { IfOk result (λ made. made.table ≡ built (native_names natives.now)) }
         ensures past { IfOk result (λ made. made.past ≡ []) }
-        ensures steps { OnOk result (steps.new ≡ steps.old + (length built_ins + length (native_names natives.now))) }
+        ensures steps { OnOk result
+            (steps.new ≡ steps.old + (length built_ins + length (native_names natives.now))) }
         ensures least { steps.old ≤ steps.new }
-        ensures most { steps.new ≤ steps.old + (length built_ins + length (native_names natives.now)) }
+        ensures most { steps.new ≤ steps.old +
+            (length built_ins + length (native_names natives.now)) }
     {
         let mut slots = no_slots(alloc);
         fill_built_ins(alloc, &mut slots, steps)?;
@@ -129,7 +131,8 @@ impl CmdTable {
     /// Gives a name this command, or takes the one away that it has.
     fn change(&mut self, name: Text, cmd: Option<Cmd>) -> Result<(), NoMemory>
         requires { IsTrue (is_some cmd || has_command self.old.table name) }
-        ensures ok { OnOk result (self.new ≡ changed self.old (with_option self.old.table name cmd)) }
+        ensures ok { OnOk result
+            (self.new ≡ changed self.old (with_option self.old.table name cmd)) }
         ensures err { OnErr result (self.new ≡ self.old) }
     {
         change(self.alloc, &mut self.slots, &mut self.journal, name, cmd)
@@ -164,9 +167,11 @@ impl CmdTable {
         new: &Text,
         steps: &mut Steps<L>,
     ) -> Result<Renamed, NoMemory>
-        ensures answer { IfOk result (λ answer. answer ≡ rename_answer self.old.table old.now new.now) }
+        ensures answer { IfOk result (λ answer.
+            answer ≡ rename_answer self.old.table old.now new.now) }
         ensures table { OnOk result (self.new.table ≡ renamed self.old.table old.now new.now) }
-        ensures steps { IfOk result (λ answer. steps.new ≡ steps.old + renaming_steps answer new.now) }
+        ensures steps { IfOk result (λ answer.
+            steps.new ≡ steps.old + renaming_steps answer new.now) }
         ensures err { OnErr result ((self.new ≡ self.old) × (steps.new ≡ steps.old)) }
         ensures keeps { Keeps self.old self.new }
         ensures marks { steps.new + mark_of self.old ≡ steps.old + mark_of self.new }
@@ -235,7 +240,8 @@ impl CmdTable {
         body: &Text,
         steps: &mut Steps<L>,
     ) -> Result<(), NoMemory>
-        ensures table { OnOk result (self.new.table ≡ with_command self.old.table name.now (Cmd.Proc params.now body.now)) }
+        ensures table { OnOk result
+            (self.new.table ≡ with_command self.old.table name.now (Cmd.Proc params.now body.now)) }
         ensures steps { OnOk result (steps.new ≡ steps.old + 1) }
         ensures err { OnErr result ((self.new ≡ self.old) × (steps.new ≡ steps.old)) }
         ensures keeps { Keeps self.old self.new }
@@ -270,7 +276,10 @@ impl CmdTable {
         steps: &mut Steps<L>,
     ) -> Result<(), NoMemory>
         requires { IsSome (command_of self.old.table old.now) }
-        ensures table { OnOk result (self.new.table ≡ with_option (without_command self.old.table old.now) new.now (command_of self.old.table old.now)) }
+        ensures table { OnOk result
+            (self.new.table
+            ≡ with_option (without_command self.old.table old.now) new.now
+            (command_of self.old.table old.now)) }
         ensures steps { OnOk result (steps.new ≡ steps.old + 2) }
         ensures err { OnErr result ((self.new ≡ self.old) × (steps.new ≡ steps.old)) }
         ensures keeps { Keeps self.old self.new }
@@ -293,7 +302,10 @@ impl CmdTable {
     /// wants.
     fn move_one(&mut self, old: Text, new: Text, cmd: Cmd) -> Result<(), NoMemory>
         requires { IsSome (command_of self.old.table old) }
-        ensures ok { OnOk result (self.new ≡ changed (changed self.old (without_command self.old.table old)) (with_command (without_command self.old.table old) new cmd)) }
+        ensures ok { OnOk result
+            (self.new
+            ≡ changed (changed self.old (without_command self.old.table old))
+            (with_command (without_command self.old.table old) new cmd)) }
         ensures err { OnErr result (self.new ≡ self.old) }
     {
         self.change(old, None)?;

@@ -1,5 +1,6 @@
 -- What the host of a connection knows.
 use Rattle.std.specs.Prelude.{ℕ, List, [], ◌∷◌, Option, Some, None}
+use Rattle.txt_core.specs.Names.{Bytes, Moment}
 use Rattle.ns_sets.specs.Fields.{Field}
 use Rattle.ns_sets.specs.Sets.{fields_of}
 use Rattle.ns_sets.specs.declared.set.Set.{Set}
@@ -14,11 +15,11 @@ pub record ConnState : Type 0 where
   -- the sets by their numbers
   pub sets : List (Option Set)
   -- the channels by their numbers: of each open one the bytes not yet read
-  pub channels : List (Option (List ℕ))
+  pub channels : List (Option Bytes)
   -- the response that was given, if any
   pub response : Option Response
   -- the moment of the run, in seconds since 1970
-  pub moment : ℕ
+  pub moment : Moment
 
 -- a set without a name, of these fields
 abbrev pub unnamed : List Field → Option Set
@@ -35,7 +36,7 @@ abbrev pub form_set : ℕ
 form_set = 2
 
 -- A run on a request begins with three sets: the fields of the request, none yet for the response, and the form.
-abbrev pub serving : Request → ℕ → ConnState
+abbrev pub serving : Request → Moment → ConnState
 serving request moment = record {
   request = Some request;
   sets = unnamed request.fields ∷ unnamed [] ∷ unnamed (form_of request) ∷ [];
@@ -45,7 +46,7 @@ serving request moment = record {
 }
 
 -- A run without a connection begins as if these three had been made and freed.
-abbrev pub without_connection : ℕ → ConnState
+abbrev pub without_connection : Moment → ConnState
 without_connection moment =
     record { request = None; sets = None ∷ None ∷ None ∷ []; channels = []; response = None; moment = moment }
 
@@ -56,7 +57,7 @@ no_run = record { request = None; sets = []; channels = []; response = None; mom
 abbrev pub with_sets : ConnState → List (Option Set) → ConnState
 with_sets host sets = record host { sets = sets }
 
-abbrev pub with_channels : ConnState → List (Option (List ℕ)) → ConnState
+abbrev pub with_channels : ConnState → List (Option Bytes) → ConnState
 with_channels host channels = record host { channels = channels }
 
 abbrev pub with_response : ConnState → Response → ConnState

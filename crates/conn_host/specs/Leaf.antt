@@ -1,5 +1,6 @@
 -- What the host of a connection says of each command, and of an answer.
-use Rattle.std.specs.Prelude.{ℕ, List, bytes_eq, codes, if◌then◌else◌, Option, Some, None}
+use Rattle.std.specs.Prelude.{bytes_eq, codes, if◌then◌else◌, Option, Some, None}
+use Rattle.txt_core.specs.Names.{Bytes, Words}
 use Rattle.outside.specs.declared.question.Answer.{Answer}
 use Rattle.tcl_host.specs.Leaf.{Leaf, not_mine}
 use Rattle.natives.specs.Words.{arg}
@@ -13,7 +14,7 @@ use Rattle.conn_host.specs.declared.verb.Verb.{Verb}
 use Rattle.conn_host.specs.declared.verb.Verb.TheVariants as verbs
 
 -- the command of a name
-abbrev pub verb_of : List ℕ → Option Verb
+abbrev pub verb_of : Bytes → Option Verb
 verb_of name =
     if bytes_eq name (codes "ns_set") then Some verbs.NsSet
     else if bytes_eq name (codes "open") then Some verbs.Open
@@ -33,7 +34,7 @@ verb_of name =
     else None
 
 -- what each command does
-abbrev pub does : Verb → List (List ℕ) → ConnState → Leaf ConnState
+abbrev pub does : Verb → Words → ConnState → Leaf ConnState
 does verbs.NsSet words host = ns_set words host
 does verbs.Open words host = open_page words host
 does verbs.Gets words host = gets words host
@@ -50,15 +51,15 @@ does verbs.NsUrldecode words host = ns_urldecode words host
 does verbs.NsTime words host = ns_time words host
 does verbs.NsHttptime words host = ns_httptime words host
 
-abbrev pub by_verb : Option Verb → List (List ℕ) → ConnState → Leaf ConnState
+abbrev pub by_verb : Option Verb → Words → ConnState → Leaf ConnState
 by_verb None words host = not_mine host
 by_verb (Some verb) words host = does verb words host
 
 -- the first word names the command; any other name is none of this host's
-abbrev pub conn_call : List (List ℕ) → ConnState → Leaf ConnState
+abbrev pub conn_call : Words → ConnState → Leaf ConnState
 conn_call words host = by_verb (verb_of (arg words 0)) words host
 
 -- `open` alone asks a question, so an answer to any other words is none of this host's
-abbrev pub conn_answer : List (List ℕ) → Answer → ConnState → Leaf ConnState
+abbrev pub conn_answer : Words → Answer → ConnState → Leaf ConnState
 conn_answer words answer host =
     if bytes_eq (arg words 0) (codes "open") then page_answered words answer host else not_mine host

@@ -1,8 +1,9 @@
 -- The commands that tell of the request. Without a connection they are an error, which goes behind the number of words and the
 -- subcommand and before all else.
-use Rattle.std.specs.Prelude.{ℕ, List, [], ◌∷◌, ◌++◌, length, take, drop, decimal, Bool, ◌||◌, ◌==◌, bytes_eq, codes, if◌then◌else◌, find, Option, Some, None, Ok, Err}
+use Rattle.std.specs.Prelude.{ℕ, [], ◌∷◌, ◌++◌, length, take, drop, decimal, Bool, ◌||◌, ◌==◌, bytes_eq, codes, if◌then◌else◌, find, Option, Some, None, Ok, Err}
 use Rattle.std.specs.List.{join_with_byte}
 use Rattle.std.specs.Option.{option_map_or}
+use Rattle.txt_core.specs.Names.{Bytes, Words}
 use Rattle.txt_core.specs.Limits.{is_long}
 use Rattle.txt_core.specs.ErrorTexts.{too_long}
 use Rattle.txt_core.specs.Quoting.{quoting}
@@ -21,36 +22,36 @@ use Rattle.conn_host.specs.declared.conn_verb.ConnVerb.TheVariants as verbs
 -- ---- what is told
 
 -- the path: a slash, and the segments with a slash between each two
-abbrev pub path_of : Request → List ℕ
+abbrev pub path_of : Request → Bytes
 path_of request = codes "/" ++ join_with_byte 47 request.segments
 
 -- the version of HTTP
-abbrev pub version_of : Request → List ℕ
+abbrev pub version_of : Request → Bytes
 version_of request = if request.minor == 0 then codes "1.0" else codes "1.1"
 
 -- method, target and version, with one space between each two
-abbrev pub request_line : Request → List ℕ
+abbrev pub request_line : Request → Bytes
 request_line request = request.method ++ codes " " ++ request.target ++ codes " " ++ version_of request
 
 -- a part of the body is told where it isn't over the limit of a value
-abbrev pub not_long : List ℕ → Checked (List ℕ)
+abbrev pub not_long : Bytes → Checked Bytes
 not_long text = if is_long text then Err too_long else Ok text
 
 -- so many bytes of a text from a place on, cut to what is there
-abbrev pub bytes_from : Checked ℕ → Checked ℕ → List ℕ → Checked (List ℕ)
+abbrev pub bytes_from : Checked ℕ → Checked ℕ → Bytes → Checked Bytes
 bytes_from (Ok first) (Ok most) text = not_long (take most (drop first text))
 bytes_from (Ok first) (Err message) text = Err message
 bytes_from (Err message) most text = Err message
 
 -- `content` is the whole body, and `content FIRST COUNT` so many of its bytes from this place on
-abbrev pub content : List (List ℕ) → Request → Checked (List ℕ)
+abbrev pub content : Words → Request → Checked Bytes
 content words request =
     if length words == 2 then not_long request.body else bytes_from (count words 2) (count words 3) request.body
 
 -- What each subcommand tells: the method; the path; what follows the first question mark of the target; the body; the peer; the
 -- ids of the sets with which the run began; the length of the body; the list of the path's segments, and their number; the
 -- version; the request line; user and password.
-abbrev pub tells : ConnVerb → List (List ℕ) → Request → Checked (List ℕ)
+abbrev pub tells : ConnVerb → Words → Request → Checked Bytes
 tells verbs.Method words request = Ok request.method
 tells verbs.Url words request = Ok (path_of request)
 tells verbs.Query words request = Ok request.query
@@ -70,7 +71,7 @@ tells verbs.Authpassword words request = Ok (credentials request.fields).passwor
 -- ---- `ns_conn`
 
 -- the subcommand of a name
-abbrev pub conn_verb_of : List ℕ → Option ConnVerb
+abbrev pub conn_verb_of : Bytes → Option ConnVerb
 conn_verb_of name =
     if bytes_eq name (codes "method") then Some verbs.Method
     else if bytes_eq name (codes "url") then Some verbs.Url
@@ -107,27 +108,27 @@ conn_takes verbs.Request n = n == 2
 conn_takes verbs.Authuser n = n == 2
 conn_takes verbs.Authpassword n = n == 2
 
-abbrev pub does_conn : ConnVerb → List (List ℕ) → ConnState → Leaf ConnState
+abbrev pub does_conn : ConnVerb → Words → ConnState → Leaf ConnState
 does_conn verb words host = given (connection host) (λ request. given (tells verb words request) gives) host
 
-abbrev pub by_conn_verb : Option ConnVerb → List (List ℕ) → ConnState → Leaf ConnState
+abbrev pub by_conn_verb : Option ConnVerb → Words → ConnState → Leaf ConnState
 by_conn_verb None words host = no_subcommand words host
 by_conn_verb (Some verb) words host = shaped (conn_takes verb (length words)) words (does_conn verb words) host
 
 -- `ns_conn SUBCOMMAND`, and `ns_conn content ?FIRST COUNT?`
-abbrev pub ns_conn : List (List ℕ) → ConnState → Leaf ConnState
+abbrev pub ns_conn : Words → ConnState → Leaf ConnState
 ns_conn words host = counted 2 4 words (by_conn_verb (conn_verb_of (arg words 1)) words) host
 
 -- ---- `ns_queryget`
 
 -- The value of the first field of the form with the key in the second word, ignoring case; where there is none, the third word,
 -- or the empty text. A form that was freed has no field.
-abbrev pub query_value : List (List ℕ) → ConnState → List ℕ
+abbrev pub query_value : Words → ConnState → Bytes
 query_value words host =
     option_map_or (λ (field : Field). field.1) (find (has_key ignoring_case (arg words 1)) (fields_of host.sets form_set))
     (arg words 2)
 
 -- `ns_queryget KEY ?DEFAULT?`
-abbrev pub ns_queryget : List (List ℕ) → ConnState → Leaf ConnState
+abbrev pub ns_queryget : Words → ConnState → Leaf ConnState
 ns_queryget words host =
     counted 2 3 words (given (connection host) (λ request host. gives (query_value words host) host)) host

@@ -3,6 +3,7 @@
 use Rattle.std.specs.Prelude.{ℕ, ℤ, pos, negsuc, List, [], length, take, remove, slice_set, decimal, Bool, ◌||◌, ◌==◌, nat_lt, bytes_eq, codes, if◌then◌else◌, Option, Some, None, Ok, Err}
 use Rattle.std.specs.Fmt.{signed_decimal}
 use Rattle.std.specs.List.{slice_index_or}
+use Rattle.txt_core.specs.Names.{Bytes, Words}
 use Rattle.ns_sets.specs.Fields.{Field, Sameness, exact, ignoring_case, place_of, place_number, value_of, with_field, without_first, with_absent, place_put, merged}
 use Rattle.ns_sets.specs.Sets.{name_of, fields_of, with_new, with_fields}
 use Rattle.tcl_host.specs.Leaf.{Leaf}
@@ -25,16 +26,16 @@ holding host number fields = with_sets host (with_fields host.sets number fields
 -- ---- places
 
 -- there is a field at this place
-abbrev pub within : ℤ → List Field → List ℕ → Checked ℕ
+abbrev pub within : ℤ → List Field → Bytes → Checked ℕ
 within (pos n) fields id = if nat_lt n (length fields) then Ok n else Err (no_field (pos n) id)
 within (negsuc n) fields id = Err (no_field (negsuc n) id)
 
-abbrev pub place_in : Checked ℤ → List Field → List ℕ → Checked ℕ
+abbrev pub place_in : Checked ℤ → List Field → Bytes → Checked ℕ
 place_in (Ok place) fields id = within place fields id
 place_in (Err message) fields id = Err message
 
 -- the fourth word is the place of a field of the set of this number, counted from 0
-abbrev pub field_at : List (List ℕ) → ℕ → ConnState → Checked ℕ
+abbrev pub field_at : Words → ℕ → ConnState → Checked ℕ
 field_at words number host = place_in (integer words 3) (fields_in host number) (arg words 2)
 
 -- the field at a place
@@ -44,58 +45,58 @@ field_of fields place = slice_index_or fields place ([], [])
 -- ---- subcommands
 
 -- `create ?NAME?` makes a set of this name, or of the empty one, without fields; its id is the result
-abbrev pub set_create : List (List ℕ) → ConnState → Leaf ConnState
+abbrev pub set_create : Words → ConnState → Leaf ConnState
 set_create words host = gives (set_id (length host.sets)) (with_sets host (with_new host.sets (arg words 2) []))
 
 -- `put ID KEY VALUE` puts a field at the end; its place is the result
-abbrev pub set_put : List (List ℕ) → ℕ → ConnState → Leaf ConnState
+abbrev pub set_put : Words → ℕ → ConnState → Leaf ConnState
 set_put words number host =
     gives (decimal (length (fields_in host number)))
     (holding host number (with_field (fields_in host number) (arg words 3) (arg words 4)))
 
 -- `get ID KEY` gives the value of the first field of the key, or the empty text; `iget` ignores case
-abbrev pub set_get : Sameness → List (List ℕ) → ℕ → ConnState → Leaf ConnState
+abbrev pub set_get : Sameness → Words → ℕ → ConnState → Leaf ConnState
 set_get same words number host = gives (value_of same (fields_in host number) (arg words 3)) host
 
 -- `find ID KEY` gives the place of the first field of the key, or -1; `ifind` ignores case
-abbrev pub set_find : Sameness → List (List ℕ) → ℕ → ConnState → Leaf ConnState
+abbrev pub set_find : Sameness → Words → ℕ → ConnState → Leaf ConnState
 set_find same words number host =
     gives (signed_decimal (place_number (place_of same (fields_in host number) (arg words 3)))) host
 
 -- `cput ID KEY VALUE` puts a field at the end where the key is absent; its place is the result, or -1 where none was put;
 -- `icput` ignores case
-abbrev pub set_cput : Sameness → List (List ℕ) → ℕ → ConnState → Leaf ConnState
+abbrev pub set_cput : Sameness → Words → ℕ → ConnState → Leaf ConnState
 set_cput same words number host =
     gives (signed_decimal (place_put same (fields_in host number) (arg words 3)))
     (holding host number (with_absent same (fields_in host number) (arg words 3) (arg words 4)))
 
 -- the fields without the first one of the key in the fourth word, where there is one
-abbrev pub less_first : Sameness → List (List ℕ) → ℕ → ConnState → List Field
+abbrev pub less_first : Sameness → Words → ℕ → ConnState → List Field
 less_first same words number host = without_first same (fields_in host number) (arg words 3)
 
 -- `update ID KEY VALUE` removes the first field of the key, where there is one, and puts a field at the end; its place then is
 -- the result
-abbrev pub set_update : List (List ℕ) → ℕ → ConnState → Leaf ConnState
+abbrev pub set_update : Words → ℕ → ConnState → Leaf ConnState
 set_update words number host =
     gives (decimal (length (less_first exact words number host)))
     (holding host number (with_field (less_first exact words number host) (arg words 3) (arg words 4)))
 
 -- `delete ID PLACE` removes the field at the place
-abbrev pub set_delete : List (List ℕ) → ℕ → ConnState → Leaf ConnState
+abbrev pub set_delete : Words → ℕ → ConnState → Leaf ConnState
 set_delete words number host =
     given (field_at words number host) (λ place host. gives [] (holding host number (remove (fields_in host number) place))) host
 
 -- `delkey ID KEY` removes the first field of the key, where there is one; `idelkey` ignores case
-abbrev pub set_delkey : Sameness → List (List ℕ) → ℕ → ConnState → Leaf ConnState
+abbrev pub set_delkey : Sameness → Words → ℕ → ConnState → Leaf ConnState
 set_delkey same words number host = gives [] (holding host number (less_first same words number host))
 
 -- `truncate ID N` keeps the first N fields
-abbrev pub set_truncate : List (List ℕ) → ℕ → ConnState → Leaf ConnState
+abbrev pub set_truncate : Words → ℕ → ConnState → Leaf ConnState
 set_truncate words number host =
     given (count words 3) (λ most host. gives [] (holding host number (take most (fields_in host number)))) host
 
 -- `merge HIGH LOW` puts at the end of the first set, in order, each field of the second one whose key the first one then lacks
-abbrev pub set_merge : List (List ℕ) → ℕ → ConnState → Leaf ConnState
+abbrev pub set_merge : Words → ℕ → ConnState → Leaf ConnState
 set_merge words high host =
     given (set_at words 3 host)
     (λ low host. gives [] (holding host high (merged (fields_in host high) (fields_in host low)))) host
@@ -119,19 +120,19 @@ abbrev pub set_name : ℕ → ConnState → Leaf ConnState
 set_name number host = gives (name_of host.sets number) host
 
 -- `key ID PLACE` gives the key of the field at the place
-abbrev pub set_key : List (List ℕ) → ℕ → ConnState → Leaf ConnState
+abbrev pub set_key : Words → ℕ → ConnState → Leaf ConnState
 set_key words number host =
     given (field_at words number host) (λ place host. gives (field_of (fields_in host number) place).0 host) host
 
 -- `value ID PLACE` gives the value of the field at the place
-abbrev pub set_value : List (List ℕ) → ℕ → ConnState → Leaf ConnState
+abbrev pub set_value : Words → ℕ → ConnState → Leaf ConnState
 set_value words number host =
     given (field_at words number host) (λ place host. gives (field_of (fields_in host number) place).1 host) host
 
 -- ---- the command
 
 -- the subcommand of a name
-abbrev pub set_verb_of : List ℕ → Option SetVerb
+abbrev pub set_verb_of : Bytes → Option SetVerb
 set_verb_of name =
     if bytes_eq name (codes "create") then Some verbs.Create
     else if bytes_eq name (codes "put") then Some verbs.Put
@@ -179,11 +180,11 @@ set_takes verbs.Key n = n == 4
 set_takes verbs.Value n = n == 4
 
 -- the third word is the id of a set that stands, with which the command goes on
-abbrev pub on_set : List (List ℕ) → (ℕ → ConnState → Leaf ConnState) → ConnState → Leaf ConnState
+abbrev pub on_set : Words → (ℕ → ConnState → Leaf ConnState) → ConnState → Leaf ConnState
 on_set words does host = given (set_at words 2 host) does host
 
 -- what each subcommand does
-abbrev pub does_set : SetVerb → List (List ℕ) → ConnState → Leaf ConnState
+abbrev pub does_set : SetVerb → Words → ConnState → Leaf ConnState
 does_set verbs.Create words host = set_create words host
 does_set verbs.Put words host = on_set words (set_put words) host
 does_set verbs.Get words host = on_set words (set_get exact words) host
@@ -205,10 +206,10 @@ does_set verbs.Name words host = on_set words set_name host
 does_set verbs.Key words host = on_set words (set_key words) host
 does_set verbs.Value words host = on_set words (set_value words) host
 
-abbrev pub by_set_verb : Option SetVerb → List (List ℕ) → ConnState → Leaf ConnState
+abbrev pub by_set_verb : Option SetVerb → Words → ConnState → Leaf ConnState
 by_set_verb None words host = no_subcommand words host
 by_set_verb (Some verb) words host = shaped (set_takes verb (length words)) words (does_set verb words) host
 
 -- `ns_set SUBCOMMAND ..`
-abbrev pub ns_set : List (List ℕ) → ConnState → Leaf ConnState
+abbrev pub ns_set : Words → ConnState → Leaf ConnState
 ns_set words host = counted 2 5 words (by_set_verb (set_verb_of (arg words 1)) words) host

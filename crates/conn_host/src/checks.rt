@@ -39,7 +39,9 @@ pub fn require_words(alloc: Global, right: bool, words: &Words) -> Result<(), Re
 
 /// Goes on where the number of words is in this range.
 pub fn require_count(alloc: Global, least: usize, most: usize, words: &Words) -> Result<(), Refusal>
-    ensures passes { Passes result (nat_le least (length words.now) && nat_le (length words.now) most) (wrong_words (arg words.now 0)) }
+    ensures passes { Passes result
+        (nat_le least (length words.now) && nat_le (length words.now) most)
+        (wrong_words (arg words.now 0)) }
     ensures count { OnOk result ((least ≤ length words.now) × (length words.now ≤ most)) }
 {
     require_words(alloc, least <= words.len() && words.len() <= most, words)

@@ -34,7 +34,8 @@ fn add_form(alloc: Global, fields: &mut Pairs, form: &[u8]) -> Result<(), NoMemo
 
 /// The first field that names a media type.
 fn content_type(fields: &[(Text, Text)]) -> Option<&(Text, Text)>
-    ensures { option_copied result ≡ find (has_key ignoring_case (codes "content-type")) fields.now }
+    ensures { option_copied result
+        ≡ find (has_key ignoring_case (codes "content-type")) fields.now }
 {
     fields.iter().find(|field| field.0.bytes().eq_ignore_ascii_case(b"content-type"))
 }

@@ -1,6 +1,7 @@
 //! The commands that tell of the request.
 
-ghost use Rattle.std.specs.Prelude.{◌≡◌, ◌<◌, ◌++◌, ℕ, List, IfOk, take, drop, length, codes, flat_map};
+ghost use Rattle.std.specs.Prelude.{◌≡◌, ◌<◌, ◌++◌, IfOk, take, drop, length, codes, flat_map};
+ghost use Rattle.txt_core.specs.Names.{Bytes};
 ghost use Rattle.txt_core.specs.ErrorTexts.{no_connection};
 ghost use Rattle.ns_sets.specs.Fields.{ignoring_case, holds};
 ghost use Rattle.ns_sets.specs.Sets.{fields_of};
@@ -24,7 +25,8 @@ use txt_core::{NoMemory, Text, Words, error_text, is_over_limit, write_natural};
 
 /// The segments, each behind a slash.
 fn slashed(alloc: Global, segments: &[Text]) -> Result<Text, NoMemory>
-    ensures { IfOk result (λ path. path ≡ flat_map (λ (segment : List ℕ). codes "/" ++ segment) segments.now) }
+    ensures { IfOk result (λ path.
+        path ≡ flat_map (λ (segment : Bytes). codes "/" ++ segment) segments.now) }
 {
     let mut path = Text::empty(alloc);
     'segments: for segment in segments {

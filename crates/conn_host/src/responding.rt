@@ -102,7 +102,8 @@ fn respond(host: &mut ConnHost, response: Response) -> Result<Text, Refusal>
 
 /// The response of this status with the type and the body that the words say.
 fn typed(host: &ConnHost, status: u16, words: &Words) -> Result<Response, NoMemory>
-    ensures { IfOk result (λ response. response ≡ typed status (arg words.now 2) words.now host.now) }
+    ensures { IfOk result (λ response.
+        response ≡ typed status (arg words.now 2) words.now host.now) }
 {
     Ok(Response {
         status,
@@ -128,7 +129,8 @@ pub fn ns_return(host: &mut ConnHost, words: &Words) -> Result<Text, Refusal>
 
 /// The field Location of a URL, and behind it the output fields.
 fn located(host: &ConnHost, url: &[u8]) -> Result<Pairs, NoMemory>
-    ensures { IfOk result (λ fields. fields ≡ (codes "Location", url.now) ∷ output_fields host.now) }
+    ensures { IfOk result (λ fields.
+        fields ≡ (codes "Location", url.now) ∷ output_fields host.now) }
 {
     let mut fields = Pairs::new(host.alloc);
     fields.add((

@@ -46,7 +46,8 @@ fn set_cput(host: &mut ConnHost, words: &Words) -> Result<Text, Refusal>
 /// `icput ID KEY VALUE`.
 fn set_icput(host: &mut ConnHost, words: &Words) -> Result<Text, Refusal>
     requires { length words.now ≡ 5 }
-    ensures { EndsWith result host.new (on_set words.now (set_cput ignoring_case words.now) host.old) }
+    ensures { EndsWith result host.new
+        (on_set words.now (set_cput ignoring_case words.now) host.old) }
 {
     let set = set_at(host, words, 2)?;
     let place = kept(host.sets.icput(set, word_at(words, 3), word_at(words, 4)))?;
@@ -75,7 +76,8 @@ fn set_get(host: &mut ConnHost, words: &Words) -> Result<Text, Refusal>
 /// `iget ID KEY`.
 fn set_iget(host: &mut ConnHost, words: &Words) -> Result<Text, Refusal>
     requires { length words.now ≡ 4 }
-    ensures { EndsWith result host.new (on_set words.now (set_get ignoring_case words.now) host.old) }
+    ensures { EndsWith result host.new
+        (on_set words.now (set_get ignoring_case words.now) host.old) }
 {
     let set = set_at(host, words, 2)?;
     Ok(kept(host.sets.iget(set, word_at(words, 3)))?)
@@ -94,7 +96,8 @@ fn set_find(host: &mut ConnHost, words: &Words) -> Result<Text, Refusal>
 /// `ifind ID KEY`.
 fn set_ifind(host: &mut ConnHost, words: &Words) -> Result<Text, Refusal>
     requires { length words.now ≡ 4 }
-    ensures { EndsWith result host.new (on_set words.now (set_find ignoring_case words.now) host.old) }
+    ensures { EndsWith result host.new
+        (on_set words.now (set_find ignoring_case words.now) host.old) }
 {
     let set = set_at(host, words, 2)?;
     let place = kept(host.sets.ifind(set, word_at(words, 3)))?;
@@ -114,7 +117,8 @@ fn set_delkey(host: &mut ConnHost, words: &Words) -> Result<Text, Refusal>
 /// `idelkey ID KEY`.
 fn set_idelkey(host: &mut ConnHost, words: &Words) -> Result<Text, Refusal>
     requires { length words.now ≡ 4 }
-    ensures { EndsWith result host.new (on_set words.now (set_delkey ignoring_case words.now) host.old) }
+    ensures { EndsWith result host.new
+        (on_set words.now (set_delkey ignoring_case words.now) host.old) }
 {
     let set = set_at(host, words, 2)?;
     kept(host.sets.idelkey(set, word_at(words, 3)))?;

@@ -1,5 +1,6 @@
 -- How far the reading of a body in chunks has come, and why it stops.
-use Rattle.std.specs.Prelude.{◌≡◌, ℕ, ◌+◌, ◌<◌, ◌≤◌, ◌⊎◌, List, ◌++◌, length, drop, Option, Result, Err}
+use Rattle.std.specs.Prelude.{◌≡◌, ℕ, ◌+◌, ◌<◌, ◌≤◌, ◌⊎◌, ◌++◌, length, drop, Option, Result, Err}
+use Rattle.txt_core.specs.Names.{Bytes}
 use Rattle.http_req.specs.declared.request.Got.{Got}
 use Rattle.http_req.specs.declared.request.Got.TheVariants as got
 use Rattle.http_req.specs.declared.carry.Stop.{Stop}
@@ -13,17 +14,17 @@ use Rattle.http_req.specs.Statuses.{content_too_large}
 use Rattle.http_req.specs.Trailers.{trailer_from}
 
 -- So many bytes of the text are the chunks of this body and the last line, whatever follows the text.
-pub record EndsChunks (text body : List ℕ) (begin : ℕ) : Type 0 where
+pub record EndsChunks (text body : Bytes) (begin : ℕ) : Type 0 where
   pub within : begin ≤ length text
-  pub ends : (more : List ℕ) → ChunksAt 0 (text ++ more) (put body (trailing (drop begin (text ++ more))))
+  pub ends : (more : Bytes) → ChunksAt 0 (text ++ more) (put body (trailing (drop begin (text ++ more))))
 
 -- the trailer behind so many bytes of the text ends behind so many
-abbrev pub EndsTrailer : List ℕ → ℕ → ℕ → Type 0
+abbrev pub EndsTrailer : Bytes → ℕ → ℕ → Type 0
 EndsTrailer text begin size =
     (taken : ℕ) × (trailer_from spot.Begin 0 (drop begin text) ≡ trailer.Whole taken) × (size ≡ begin + taken)
 
 -- Why no more is asked for: as many bytes are there as may be, or the source has ended or failed.
-abbrev pub Halts : List ℕ → Result (Unit {0}) Stop → ℕ → Got → Type 0
+abbrev pub Halts : Bytes → Result (Unit {0}) Stop → ℕ → Got → Type 0
 Halts carry fetched most answer =
     ((most ≤ length carry) × (answer ≡ got.Refused content_too_large))
     ⊎ ((length carry < most) × ((how : Stop) × (fetched ≡ Err how) × (answer ≡ cut_answer carry how)))
@@ -31,8 +32,8 @@ Halts carry fetched most answer =
 -- Why a reading of what is sent behind a head of so many bytes stops with this answer, from what all that came is: it is refused;
 -- it isn't whole, where it is as long as it may be, or where no more came; or memory ran out.
 pub data SentStops
-    (Is : Sent → Type 0) (all : List ℕ) (start : ℕ)
-    (rest : Option (List ℕ)) (faults : ℕ) (rest_after : Option (List ℕ)) (faults_after : ℕ) (answer : Got) : Type 0 where
+    (Is : Sent → Type 0) (all : Bytes) (start : ℕ)
+    (rest : Option Bytes) (faults : ℕ) (rest_after : Option Bytes) (faults_after : ℕ) (answer : Got) : Type 0 where
   by_refusal : (status : ℕ) → Is (rejected status) → answer ≡ got.Refused status
       → SentStops Is all start rest faults rest_after faults_after answer
   by_limit : Is partial → start + sent_limit ≤ length all → answer ≡ got.Refused content_too_large

@@ -1,7 +1,8 @@
 -- Chunk lines (RFC 9112, section 7.1): the size of a chunk in 1 to 15 hexadecimal digits, any spaces and tabs, nothing or
 -- a semicolon with any text, and CR LF; at most 1,024 bytes in all.
-use Rattle.std.specs.Prelude.{◌≡◌, ◌==◌, ℕ, ◌+◌, ◌*◌, ◌≤◌, Bool, ◌&&◌, ◌||◌, List, [], ◌∷◌, ◌++◌, nat_lt, nat_le, if◌then◌else◌, ⊤}
+use Rattle.std.specs.Prelude.{◌≡◌, ◌==◌, ℕ, ◌+◌, ◌*◌, ◌≤◌, Bool, ◌&&◌, ◌||◌, [], ◌∷◌, ◌++◌, nat_lt, nat_le, if◌then◌else◌, ⊤}
 use Rattle.std.specs.Char.{digit_value}
+use Rattle.txt_core.specs.Names.{Bytes}
 use Rattle.http_req.specs.declared.chunk_line.LineSpot.{LineSpot}
 use Rattle.http_req.specs.declared.chunk_line.LineSpot.TheVariants as spot
 use Rattle.http_req.specs.declared.chunk_line.LineStep.{LineStep}
@@ -60,12 +61,12 @@ line_on step.Bad at size go = line.Bad
 
 -- A chunk line, of which so many bytes stand before the text, with this size so far: whole, with its size and how many bytes
 -- it takes; bad at the first byte with which no chunk line can go on; or cut by the end of the text.
-abbrev pub line_from : LineSpot → ℕ → ℕ → List ℕ → ChunkLine
+abbrev pub line_from : LineSpot → ℕ → ℕ → Bytes → ChunkLine
 line_from spot at size [] = line.Cut
 line_from spot at size (byte ∷ rest) = line_on (line_step spot at byte) at size (λ to more. line_from to (at + 1) more rest)
 
 -- the chunk line at the front of the text
-abbrev pub chunk_line : List ℕ → ChunkLine
+abbrev pub chunk_line : Bytes → ChunkLine
 chunk_line text = line_from spot.Size 0 0 text
 
 -- a whole line takes no more bytes than there are
@@ -75,5 +76,5 @@ IsLineWithin most line.Bad = ⊤
 IsLineWithin most line.Cut = ⊤
 
 -- a whole chunk line begins with the text: some bytes behind it make one
-abbrev pub BeginsLine : List ℕ → Type 0
-BeginsLine text = (more : List ℕ) × (size : ℕ) × (taken : ℕ) × (chunk_line (text ++ more) ≡ line.Whole size taken)
+abbrev pub BeginsLine : Bytes → Type 0
+BeginsLine text = (more : Bytes) × (size : ℕ) × (taken : ℕ) × (chunk_line (text ++ more) ≡ line.Whole size taken)

@@ -1,6 +1,7 @@
 -- Chunked bodies (RFC 9112, section 7.1): chunks, a last line and a trailer. A chunk is a chunk line whose size isn't 0, as many
 -- bytes, and CR LF. The last line is a chunk line of size 0. The body is the bytes of the chunks, in order.
-use Rattle.std.specs.Prelude.{◌≡◌, ◌==◌, ℕ, ◌+◌, ◌-◌, ◌<◌, List, [], ◌∷◌, ◌++◌, length, take, drop, ◌&&◌, nat_lt, if◌then◌else◌}
+use Rattle.std.specs.Prelude.{◌≡◌, ◌==◌, ℕ, ◌+◌, ◌-◌, ◌<◌, [], ◌∷◌, ◌++◌, length, take, drop, ◌&&◌, nat_lt, if◌then◌else◌}
+use Rattle.txt_core.specs.Names.{Bytes}
 use Rattle.http_req.specs.declared.chunk_line.ChunkLine.{ChunkLine}
 use Rattle.http_req.specs.declared.chunk_line.ChunkLine.TheVariants as line
 use Rattle.http_req.specs.declared.chunk.DataEnd.{DataEnd}
@@ -16,7 +17,7 @@ use Rattle.http_req.specs.Statuses.{bad_request, content_too_large, fields_too_l
 use Rattle.http_req.specs.Trailers.{trailer_from}
 
 -- the CR LF behind the data of a chunk is there; the text ends before it is; or another byte stands there
-abbrev pub data_end : List ℕ → DataEnd
+abbrev pub data_end : Bytes → DataEnd
 data_end [] = end.Missing
 data_end (a ∷ []) = if is_return a then end.Missing else end.Wrong
 data_end (a ∷ b ∷ rest) = if is_return a && is_feed b then end.Ended else end.Wrong
@@ -36,7 +37,7 @@ behind_data taken size end.Missing = less
 behind_data taken size end.Wrong = refused bad_request
 
 -- What follows a chunk line: at its end the sizes of all chunks up to this one must be within the limit on bodies.
-abbrev pub behind_line : ℕ → List ℕ → ChunkLine → Piece
+abbrev pub behind_line : ℕ → Bytes → ChunkLine → Piece
 behind_line sum text line.Bad = refused bad_request
 behind_line sum text line.Cut = less
 behind_line sum text (line.Whole size taken) =
@@ -45,7 +46,7 @@ behind_line sum text (line.Whole size taken) =
     else behind_data taken size (data_end (drop (taken + size) text))
 
 -- what stands at the front of a text, behind chunks whose sizes come to this sum
-unfoldable pub piece_at : ℕ → List ℕ → Piece
+unfoldable pub piece_at : ℕ → Bytes → Piece
 piece_at sum text = behind_line sum text (chunk_line text)
 
 -- what is found at the front of a text of so many bytes
@@ -58,12 +59,12 @@ Finds piece size (found.Cut need) = (piece ≡ less) × (size < need)
 -- What a text is as a chunked body: whole, with the body and how many bytes are left behind it; refused with a status; or less
 -- than a chunked body.
 pub data Sent : Type 0 where
-  whole : (body : List ℕ) (left : ℕ) → Sent
+  whole : (body : Bytes) (left : ℕ) → Sent
   rejected : (status : ℕ) → Sent
   partial : Sent
 
 -- the same with the data of a chunk before it
-abbrev pub put : List ℕ → Sent → Sent
+abbrev pub put : Bytes → Sent → Sent
 put bytes (whole body left) = whole (bytes ++ body) left
 put bytes (rejected status) = rejected status
 put bytes partial = partial
@@ -76,14 +77,14 @@ behind_trailer size trailer.Crowded = rejected fields_too_large
 behind_trailer size (trailer.Cut at) = partial
 
 -- what stands behind the last line
-abbrev pub trailing : List ℕ → Sent
+abbrev pub trailing : Bytes → Sent
 trailing text = behind_trailer (length text) (trailer_from spot.Begin 0 text)
 
 -- What a text is, behind chunks whose sizes come to this sum: what stands at its front decides, or the trailer behind the last
 -- line, or, behind a chunk with its data and CR LF, the rest.
-pub data ChunksAt : ℕ → List ℕ → Sent → Type 0 where
-  refuses : {sum : ℕ} {text : List ℕ} (status : ℕ) → piece_at sum text ≡ refused status → ChunksAt sum text (rejected status)
-  ends : {sum : ℕ} {text : List ℕ} → piece_at sum text ≡ less → ChunksAt sum text partial
-  trails : {sum : ℕ} {text : List ℕ} (taken : ℕ) → piece_at sum text ≡ last taken → ChunksAt sum text (trailing (drop taken text))
-  continues : {sum : ℕ} {text : List ℕ} (taken size : ℕ) (sent : Sent) → piece_at sum text ≡ chunk taken size
+pub data ChunksAt : ℕ → Bytes → Sent → Type 0 where
+  refuses : {sum : ℕ} {text : Bytes} (status : ℕ) → piece_at sum text ≡ refused status → ChunksAt sum text (rejected status)
+  ends : {sum : ℕ} {text : Bytes} → piece_at sum text ≡ less → ChunksAt sum text partial
+  trails : {sum : ℕ} {text : Bytes} (taken : ℕ) → piece_at sum text ≡ last taken → ChunksAt sum text (trailing (drop taken text))
+  continues : {sum : ℕ} {text : Bytes} (taken size : ℕ) (sent : Sent) → piece_at sum text ≡ chunk taken size
       → ChunksAt (sum + size) (drop (taken + size + 2) text) sent → ChunksAt sum text (put (take size (drop taken text)) sent)

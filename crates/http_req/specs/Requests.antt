@@ -1,9 +1,10 @@
 -- What a head and a body show, and what is wrong with it.
-use Rattle.std.specs.Prelude.{ℕ, Bool, not, ◌||◌, List, length, map, nat_lt, if◌then◌else◌, Option, Some, None, codes}
+use Rattle.std.specs.Prelude.{ℕ, Bool, not, ◌||◌, length, map, nat_lt, if◌then◌else◌, Option, Some, None, codes}
 use Rattle.std.specs.List.{list_any}
 use Rattle.std.specs.Str.{bytes_eq}
 use Rattle.httparse.specs.Grammar.{RequestHead}
 use Rattle.httparse.specs.Spans.{name_and_value}
+use Rattle.txt_core.specs.Names.{Bytes}
 use Rattle.http_req.specs.declared.request.Request.{Request}
 use Rattle.http_req.specs.Fields.{lengths, are_one_length, body_length, is_coded, is_mixed, has_host}
 use Rattle.http_req.specs.Limits.{field_limit, body_limit}
@@ -11,7 +12,7 @@ use Rattle.http_req.specs.Statuses.{bad_request, content_too_large, fields_too_l
 use Rattle.http_req.specs.Targets.{is_target, segments_of, is_unsafe, query_of}
 
 -- the request that the head, the body and the peer show
-abbrev pub shown : RequestHead → List ℕ → List ℕ → Request
+abbrev pub shown : RequestHead → Bytes → Bytes → Request
 shown head body peer = record {
   method = head.method;
   target = head.target;
@@ -24,7 +25,7 @@ shown head body peer = record {
 }
 
 -- a method that is served
-abbrev pub is_served : List ℕ → Bool
+abbrev pub is_served : Bytes → Bool
 is_served method =
     bytes_eq method (codes "GET") || bytes_eq method (codes "HEAD") || bytes_eq method (codes "POST")
     || bytes_eq method (codes "PUT") || bytes_eq method (codes "DELETE")

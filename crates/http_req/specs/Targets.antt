@@ -1,8 +1,9 @@
 -- What the target of a request says: its path, as segments, and its query.
-use Rattle.std.specs.Prelude.{◌==◌, ℕ, Bool, true, false, not, ◌&&◌, ◌||◌, List, [], ◌∷◌, drop, map, filter, length, nat_eq, if◌then◌else◌, codes}
+use Rattle.std.specs.Prelude.{◌==◌, ℕ, Bool, true, false, not, ◌&&◌, ◌||◌, [], ◌∷◌, drop, map, filter, length, nat_eq, if◌then◌else◌, codes}
 use Rattle.std.specs.List.{list_any, starts_with, position_or_len, before_first, after_first, slice_split}
 use Rattle.std.specs.Str.{bytes_eq}
 use Rattle.percent_encoding.specs.Percent.{percent_decode}
+use Rattle.txt_core.specs.Names.{Bytes, Words}
 
 abbrev pub is_slash : ℕ → Bool
 is_slash byte = byte == 47
@@ -14,48 +15,48 @@ abbrev pub is_backslash : ℕ → Bool
 is_backslash byte = byte == 92
 
 -- the beginning of an absolute target
-abbrev pub scheme : List ℕ
-scheme = codes "http://"
+abbrev pub http_scheme : Bytes
+http_scheme = codes "http://"
 
 -- the target begins as an absolute one
-abbrev pub is_absolute : List ℕ → Bool
-is_absolute target = starts_with nat_eq target scheme
+abbrev pub is_absolute : Bytes → Bool
+is_absolute target = starts_with nat_eq target http_scheme
 
 -- the target begins with a slash
-abbrev pub begins_with_slash : List ℕ → Bool
+abbrev pub begins_with_slash : Bytes → Bool
 begins_with_slash [] = false
 begins_with_slash (byte ∷ rest) = is_slash byte
 
 -- a host of at least one byte stands at the front
-abbrev pub begins_with_host : List ℕ → Bool
+abbrev pub begins_with_host : Bytes → Bool
 begins_with_host [] = false
 begins_with_host (byte ∷ rest) = not (is_slash byte || is_question byte)
 
 -- the target is a path, or `http://` with a host, which a path may follow
-abbrev pub is_target : List ℕ → Bool
-is_target target = begins_with_slash target || (is_absolute target && begins_with_host (drop (length scheme) target))
+abbrev pub is_target : Bytes → Bool
+is_target target = begins_with_slash target || (is_absolute target && begins_with_host (drop (length http_scheme) target))
 
 -- the path without what an absolute target has before its first slash
-abbrev pub without_host : List ℕ → List ℕ
+abbrev pub without_host : Bytes → Bytes
 without_host path =
     if is_absolute path
-    then (let rest = drop (length scheme) path in drop (position_or_len is_slash rest) rest)
+    then (let rest = drop (length http_scheme) path in drop (position_or_len is_slash rest) rest)
     else path
 
 -- what stands before the first question mark, without scheme and host
-abbrev pub path_of : List ℕ → List ℕ
+abbrev pub path_of : Bytes → Bytes
 path_of target = without_host (before_first is_question target)
 
 -- what stands after the first question mark
-abbrev pub query_of : List ℕ → List ℕ
+abbrev pub query_of : Bytes → Bytes
 query_of target = after_first is_question target
 
-abbrev pub is_filled : List ℕ → Bool
+abbrev pub is_filled : Bytes → Bool
 is_filled [] = false
 is_filled (byte ∷ rest) = true
 
 -- the parts of the path between its slashes that have a byte, each percent-decoded
-unfoldable pub segments_of : List ℕ → List (List ℕ)
+unfoldable pub segments_of : Bytes → Words
 segments_of target = map percent_decode (filter is_filled (slice_split is_slash (path_of target)))
 
 -- a byte that no segment may hold
@@ -63,6 +64,6 @@ abbrev pub is_unsafe_byte : ℕ → Bool
 is_unsafe_byte byte = is_slash byte || is_backslash byte || byte == 0
 
 -- the segment could lead out of the folder in which it is looked up
-abbrev pub is_unsafe : List ℕ → Bool
+abbrev pub is_unsafe : Bytes → Bool
 is_unsafe segment =
     bytes_eq segment (codes ".") || bytes_eq segment (codes "..") || list_any is_unsafe_byte segment

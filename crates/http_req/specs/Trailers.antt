@@ -1,6 +1,7 @@
 -- Trailers of chunked bodies (RFC 9112, section 7.1.2): lines of one or more bytes of text, each with CR LF, and then CR LF;
 -- at most 16,384 bytes in all.
-use Rattle.std.specs.Prelude.{ℕ, ◌+◌, List, [], ◌∷◌, nat_lt, if◌then◌else◌}
+use Rattle.std.specs.Prelude.{ℕ, ◌+◌, [], ◌∷◌, nat_lt, if◌then◌else◌}
+use Rattle.txt_core.specs.Names.{Bytes}
 use Rattle.http_req.specs.declared.trailer.TrailerSpot.{TrailerSpot}
 use Rattle.http_req.specs.declared.trailer.TrailerSpot.TheVariants as spot
 use Rattle.http_req.specs.declared.trailer.TrailerStep.{TrailerStep}
@@ -33,6 +34,6 @@ trailer_on step.Bad at go = trailer.Bad
 -- A trailer, of which so many bytes stand before the text: whole, with how many bytes it takes; bad at the first byte with
 -- which no trailer can go on; crowded once as many bytes are there as a trailer may take, and it isn't whole; or cut by the
 -- end of the text.
-abbrev pub trailer_from : TrailerSpot → ℕ → List ℕ → Trailer
+abbrev pub trailer_from : TrailerSpot → ℕ → Bytes → Trailer
 trailer_from spot at [] = trailer.Cut spot
 trailer_from spot at (byte ∷ rest) = trailer_on (trailer_step spot byte) at (λ to. trailer_from to (at + 1) rest)

@@ -46,7 +46,8 @@ pub(crate) fn read_body<S: Source>(
     start: usize,
 ) -> Result<Request, Got>
     requires { Passes carry.old request.peer start request }
-    ensures { Received carry.old (S.rest source.old) (S.faults source.old) request.peer result carry.new (S.rest source.new) (S.faults source.new) }
+    ensures { Received carry.old (S.rest source.old) (S.faults source.old) request.peer result
+        carry.new (S.rest source.new) (S.faults source.new) }
 {
     if is_chunked(request.fields.as_slice()) {
         read_in_chunks(alloc, source, carry, request, start)
@@ -65,7 +66,8 @@ fn read_by_length<S: Source>(
 ) -> Result<Request, Got>
     requires passes { Passes carry.old request.peer start request }
     requires plain { is_chunked request.fields ≡ false }
-    ensures { Received carry.old (S.rest source.old) (S.faults source.old) request.peer result carry.new (S.rest source.new) (S.faults source.new) }
+    ensures { Received carry.old (S.rest source.old) (S.faults source.old) request.peer result
+        carry.new (S.rest source.new) (S.faults source.new) }
 {
     let length = body_length(request.fields.as_slice()).unwrap_or(0);
     let used = start + length as usize;
@@ -87,7 +89,8 @@ fn read_in_chunks<S: Source>(
 ) -> Result<Request, Got>
     requires passes { Passes carry.old request.peer start request }
     requires chunked { is_chunked request.fields ≡ true }
-    ensures { Received carry.old (S.rest source.old) (S.faults source.old) request.peer result carry.new (S.rest source.new) (S.faults source.new) }
+    ensures { Received carry.old (S.rest source.old) (S.faults source.old) request.peer result
+        carry.new (S.rest source.new) (S.faults source.new) }
 {
     let Chunks { body, len: begin } = read_chunks(alloc, source, carry, start)?;
     let len = read_trailer(source, carry, start, begin)?;
@@ -105,9 +108,13 @@ fn read_chunks<S: Source>(
 ) -> Result<Chunks, Got>
     requires within { start ≤ length carry.old }
     requires early { start ≤ head_limit }
-    ensures moves { Moves carry.old (S.rest source.old) (S.faults source.old) carry.new (S.rest source.new) (S.faults source.new) }
-    ensures ends { IfOk result (λ chunks. EndsChunks (sent_front start carry.new) chunks.body chunks.len) }
-    ensures stops { IfErr result (λ answer. SentStops (ChunksAt 0 (sent_front start carry.new)) carry.new start (S.rest source.old) (S.faults source.old) (S.rest source.new) (S.faults source.new) answer) }
+    ensures moves { Moves carry.old (S.rest source.old) (S.faults source.old) carry.new
+        (S.rest source.new) (S.faults source.new) }
+    ensures ends { IfOk result (λ chunks.
+        EndsChunks (sent_front start carry.new) chunks.body chunks.len) }
+    ensures stops { IfErr result (λ answer.
+        SentStops (ChunksAt 0 (sent_front start carry.new)) carry.new start (S.rest source.old)
+        (S.faults source.old) (S.rest source.new) (S.faults source.new) answer) }
 {
     let mut body = Text::empty(alloc);
     let mut at = 0;
@@ -145,9 +152,12 @@ fn read_trailer<S: Source>(
     requires within { start ≤ length carry.old }
     requires begins { begin ≤ length (sent_front start carry.old) }
     requires early { start ≤ head_limit }
-    ensures moves { Moves carry.old (S.rest source.old) (S.faults source.old) carry.new (S.rest source.new) (S.faults source.new) }
+    ensures moves { Moves carry.old (S.rest source.old) (S.faults source.old) carry.new
+        (S.rest source.new) (S.faults source.new) }
     ensures ends { IfOk result (λ len. EndsTrailer (sent_front start carry.new) begin len) }
-    ensures stops { IfErr result (λ answer. SentStops (λ is. trailing (drop begin (sent_front start carry.new)) ≡ is) carry.new start (S.rest source.old) (S.faults source.old) (S.rest source.new) (S.faults source.new) answer) }
+    ensures stops { IfErr result (λ answer.
+        SentStops (λ is. trailing (drop begin (sent_front start carry.new)) ≡ is) carry.new start
+        (S.rest source.old) (S.faults source.old) (S.rest source.new) (S.faults source.new) answer) }
 {
     let mut spot = TrailerSpot::Begin;
     let mut at = begin;

@@ -25,10 +25,10 @@ pub struct Carry {
 }
 
 impl Model for Carry {
-    ghost use Rattle.std.specs.Prelude.{ℕ, List};
     ghost use Rattle.std.specs.Coded.{coded_list, coded_ℕ};
+    ghost use Rattle.txt_core.specs.Names.{Bytes};
 
-    ghost Value = { List ℕ };
+    ghost Value = { Bytes };
 
     ghost coded = { coded_list coded_ℕ };
 
@@ -82,10 +82,13 @@ impl Carry {
     /// itself, over zeros.
     pub(crate) fn fetch<S: Source>(&mut self, source: &mut S, most: usize) -> Result<(), Stop>
         requires room { 0 < most }
-        ensures moves { Moves self.old (S.rest source.old) (S.faults source.old) self.new (S.rest source.new) (S.faults source.new) }
+        ensures moves { Moves self.old (S.rest source.old) (S.faults source.old) self.new
+            (S.rest source.new) (S.faults source.new) }
         ensures more { OnOk result (length self.old < length self.new) }
         ensures kept { OnErr result (self.new ≡ self.old) }
-        ensures stopped { IfErr result (λ stop. Stopped (S.rest source.old) (S.faults source.old) stop (S.rest source.new) (S.faults source.new)) }
+        ensures stopped { IfErr result (λ stop.
+            Stopped (S.rest source.old) (S.faults source.old) stop (S.rest source.new)
+            (S.faults source.new)) }
     {
         let start = self.bytes.len();
         let end = start.saturating_add(most);
@@ -106,9 +109,12 @@ impl Carry {
     /// as a head may take. So all the looks together cost no more than a few times the last.
     pub(crate) fn fetch_lines<S: Source>(&mut self, source: &mut S) -> Result<(), Stop>
         requires { length self.old < head_limit }
-        ensures moves { Moves self.old (S.rest source.old) (S.faults source.old) self.new (S.rest source.new) (S.faults source.new) }
+        ensures moves { Moves self.old (S.rest source.old) (S.faults source.old) self.new
+            (S.rest source.new) (S.faults source.new) }
         ensures more { OnOk result (length self.old < length self.new) }
-        ensures stopped { IfErr result (λ stop. Stopped (S.rest source.old) (S.faults source.old) stop (S.rest source.new) (S.faults source.new)) }
+        ensures stopped { IfErr result (λ stop.
+            Stopped (S.rest source.old) (S.faults source.old) stop (S.rest source.new)
+            (S.faults source.new)) }
     {
         let looked = self.len();
         while self.len() < HEAD_LIMIT {
@@ -124,10 +130,13 @@ impl Carry {
     /// Reads pieces until so many bytes are there. Room for all of them is taken first, so no byte is
     /// moved again as they come in.
     pub(crate) fn fetch_up_to<S: Source>(&mut self, source: &mut S, size: usize) -> Result<(), Stop>
-        ensures moves { Moves self.old (S.rest source.old) (S.faults source.old) self.new (S.rest source.new) (S.faults source.new) }
+        ensures moves { Moves self.old (S.rest source.old) (S.faults source.old) self.new
+            (S.rest source.new) (S.faults source.new) }
         ensures enough { OnOk result (size ≤ length self.new) }
         ensures short { OnErr result (length self.new < size) }
-        ensures stopped { IfErr result (λ stop. Stopped (S.rest source.old) (S.faults source.old) stop (S.rest source.new) (S.faults source.new)) }
+        ensures stopped { IfErr result (λ stop.
+            Stopped (S.rest source.old) (S.faults source.old) stop (S.rest source.new)
+            (S.faults source.new)) }
     {
         self.make_room(size)?;
         let mut given = LARGE_PIECE_SIZE;

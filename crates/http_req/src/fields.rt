@@ -45,7 +45,8 @@ pub(crate) fn is_chunked(fields: &[(Text, Text)]) -> bool
 }
 
 fn says_chunked(field: &(Text, Text)) -> bool
-    ensures { result ≡ bytes_eq (map to_ascii_lowercase field.now.1) (map to_ascii_lowercase (codes "chunked")) }
+    ensures { result
+        ≡ bytes_eq (map to_ascii_lowercase field.now.1) (map to_ascii_lowercase (codes "chunked")) }
 {
     field.1.bytes().eq_ignore_ascii_case(b"chunked")
 }
@@ -68,7 +69,8 @@ pub(crate) fn is_mixed(minor: u8, fields: &[(Text, Text)]) -> bool
 /// How long the body is, by Content-Length (RFC 9112, section 6.3); 0 where there is no such field.
 /// None where one of them isn't 1 to 19 digits, or two differ.
 pub(crate) fn body_length(fields: &[(Text, Text)]) -> Option<u64>
-    ensures { result ≡ (if are_one_length (lengths fields.now) then Some (body_length fields.now) else None) }
+    ensures { result
+        ≡ (if are_one_length (lengths fields.now) then Some (body_length fields.now) else None) }
 {
     let Some(first) = first_of(fields, CONTENT_LENGTH) else {
         return Some(0);
@@ -88,7 +90,10 @@ fn first_of<'a>(fields: &'a [(Text, Text)], name: &[u8]) -> Option<&'a (Text, Te
 }
 
 fn all_lengths_are(fields: &[(Text, Text)], value: &[u8]) -> bool
-    ensures { result ≡ list_all (λ field. not (is_named (codes "content-length") field) || bytes_eq field.1 value.now) fields.now }
+    ensures { result
+        ≡ list_all
+        (λ field. not (is_named (codes "content-length") field) || bytes_eq field.1 value.now)
+        fields.now }
 {
     fields.iter().all(|field| !is_named(field, CONTENT_LENGTH) || field.1.bytes() == value)
 }

@@ -1,8 +1,9 @@
 //! The head of a request at the front of an input.
 
-ghost use Rattle.std.specs.Prelude.{◌≤◌, ℕ, List, length};
+ghost use Rattle.std.specs.Prelude.{◌≤◌, List, length};
 ghost use Rattle.httparse.specs.Grammar.{HasNoRequest};
 ghost use Rattle.httparse.specs.declared.spans.HeaderSpan.{HeaderSpan};
+ghost use Rattle.txt_core.specs.Names.{Bytes};
 ghost use Rattle.http_req.specs.Heads.{front, IsMalformed};
 ghost use Rattle.http_req.specs.Fronts.{AreWholeLines, FindsFront};
 ghost use Rattle.http_req.specs.Outcomes.{Outcome, GetsOnly};
@@ -36,7 +37,8 @@ pub enum Front {
 /// of four: a whole request, no byte, less than a request, or what is refused.
 pub fn find_head(input: &[u8], spans: &mut [HeaderSpan]) -> Front
     ensures finds { FindsFront input.now spans.new result }
-    ensures one { FIELD_ROOM ≤ length spans.old → (peer : List ℕ) → (outcome : Outcome) × GetsOnly input.now peer outcome }
+    ensures one { FIELD_ROOM ≤ length spans.old → (peer : Bytes)
+        → (outcome : Outcome) × GetsOnly input.now peer outcome }
 {
     let front = &input[..input.len().min(HEAD_LIMIT)];
     let lines = whole_lines(front);

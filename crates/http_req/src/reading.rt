@@ -1,6 +1,7 @@
 //! The reading of one request.
 
-ghost use Rattle.std.specs.Prelude.{◌≡◌, ◌≤◌, ℕ, List, [], length, map, All, IfOk, IfErr};
+ghost use Rattle.std.specs.Prelude.{◌≡◌, ◌≤◌, [], length, map, All, IfOk, IfErr};
+ghost use Rattle.txt_core.specs.Names.{Bytes};
 ghost use Rattle.outside.specs.Faults.{Rose};
 ghost use Rattle.httparse.specs.Grammar.{RequestHead};
 ghost use Rattle.httparse.specs.Spans.{IsHeaderWithin, IsRequestAt, header_bytes};
@@ -29,8 +30,10 @@ use txt_core::{NoMemory, Pairs, Text};
 /// request the bytes that it took are gone, and what was read past them is carried on; a further
 /// call begins there. After `Refused`, `ReadFault` and `NoMemory` the carry isn't used again.
 pub fn read_request<S: Source>(alloc: Global, source: &mut S, carry: &mut Carry, peer: &Text) -> Got
-    ensures answers { Answers (left_of carry.old (S.rest source.old)) peer.now result (left_of carry.new (S.rest source.new)) }
-    ensures consumes { Consumes carry.old (S.rest source.old) peer.now result carry.new (S.rest source.new) }
+    ensures answers { Answers (left_of carry.old (S.rest source.old)) peer.now result
+        (left_of carry.new (S.rest source.new)) }
+    ensures consumes { Consumes carry.old (S.rest source.old) peer.now result carry.new
+        (S.rest source.new) }
 
     // A fault is answered only where the source's count rose and what was read is no whole request
     // and isn't refused. The count never falls.
@@ -50,7 +53,8 @@ fn receive<S: Source>(
     carry: &mut Carry,
     peer: &Text,
 ) -> Result<Request, Got>
-    ensures { Received carry.old (S.rest source.old) (S.faults source.old) peer.now result carry.new (S.rest source.new) (S.faults source.new) }
+    ensures { Received carry.old (S.rest source.old) (S.faults source.old) peer.now result carry.new
+        (S.rest source.new) (S.faults source.new) }
 {
     let mut spans = vec![in alloc; EMPTY_HEADER_SPAN; FIELD_LIMIT]?;
     let head = read_head(source, carry, &mut spans)?;
@@ -90,9 +94,13 @@ fn read_head<S: Source>(
     carry: &mut Carry,
     spans: &mut Vec<HeaderSpan>,
 ) -> Result<RequestSpans, Got>
-    ensures moves { Moves carry.old (S.rest source.old) (S.faults source.old) carry.new (S.rest source.new) (S.faults source.new) }
+    ensures moves { Moves carry.old (S.rest source.old) (S.faults source.old) carry.new
+        (S.rest source.new) (S.faults source.new) }
     ensures stands { IfOk result (λ head. HeadStands (front carry.new) spans.new.items head) }
-    ensures stops { IfErr result (λ answer. (peer : List ℕ) → Stops carry.new peer (S.rest source.old) (S.faults source.old) (S.rest source.new) (S.faults source.new) answer) }
+    ensures stops { IfErr result (λ answer.
+        (peer : Bytes)
+        → Stops carry.new peer (S.rest source.old) (S.faults source.old) (S.rest source.new)
+        (S.faults source.new) answer) }
 {
     let mut fetched = Ok(());
     loop {
@@ -121,7 +129,9 @@ fn show(
     peer: &Text,
 ) -> Result<Request, NoMemory>
     requires { HeadStands bytes.now spans.now head.now }
-    ensures { IfOk result (λ request. (tree : RequestHead) → IsRequestAt bytes.now spans.now head.now tree → request ≡ shown tree [] peer.now) }
+    ensures { IfOk result (λ request.
+        (tree : RequestHead) → IsRequestAt bytes.now spans.now head.now tree
+        → request ≡ shown tree [] peer.now) }
 {
     let target = head.path.of(bytes);
     Ok(Request {

@@ -1,7 +1,8 @@
 -- The head of a response as lines.
-use Rattle.std.specs.Prelude.{ℕ, ◌≡◌, Bool, IsTrue, List, [], ◌∷◌, ◌++◌, length, codes, decimal, filter, map, if◌then◌else◌}
+use Rattle.std.specs.Prelude.{◌≡◌, Bool, IsTrue, [], ◌∷◌, ◌++◌, length, codes, decimal, filter, map, if◌then◌else◌}
 use Rattle.std.specs.List.{list_all, flat_map}
 use Rattle.http_header.specs.Token.{is_value_byte}
+use Rattle.txt_core.specs.Names.{Bytes, Words, Moment}
 use Rattle.http_resp.specs.Moment.{fixdate}
 use Rattle.http_resp.specs.OutputFields.{is_sent}
 use Rattle.http_resp.specs.StatusLine.{status_text}
@@ -9,33 +10,33 @@ use Rattle.http_resp.specs.ResponseBytes.{has_content, head_bytes}
 use Rattle.http_resp.specs.declared.response.Response.{Response}
 
 -- No byte is 127 or one below 32 other than tab; so none is a carriage return, a line feed or a NUL.
-abbrev pub holds_no_line_end : List ℕ → Bool
+abbrev pub holds_no_line_end : Bytes → Bool
 holds_no_line_end bytes = list_all is_value_byte bytes
 
 -- Each line with its end.
-abbrev pub with_ends : List (List ℕ) → List ℕ
+abbrev pub with_ends : Words → Bytes
 with_ends lines = flat_map (λ line. line ++ codes "\r\n") lines
 
-abbrev pub field_text : List ℕ → List ℕ → List ℕ
+abbrev pub field_text : Bytes → Bytes → Bytes
 field_text name value = name ++ codes ": " ++ value
 
-abbrev pub content_texts : Response → List (List ℕ)
+abbrev pub content_texts : Response → Words
 content_texts response =
     if has_content response.status
     then field_text (codes "Content-Type") response.kind ∷ field_text (codes "Content-Length") (decimal (length response.body)) ∷ []
     else []
 
 -- The lines of a head before the empty one.
-abbrev pub head_lines : Response → ℕ → Bool → List (List ℕ)
+abbrev pub head_lines : Response → Moment → Bool → Words
 head_lines response moment close =
     (codes "HTTP/1.1 " ++ status_text response.status)
     ∷ field_text (codes "Date") (fixdate moment)
     ∷ field_text (codes "Server") (codes "AOLserver-profile/1")
-    ∷ map (λ (field : List ℕ × List ℕ). field_text field.0 field.1) (filter is_sent response.fields)
+    ∷ map (λ (field : Bytes × Bytes). field_text field.0 field.1) (filter is_sent response.fields)
     ++ content_texts response
     ++ field_text (codes "Connection") (if close then codes "close" else codes "keep-alive") ∷ []
 
 -- The head is these lines and an empty one, and no line holds the end of a line.
-pub record IsInLines (response : Response) (moment : ℕ) (close : Bool) : Type 0 where
+pub record IsInLines (response : Response) (moment : Moment) (close : Bool) : Type 0 where
   pub whole : head_bytes response moment close ≡ with_ends (head_lines response moment close) ++ codes "\r\n"
   pub unbroken : IsTrue (list_all holds_no_line_end (head_lines response moment close))

@@ -1,5 +1,6 @@
 -- The date of a moment, as a Date field shows it.
-use Rattle.std.specs.Prelude.{ℕ, zero, suc, ◌+◌, ◌-◌, ◌/◌, ◌%◌, nat_lt, true, false, List}
+use Rattle.std.specs.Prelude.{ℕ, zero, suc, ◌+◌, ◌-◌, ◌/◌, ◌%◌, nat_lt, true, false}
+use Rattle.txt_core.specs.Names.{Bytes, Moment}
 use Rattle.txt_core.specs.Limits.{moment_of}
 use Rattle.httpdate.specs.Calendar.{days_in_year, days_in_month, weekday}
 use Rattle.httpdate.specs.Text.{imf_fixdate}
@@ -40,5 +41,5 @@ parts_at second =
     }
 
 -- `Sun, 06 Nov 1994 08:49:37 GMT`, the one form in which a date is sent (RFC 9110, section 5.6.7)
-unfoldable pub fixdate : ℕ → List ℕ
+unfoldable pub fixdate : Moment → Bytes
 fixdate moment = imf_fixdate (parts_at (moment_of moment))

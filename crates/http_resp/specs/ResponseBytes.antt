@@ -1,5 +1,6 @@
 -- The bytes of a response.
-use Rattle.std.specs.Prelude.{ℕ, ◌==◌, Bool, ◌||◌, not, List, [], ◌++◌, length, codes, decimal, if◌then◌else◌}
+use Rattle.std.specs.Prelude.{ℕ, ◌==◌, Bool, ◌||◌, not, [], ◌++◌, length, codes, decimal, if◌then◌else◌}
+use Rattle.txt_core.specs.Names.{Bytes, Moment}
 use Rattle.http_resp.specs.Moment.{fixdate}
 use Rattle.http_resp.specs.OutputFields.{field_line, output_lines}
 use Rattle.http_resp.specs.StatusLine.{status_line}
@@ -11,17 +12,17 @@ has_content status = not (status == 204 || status == 304)
 
 -- What the content is, where there may be any. The length is the body's, also where only the head is
 -- sent (RFC 9110, section 8.6).
-unfoldable pub content_lines : Response → List ℕ
+unfoldable pub content_lines : Response → Bytes
 content_lines response =
     if has_content response.status
     then field_line (codes "Content-Type") response.kind ++ field_line (codes "Content-Length") (decimal (length response.body))
     else []
 
-unfoldable pub connection_line : Bool → List ℕ
+unfoldable pub connection_line : Bool → Bytes
 connection_line close = field_line (codes "Connection") (if close then codes "close" else codes "keep-alive")
 
 -- The head: the status line, the fields in this order and an empty line.
-unfoldable pub head_bytes : Response → ℕ → Bool → List ℕ
+unfoldable pub head_bytes : Response → Moment → Bool → Bytes
 head_bytes response moment close =
     status_line response.status
     ++ field_line (codes "Date") (fixdate moment)
@@ -33,6 +34,6 @@ head_bytes response moment close =
 
 -- The head and then the body, or the head alone where the request asks for no more or the status has
 -- no content.
-unfoldable pub response_bytes : Response → ℕ → Bool → Bool → List ℕ
+unfoldable pub response_bytes : Response → Moment → Bool → Bool → Bytes
 response_bytes response moment head_only close =
     head_bytes response moment close ++ (if head_only || not (has_content response.status) then [] else response.body)

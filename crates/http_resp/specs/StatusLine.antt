@@ -1,8 +1,9 @@
 -- The first line of a response (RFC 9112, section 4).
-use Rattle.std.specs.Prelude.{ℕ, ◌==◌, List, ◌++◌, codes, decimal, if◌then◌else◌}
+use Rattle.std.specs.Prelude.{ℕ, ◌==◌, ◌++◌, codes, decimal, if◌then◌else◌}
+use Rattle.txt_core.specs.Names.{Bytes}
 
 -- The reason phrase of a status code.
-unfoldable pub reason : ℕ → List ℕ
+unfoldable pub reason : ℕ → Bytes
 reason status =
     if status == 200 then codes "OK"
     else if status == 201 then codes "Created"
@@ -23,9 +24,9 @@ reason status =
     else codes "Unknown"
 
 -- The code and its reason phrase.
-abbrev pub status_text : ℕ → List ℕ
+abbrev pub status_text : ℕ → Bytes
 status_text status = decimal status ++ codes " " ++ reason status
 
 -- The version is always 1.1, the highest that the server conforms to.
-unfoldable pub status_line : ℕ → List ℕ
+unfoldable pub status_line : ℕ → Bytes
 status_line status = codes "HTTP/1.1 " ++ status_text status ++ codes "\r\n"

@@ -32,7 +32,9 @@ pub fn write_response<K: Sink>(
     close: bool,
     sink: &mut K,
 ) -> Wrote
-    ensures { Delivers (K.taken sink.old) (K.faults sink.old) (response_bytes response.now moment head_only close) result (K.taken sink.new) (K.faults sink.new) }
+    ensures { Delivers (K.taken sink.old) (K.faults sink.old)
+        (response_bytes response.now moment head_only close) result (K.taken sink.new)
+        (K.faults sink.new) }
 {
     match response_bytes(alloc, response, moment, head_only, close) {
         Ok(text) => match write_all(sink, text.bytes()) {

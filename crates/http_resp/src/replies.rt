@@ -64,7 +64,8 @@ pub fn plain(alloc: Global, status: u16) -> Result<Response, NoMemory>
 /// Writes the reply for want of memory: 503, `out of memory` and `Connection: close`. It takes no
 /// memory. `WriteFault` comes only where the sink's count of faults rose.
 pub fn reply_no_memory<K: Sink>(moment: u64, sink: &mut K) -> Sent
-    ensures { Sends (K.taken sink.old) (K.faults sink.old) (no_memory_bytes moment) result (K.taken sink.new) (K.faults sink.new) }
+    ensures { Sends (K.taken sink.old) (K.faults sink.old) (no_memory_bytes moment) result
+        (K.taken sink.new) (K.faults sink.new) }
 {
     let mut reply = NO_MEMORY;
     reply[DATE_START..DATE_END].copy_from_slice(&fixdate(moment));
@@ -74,7 +75,8 @@ pub fn reply_no_memory<K: Sink>(moment: u64, sink: &mut K) -> Sent
 /// Writes the reply of a server that is busy: the plain reply of 503 with `Connection: close`. It
 /// takes no memory. `WriteFault` comes only where the sink's count of faults rose.
 pub fn reply_busy<K: Sink>(moment: u64, sink: &mut K) -> Sent
-    ensures { Sends (K.taken sink.old) (K.faults sink.old) (busy_bytes moment) result (K.taken sink.new) (K.faults sink.new) }
+    ensures { Sends (K.taken sink.old) (K.faults sink.old) (busy_bytes moment) result
+        (K.taken sink.new) (K.faults sink.new) }
 {
     let mut reply = BUSY;
     reply[DATE_START..DATE_END].copy_from_slice(&fixdate(moment));

@@ -1,6 +1,7 @@
 -- A definition run: a script without a connection, whose definitions are published where it ends well. A question for a run inside
 -- is answered by one on the same blueprint.
 use Rattle.std.specs.Prelude.{ℕ, ℤ, pos, negsuc, zero, suc, ◌&&◌, nat_le, List, [], ◌∷◌, if◌then◌else◌, Option, Some, None}
+use Rattle.txt_core.specs.Names.{Bytes, Words, Names, Moment}
 use Rattle.txt_core.specs.Number.{number}
 use Rattle.txt_core.specs.Limits.{most_nested}
 use Rattle.natives.specs.Words.{arg}
@@ -26,7 +27,7 @@ publish made = record { service = service.Publish; words = script_of made ∷ []
 
 -- What comes of the answer: where it was published, the script's result, and else an error with the reason. An answer that
 -- speaks of a page counts as a refusal without a reason.
-abbrev pub published : List ℕ → Answer → Answer
+abbrev pub published : Bytes → Answer → Answer
 published result (Said text) = Said result
 published result (Failed why) = Failed why
 published result (Page page) = Failed []
@@ -34,17 +35,17 @@ published result NoPage = Failed []
 published result PageFault = Failed []
 
 -- the run stands at this question whether to publish, and its script's result is this
-abbrev pub publishing : Question → List ℕ → ℕ → State HostState → List Answer → Defined
+abbrev pub publishing : Question → Bytes → ℕ → State HostState → List Answer → Defined
 publishing question result budget state [] = stands question state
 publishing question result budget state (answer ∷ left) = said (published result answer) budget state left
 
 -- after a good end what was made is published, where anything was
-abbrev pub good_end : List Def → List ℕ → ℕ → State HostState → List Answer → Defined
+abbrev pub good_end : List Def → Bytes → ℕ → State HostState → List Answer → Defined
 good_end [] result budget state left = said (Said result) budget state left
 good_end (def ∷ defs) result budget state left = publishing (publish (def ∷ defs)) result budget state left
 
 -- another code is an error, and nothing is published
-abbrev pub by_code : ℕ → List ℕ → ℕ → State HostState → List Answer → Defined
+abbrev pub by_code : ℕ → Bytes → ℕ → State HostState → List Answer → Defined
 by_code zero result budget state left = good_end state.made result budget state left
 by_code (suc code) result budget state left = said (Failed result) budget state left
 
@@ -59,7 +60,7 @@ define_end (exhausted state inside left) = gone state left
 define_end (nested state inside left) = sunk state left
 
 -- There is no run inside a definition run: its host answers the command that would ask for one by itself. What would ask is spent.
-abbrev pub no_inner : List (List ℕ) → Edition → ℕ → Handler
+abbrev pub no_inner : Names → Edition → Moment → Handler
 no_inner names blueprint moment =
     record { runs = (λ words budget questions answers. gone (define_state names blueprint moment) answers); build = 0 }
 
@@ -72,21 +73,21 @@ abbrev pub depth_of : Option ℤ → Option ℕ
 depth_of None = None
 depth_of (Some n) = depth_in n
 
-module _ (names : List (List ℕ)) (blueprint : Edition) (moment : ℕ) where
+module _ (names : Names) (blueprint : Edition) (moment : Moment) where
   -- The definition run of a script on natives of these names and a blueprint, at a moment: with so much budget, so many
   -- questions, at such a depth, and with these answers.
-  abbrev pub Define : List ℕ → ℕ → ℕ → ℕ → List Answer → Defined
+  abbrev pub Define : Bytes → ℕ → ℕ → ℕ → List Answer → Defined
   Define script budget questions depth answers =
       define_end (settle (no_inner names blueprint moment) questions 0
       (eval names host_table depth (works.Script script) (define_state names blueprint moment) budget) answers)
 
   -- at any other depth a run is too deep
-  abbrev pub at_depth : Option ℕ → List ℕ → ℕ → ℕ → List Answer → Defined
+  abbrev pub at_depth : Option ℕ → Bytes → ℕ → ℕ → List Answer → Defined
   at_depth None script budget questions answers = sunk (define_state names blueprint moment) answers
   at_depth (Some depth) script budget questions answers = Define script budget questions depth answers
 
   -- A question for a run inside has the script and the depth at which that stands, in decimal.
-  abbrev pub inner_run : List (List ℕ) → ℕ → ℕ → List Answer → Defined
+  abbrev pub inner_run : Words → ℕ → ℕ → List Answer → Defined
   inner_run words budget questions answers = at_depth (depth_of (number (arg words 1))) (arg words 0) budget questions answers
 
   -- such a question is answered by a definition run in an interpreter made for it, on the same blueprint

@@ -1,5 +1,6 @@
 -- Where an interpreter stands, and the number that falls at each question.
-use Rattle.std.specs.Prelude.{◌≡◌, ◌<◌, ◌≤◌, ℕ, ◌+◌, ◌*◌, ◌-◌, List, length, Option, Some, None, IsSome}
+use Rattle.std.specs.Prelude.{◌≡◌, ◌<◌, ◌≤◌, ℕ, ◌+◌, ◌*◌, ◌-◌, length, Option, Some, None, IsSome}
+use Rattle.txt_core.specs.Names.{Bytes}
 use Rattle.txt_core.specs.Limits.{bucket_count}
 use Rattle.outside.specs.declared.question.Service.TheVariants as service
 use Rattle.tcl_eval.specs.Engine.{IsOpenTo}
@@ -61,7 +62,7 @@ abbrev pub RunAsks : Running → ℕ → Type 0
 RunAsks run questions = IsSome run.engine.question × (askable run ≤ questions)
 
 -- a definition run stands at a question: its own, or whether to publish
-abbrev pub DefineAsks : Running → ℕ → Option (List ℕ) → Type 0
+abbrev pub DefineAsks : Running → ℕ → Option Bytes → Type 0
 DefineAsks run questions None = RunAsks run questions
 DefineAsks run questions (Some value) = Unit {0}
 
@@ -166,7 +167,7 @@ abbrev pub per_question : ℕ
 per_question = 18446744073709551624
 
 -- what a definition run can still ask: nothing behind the question whether to publish
-abbrev pub define_number : ℕ → Option (List ℕ) → ℕ
+abbrev pub define_number : ℕ → Option Bytes → ℕ
 define_number questions None = questions + 1
 define_number questions (Some value) = 0
 

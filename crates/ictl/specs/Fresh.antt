@@ -1,5 +1,6 @@
 -- The state with which a run begins.
 use Rattle.std.specs.Prelude.{ℕ, ◌+◌, Bool, List, [], ◌∷◌, ◌++◌, length, fold, if◌then◌else◌}
+use Rattle.txt_core.specs.Names.{Names, Moment}
 use Rattle.cmd_table.specs.Commands.{built_ins, built, defined, writes_at, Commands}
 use Rattle.cmd_table.specs.Table.{Table}
 use Rattle.cmd_table.specs.declared.definition.Def.{Def}
@@ -32,7 +33,7 @@ keeps_of (def ∷ defs) = keeps_in def ++ keeps_of defs
 
 -- The state on natives of these names and a blueprint, with such a host: its commands, one global frame with its global scalars,
 -- and nothing that was made.
-abbrev pub state_on : List (List ℕ) → Edition → HostState → State HostState
+abbrev pub state_on : Names → Edition → HostState → State HostState
 state_on names blueprint host = record {
   commands = Commands names blueprint.defs;
   frames = at_base (keeps_of blueprint.defs);
@@ -41,11 +42,11 @@ state_on names blueprint host = record {
 }
 
 -- The state of an interpreter that was newly made.
-abbrev pub Fresh : List (List ℕ) → Edition → State HostState
+abbrev pub Fresh : Names → Edition → State HostState
 Fresh names blueprint = state_on names blueprint (fresh blueprint)
 
 -- The same, whatever the mark is, which stands beside the state.
-abbrev pub fresh_but_marked : List (List ℕ) → Edition → Bool → State HostState
+abbrev pub fresh_but_marked : Names → Edition → Bool → State HostState
 fresh_but_marked names blueprint marked = state_on names blueprint (no_run blueprint marked)
 
 -- a fresh state behind further definitions
@@ -58,15 +59,15 @@ updated defs state = record state {
 -- ---- the beginnings of runs
 
 -- a request that came at this moment
-abbrev pub request_state : List (List ℕ) → Edition → Request → ℕ → State HostState
+abbrev pub request_state : Names → Edition → Request → Moment → State HostState
 request_state names blueprint request moment = state_on names blueprint (serving request moment blueprint)
 
 -- a scheduled script
-abbrev pub script_state : List (List ℕ) → Edition → ℕ → State HostState
+abbrev pub script_state : Names → Edition → Moment → State HostState
 script_state names blueprint moment = state_on names blueprint (scripting moment blueprint)
 
 -- a script that makes definitions
-abbrev pub define_state : List (List ℕ) → Edition → ℕ → State HostState
+abbrev pub define_state : Names → Edition → Moment → State HostState
 define_state names blueprint moment = state_on names blueprint (defining moment blueprint)
 
 -- The state in which each script of a run begins: at the global frame and outside of every page, also where the one before was
@@ -83,5 +84,5 @@ writes_in table (def ∷ defs) = writes_at table def + writes_in (defined table 
 
 -- How many entries of a command table are written where an interpreter is made from a blueprint: one for each built-in name, those
 -- of the natives among them, and those of its definitions.
-abbrev pub build_steps : List (List ℕ) → List Def → ℕ
+abbrev pub build_steps : Names → List Def → ℕ
 build_steps names defs = length built_ins + length names + writes_in (built names) defs

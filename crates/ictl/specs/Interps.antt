@@ -1,6 +1,7 @@
 -- What an interpreter is, and what it stands for.
 use Rattle.std.specs.Prelude.{◌≡◌, ◌≤◌, ℕ, ◌+◌, ◌-◌, List, [], ◌∷◌, ◌++◌, drop, Option, Some, None}
 use Rattle.std.specs.Option.{option_map}
+use Rattle.txt_core.specs.Names.{Names}
 use Rattle.outside.specs.declared.question.Answer.{Answer}
 use Rattle.outside.specs.declared.question.Question.{Question}
 use Rattle.cmd_table.specs.Table.{mark_of, table_at}
@@ -66,7 +67,7 @@ HasBlueprint (Some spare) task on own = spare ≡ own
 
 -- Its commands go back to those of its blueprint at its mark, and the entries above the mark are those that the run made; its base
 -- scalars, its tables of registrations and cleanup scripts, and what its host goes back to, are those of its blueprint.
-pub record IsSound (names : List (List ℕ)) (interp : Interp) : Type 0 where
+pub record IsSound (names : Names) (interp : Interp) : Type 0 where
   pub commands : table_at interp.settling.run.engine.table interp.mark ≡ Commands names interp.blueprint.value.defs
   pub entries : mark_of interp.settling.run.engine.table ≡ interp.mark + Writes interp.settling.run.engine.made
   pub keeps : interp.settling.run.engine.frames.keeps ≡ keeps_of interp.blueprint.value.defs
@@ -76,7 +77,7 @@ pub record IsSound (names : List (List ℕ)) (interp : Interp) : Type 0 where
 
 -- It is as newly made: its state is the fresh one of its blueprint, but for the mark of the last run, which stands beside it; nothing
 -- is suspended and no run inside is under way; and nothing is left of a request, a moment or a task.
-pub record IsFresh (names : List (List ℕ)) (interp : Interp) : Type 0 where
+pub record IsFresh (names : Names) (interp : Interp) : Type 0 where
   pub state : interp_state interp ≡ fresh_but_marked names interp.blueprint.value interp.settling.run.engine.host.marked
   pub idle : IsIdle interp.settling.run.engine
   pub inner : interp.settling.inner ≡ None
@@ -85,7 +86,7 @@ pub record IsFresh (names : List (List ℕ)) (interp : Interp) : Type 0 where
   pub task : interp.task ≡ New
 
 -- both: what each start and `update` ask for
-abbrev pub IsNew : List (List ℕ) → Interp → Type 0
+abbrev pub IsNew : Names → Interp → Type 0
 IsNew names interp = IsSound names interp × IsFresh names interp
 
 -- ---- what stays
@@ -108,16 +109,16 @@ pub record IsSameRun (new old : Interp) : Type 0 where
 -- ---- steps
 
 -- The entries that a run has written in its own command table, with those of the run inside that hasn't ended.
-abbrev pub interp_written : List (List ℕ) → Interp → ℕ
+abbrev pub interp_written : Names → Interp → ℕ
 interp_written names interp = written names interp.blueprint.value interp.settling
 
 -- The entries that the runs inside which ended in a call have written: of the steps that were counted before and after it, those
 -- that the call didn't write in the table of the run itself.
-abbrev pub taken : List (List ℕ) → ℕ → ℕ → Interp → Interp → ℕ
+abbrev pub taken : Names → ℕ → ℕ → Interp → Interp → ℕ
 taken names after before new old = (after + interp_written names old) - (before + interp_written names new)
 
 -- No step is left out: each entry that was written in the table of the run itself was counted.
-abbrev pub Counts : List (List ℕ) → ℕ → ℕ → Interp → Interp → Type 0
+abbrev pub Counts : Names → ℕ → ℕ → Interp → Interp → Type 0
 Counts names after before new old = before + interp_written names new ≤ after + interp_written names old
 
 -- The entries that a run, as far as it came, has written in its own command table.
@@ -147,7 +148,7 @@ UnlessNoMemory (Write response) fact = fact
 UnlessNoMemory (Ended outcome) fact = fact
 UnlessNoMemory NoMemory fact = Unit {0}
 
-module _ (names : List (List ℕ)) where
+module _ (names : Names) where
   -- what serves its request
   abbrev pub served : Interp → Stretch
   served i = serve names i.blueprint.value i.moment i.visit.serving

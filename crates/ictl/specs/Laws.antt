@@ -1,6 +1,7 @@
 -- What an interpreter gives where it stands, what a fresh state has, and how the runs go with the order of the stages.
 use Rattle.std.specs.Prelude.{◌≡◌, ℕ, suc, Bool, true, false, List, [], drop, length, Option, Some, None}
 use Rattle.std.specs.Option.{is_some}
+use Rattle.txt_core.specs.Names.{Bytes, Words, Names, Moment}
 use Rattle.outside.specs.declared.question.Answer.{Answer}
 use Rattle.outside.specs.declared.question.Question.{Question}
 use Rattle.cmd_table.specs.Commands.{Globals, Writes}
@@ -40,7 +41,7 @@ use Rattle.ictl.specs.declared.next.Next.TheVariants.{Asks, Write}
 -- where it stands at a response, it gives this response, and all answers are left
 abbrev pub WritingGivesTheResponse : Type 0
 WritingGivesTheResponse =
-    (names : List (List ℕ)) (response : Response) (i : Interp) (inside : ℕ) (further : List Answer)
+    (names : Names) (response : Response) (i : Interp) (inside : ℕ) (further : List Answer)
     → gives names (Write response) inside i further ≡ writes response (ending_of i.task) (interp_state i) inside further
 
 -- the base scalars that definitions keep are the global variables that they make
@@ -60,10 +61,10 @@ EndsWell (writes response ending state inside left) = Unit {0}
 EndsWell (ends outcome state inside left) = IsEnd outcome
 
 pub record EndsAreEnds : Type 0 where
-  pub main : (names : List (List ℕ)) (blueprint : Edition) (request : Request) (moment : ℕ) (answers : List Answer) → EndsWell (Main names blueprint request moment answers)
-  pub after : (names : List (List ℕ)) (blueprint : Edition) (moment : ℕ) (whole : Bool) (request : Request) (ending : Ending) (state : State HostState) (inside : ℕ) (answers : List Answer) → EndsWell (behind names blueprint moment whole request ending state inside answers)
-  pub script : (names : List (List ℕ)) (blueprint : Edition) (script : List ℕ) (moment : ℕ) (answers : List Answer) → EndsWell (Script names blueprint script moment answers)
-  pub define : (names : List (List ℕ)) (blueprint : Edition) (script : List ℕ) (moment : ℕ) (answers : List Answer) → EndsWell (Define names blueprint script moment answers)
+  pub main : (names : Names) (blueprint : Edition) (request : Request) (moment : Moment) (answers : List Answer) → EndsWell (Main names blueprint request moment answers)
+  pub after : (names : Names) (blueprint : Edition) (moment : Moment) (whole : Bool) (request : Request) (ending : Ending) (state : State HostState) (inside : ℕ) (answers : List Answer) → EndsWell (behind names blueprint moment whole request ending state inside answers)
+  pub script : (names : Names) (blueprint : Edition) (script : Bytes) (moment : Moment) (answers : List Answer) → EndsWell (Script names blueprint script moment answers)
+  pub define : (names : Names) (blueprint : Edition) (script : Bytes) (moment : Moment) (answers : List Answer) → EndsWell (Define names blueprint script moment answers)
 
 -- ---- one response
 
@@ -75,22 +76,22 @@ IsSilent (ends outcome state inside left) = Unit {0}
 
 -- no response is written behind the response, in a scheduled script or in a definition run
 pub record OneResponse : Type 0 where
-  pub after : (names : List (List ℕ)) (blueprint : Edition) (moment : ℕ) (whole : Bool) (request : Request) (ending : Ending) (state : State HostState) (inside : ℕ) (answers : List Answer) → IsSilent (behind names blueprint moment whole request ending state inside answers)
-  pub script : (names : List (List ℕ)) (blueprint : Edition) (script : List ℕ) (moment : ℕ) (answers : List Answer) → IsSilent (Script names blueprint script moment answers)
-  pub define : (names : List (List ℕ)) (blueprint : Edition) (script : List ℕ) (moment : ℕ) (answers : List Answer) → IsSilent (Define names blueprint script moment answers)
+  pub after : (names : Names) (blueprint : Edition) (moment : Moment) (whole : Bool) (request : Request) (ending : Ending) (state : State HostState) (inside : ℕ) (answers : List Answer) → IsSilent (behind names blueprint moment whole request ending state inside answers)
+  pub script : (names : Names) (blueprint : Edition) (script : Bytes) (moment : Moment) (answers : List Answer) → IsSilent (Script names blueprint script moment answers)
+  pub define : (names : Names) (blueprint : Edition) (script : Bytes) (moment : Moment) (answers : List Answer) → IsSilent (Define names blueprint script moment answers)
 
 -- ---- questions
 
 -- where it stands at a question, it asks this question while it has no answer
 abbrev pub QuestionsAreAsked : Type 0
 QuestionsAreAsked =
-    (names : List (List ℕ)) (question : Question) (i : Interp) (inside : ℕ)
+    (names : Names) (question : Question) (i : Interp) (inside : ℕ)
     → (state : State HostState) × (within : ℕ) × (gives names (Asks question) inside i [] ≡ asks question state within)
 
 -- ---- the order of the stages
 
 -- how many filters and cleanup scripts a request has at each stage
-abbrev pub counts_of : Visit → List (List ℕ) → Counts
+abbrev pub counts_of : Visit → Words → Counts
 counts_of visit cleanups = record {
   preauth = length visit.preauth;
   authorise = is_some visit.authorisation;
@@ -99,7 +100,7 @@ counts_of visit cleanups = record {
   cleanup = length cleanups;
 }
 
-module _ (names : List (List ℕ)) (blueprint : Edition) (moment : ℕ) (visit : Visit) (cleanups : List (List ℕ)) (ending : Ending) where
+module _ (names : Names) (blueprint : Edition) (moment : Moment) (visit : Visit) (cleanups : Words) (ending : Ending) where
   -- What a run does from here on, where this is to be done next. The response is written as what came before says, and so is given;
   -- behind it the run goes on to trace filters and cleanup scripts.
   abbrev pub from_here : Do → Stretch → Stretch
@@ -132,7 +133,7 @@ module _ (names : List (List ℕ)) (blueprint : Edition) (moment : ℕ) (visit :
 
 -- The runs go in the order of the stages: what comes of a filter, of the authorisation, of what serves, of the response or of a cleanup
 -- script is what follows it by that order. Where the response follows, it is the one that is told.
-pub record FollowsTheStages (names : List (List ℕ)) (blueprint : Edition) (moment : ℕ) (visit : Visit) (cleanups : List (List ℕ)) (ending : Ending) (write : Stretch) : Type 0 where
+pub record FollowsTheStages (names : Names) (blueprint : Edition) (moment : Moment) (visit : Visit) (cleanups : Words) (ending : Ending) (write : Stretch) : Type 0 where
   pub begins : visited names blueprint moment visit ≡ goes_on names blueprint moment visit cleanups ending event.Begin None write
   -- preauth filters
   pub preauth_ok : (place : ℕ) → behind_preauth names blueprint moment visit cleanups ending place
@@ -165,9 +166,9 @@ pub record FollowsTheStages (names : List (List ℕ)) (blueprint : Edition) (mom
       → filter_end (behind_postauth names blueprint moment visit cleanups ending place) (serve names blueprint moment visit.serving) Fails state
       ≡ goes_on names blueprint moment visit cleanups ending event.Failed (Some (stage.Filter when.Postauth place)) (responds failed) state
   -- the procedure, or the page; or neither
-  pub served : (code : ℕ) (result : List ℕ) (state : State HostState)
+  pub served : (code : ℕ) (result : Bytes) (state : State HostState)
       → procedure_end code result state ≡ goes_on names blueprint moment visit cleanups ending event.Served (Some stage.Serve) (responds (procedure_reply code state.host.conn.response)) state
-  pub page_served : (code : ℕ) (result : List ℕ) (state : State HostState)
+  pub page_served : (code : ℕ) (result : Bytes) (state : State HostState)
       → page_end code result state ≡ goes_on names blueprint moment visit cleanups ending event.Served (Some stage.Serve) (responds (page_reply state.host)) state
   pub page_refused : (answer : Answer) (leaf : Leaf HostState) (state : State HostState) (account : Account) (left : List Answer)
       → page_entered names blueprint moment answer (goes leaf) state account left
@@ -192,14 +193,14 @@ pub record FollowsTheStages (names : List (List ℕ)) (blueprint : Edition) (mom
       ≡ goes_on names blueprint moment visit cleanups ending event.Ran (Some (stage.Cleanup place)) write
 
 -- Behind the response of a request, which was written whole or not, comes what follows that by the order.
-pub record FollowsTheResponse (names : List (List ℕ)) (blueprint : Edition) (moment : ℕ) (request : Request) (ending : Ending) (write : Stretch) (state : State HostState) (inside : ℕ) (answers : List Answer) : Type 0 where
+pub record FollowsTheResponse (names : Names) (blueprint : Edition) (moment : Moment) (request : Request) (ending : Ending) (write : Stretch) (state : State HostState) (inside : ℕ) (answers : List Answer) : Type 0 where
   pub whole : behind names blueprint moment true request ending state inside answers
       ≡ goes_on names blueprint moment (visit_of names blueprint request) (cleanups_of blueprint.defs) ending event.Written (Some stage.Write) write state (full inside) answers
   pub short : behind names blueprint moment false request ending state inside answers
       ≡ goes_on names blueprint moment (visit_of names blueprint request) (cleanups_of blueprint.defs) ending event.NotWritten (Some stage.Write) write state (full inside) answers
 
 pub record RunsFollowTheStages : Type 0 where
-  pub stages : (names : List (List ℕ)) (blueprint : Edition) (moment : ℕ) (visit : Visit) (cleanups : List (List ℕ)) (ending : Ending) (write : Stretch)
+  pub stages : (names : Names) (blueprint : Edition) (moment : Moment) (visit : Visit) (cleanups : Words) (ending : Ending) (write : Stretch)
       → FollowsTheStages names blueprint moment visit cleanups ending write
-  pub response : (names : List (List ℕ)) (blueprint : Edition) (moment : ℕ) (request : Request) (ending : Ending) (write : Stretch) (state : State HostState) (inside : ℕ) (answers : List Answer)
+  pub response : (names : Names) (blueprint : Edition) (moment : Moment) (request : Request) (ending : Ending) (write : Stretch) (state : State HostState) (inside : ℕ) (answers : List Answer)
       → FollowsTheResponse names blueprint moment request ending write state inside answers

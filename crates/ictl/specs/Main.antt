@@ -1,5 +1,6 @@
 -- The runs of an interpreter: a request up to its response and behind it, a scheduled script, and a definition run.
 use Rattle.std.specs.Prelude.{ℕ, List, [], ◌∷◌, Bool, true, false, codes, Option, Some, None}
+use Rattle.txt_core.specs.Names.{Bytes, Words, Names, Moment}
 use Rattle.outside.specs.declared.question.Answer.{Answer}
 use Rattle.outside.specs.declared.question.Answer.TheVariants as kinds
 use Rattle.outside.specs.declared.question.Question.{Question}
@@ -7,6 +8,7 @@ use Rattle.outside.specs.declared.question.Service.TheVariants as service
 use Rattle.http_req.specs.declared.request.Request.{Request}
 use Rattle.http_resp.specs.declared.response.Response.{Response}
 use Rattle.http_resp.specs.Replies.{plain_reply}
+use Rattle.tcl_host.specs.Codes as code_of
 use Rattle.tcl_host.specs.Leaf.{Onward, goes, enters}
 use Rattle.server_host.specs.declared.edition.Edition.{Edition}
 use Rattle.server_host.specs.Hosts.{HostState}
@@ -64,13 +66,13 @@ Stretch = State HostState → Account → List Answer → Progress
 
 -- what comes of a script's code and result
 abbrev pub Then : Type 0
-Then = ℕ → List ℕ → Stretch
+Then = ℕ → Bytes → Stretch
 
 -- ---- endings
 
 -- how a run that was answered ends
 abbrev pub answered : Outcome
-answered = outcomes.Done 0 []
+answered = outcomes.Done code_of.ok []
 
 -- the outcome of both parts: that of the first unless it was answered, else that of the second
 abbrev pub both : Ending → Outcome → Outcome
@@ -136,11 +138,11 @@ script_end (nested state inside left) = ends outcomes.TooDeep state inside left
 
 -- what a definition run said, as an outcome
 abbrev pub outcome_of : Answer → Outcome
-outcome_of (kinds.Said text) = outcomes.Done 0 text
-outcome_of (kinds.Failed why) = outcomes.Done 1 why
-outcome_of (kinds.Page page) = outcomes.Done 1 []
-outcome_of kinds.NoPage = outcomes.Done 1 []
-outcome_of kinds.PageFault = outcomes.Done 1 []
+outcome_of (kinds.Said text) = outcomes.Done code_of.ok text
+outcome_of (kinds.Failed why) = outcomes.Done code_of.error why
+outcome_of (kinds.Page page) = outcomes.Done code_of.error []
+outcome_of kinds.NoPage = outcomes.Done code_of.error []
+outcome_of kinds.PageFault = outcomes.Done code_of.error []
 
 -- a definition run, inside which nothing runs: what others wrote stays as it was
 abbrev pub defined_end : ℕ → Defined → Progress
@@ -152,11 +154,11 @@ defined_end inside (sunk state left) = ends outcomes.TooDeep state inside left
 -- ---- first pages
 
 -- the question for a first page
-abbrev pub page_question : List ℕ → Question
+abbrev pub page_question : Bytes → Question
 page_question path = record { service = service.Page; words = path ∷ [] }
 
 -- a first page is entered as an included one is, by these words
-abbrev pub page_words : List ℕ → List (List ℕ)
+abbrev pub page_words : Bytes → Words
 page_words path = codes "ns_adp_include" ∷ path ∷ []
 
 -- a page that isn't there is not found; what can't be read, or is too long, failed
@@ -167,7 +169,7 @@ unentered (kinds.Failed why) = failed
 unentered (kinds.Page page) = failed
 unentered kinds.PageFault = failed
 
-module _ (names : List (List ℕ)) (blueprint : Edition) (moment : ℕ) where
+module _ (names : Names) (blueprint : Edition) (moment : Moment) where
   -- A script, a call or a page, from a state on, with what is left of an account.
   abbrev pub runs : Work → State HostState → Account → List Answer → Settled
   runs work state account answers =
@@ -175,10 +177,10 @@ module _ (names : List (List ℕ)) (blueprint : Edition) (moment : ℕ) where
       (eval names host_table first_depth work state account.budget) answers
 
   -- A call or a script, which begins at the global frame and outside of every page.
-  abbrev pub calls : List (List ℕ) → State HostState → Account → List Answer → Settled
+  abbrev pub calls : Words → State HostState → Account → List Answer → Settled
   calls words state account answers = runs (works.Call words) (outset state) account answers
 
-  abbrev pub scripts : List ℕ → State HostState → Account → List Answer → Settled
+  abbrev pub scripts : Bytes → State HostState → Account → List Answer → Settled
   scripts script state account answers = runs (works.Script script) (outset state) account answers
 
   -- ---- up to the response
@@ -190,7 +192,7 @@ module _ (names : List (List ℕ)) (blueprint : Edition) (moment : ℕ) where
   page_entered answer (goes leaf) state account left = responds (unentered answer) state account left
 
   -- a run that stands at the question for a first page
-  abbrev pub page_asked : Question → List ℕ → Stretch
+  abbrev pub page_asked : Question → Bytes → Stretch
   page_asked question path state account [] = asks question state account.inside
   page_asked question path state account (answer ∷ left) =
       page_entered answer (host_table.answers (page_words path) answer state.host) state account left
@@ -202,14 +204,14 @@ module _ (names : List (List ℕ)) (blueprint : Edition) (moment : ℕ) where
   serve Nothing state account answers = responds (plain_reply 404) state account answers
 
   -- the filters of a stage, and then what is behind it
-  abbrev pub filters_from : List (List (List ℕ)) → Stretch → Stretch
+  abbrev pub filters_from : List Words → Stretch → Stretch
   filters_from [] behind state account answers = behind state account answers
   filters_from (call ∷ more) behind state account answers =
       main_on (calls call state account answers)
       (λ code result. filter_end (filters_from more behind) behind (verdict code result))
 
   -- the authorisation, where there is one
-  abbrev pub authorise : Option (List (List ℕ)) → Stretch → Stretch
+  abbrev pub authorise : Option Words → Stretch → Stretch
   authorise None behind state account answers = behind state account answers
   authorise (Some call) behind state account answers =
       main_on (calls call state account answers) (λ code result. access_end behind (access code result))
@@ -229,13 +231,13 @@ module _ (names : List (List ℕ)) (blueprint : Edition) (moment : ℕ) where
   -- ---- behind the response
 
   -- the cleanup scripts, whatever comes of each
-  abbrev pub cleanups_from : List (List ℕ) → Ending → Stretch
+  abbrev pub cleanups_from : Words → Ending → Stretch
   cleanups_from [] ending state account answers = ends (both ending answered) state account.inside answers
   cleanups_from (script ∷ more) ending state account answers =
       after_on ending (scripts script state account answers) (λ code result. cleanups_from more ending)
 
   -- the trace filters, and then these cleanup scripts
-  abbrev pub traces_from : List (List (List ℕ)) → List (List ℕ) → Ending → Stretch
+  abbrev pub traces_from : List Words → Words → Ending → Stretch
   traces_from [] cleanups ending state account answers = cleanups_from cleanups ending state account answers
   traces_from (call ∷ more) cleanups ending state account answers =
       after_on ending (calls call state account answers)
@@ -253,16 +255,16 @@ module _ (names : List (List ℕ)) (blueprint : Edition) (moment : ℕ) where
   behind false request ending state inside answers = ends (both ending answered) state inside answers
 
 -- The run of a request up to its response, on natives of these names and a blueprint, at a moment, with these answers.
-abbrev pub Main : List (List ℕ) → Edition → Request → ℕ → List Answer → Progress
+abbrev pub Main : Names → Edition → Request → Moment → List Answer → Progress
 Main names blueprint request moment answers =
     visited names blueprint moment (visit_of names blueprint request) (request_state names blueprint request moment) (full 0) answers
 
 -- The run of a scheduled script. No filter and no cleanup script follows.
-unfoldable pub Script : List (List ℕ) → Edition → List ℕ → ℕ → List Answer → Progress
+unfoldable pub Script : Names → Edition → Bytes → Moment → List Answer → Progress
 Script names blueprint script moment answers =
     script_end (scripts names blueprint moment script (script_state names blueprint moment) (full 0) answers)
 
 -- The definition run of a script that stands for itself, as a start script does.
-unfoldable pub Define : List (List ℕ) → Edition → List ℕ → ℕ → List Answer → Progress
+unfoldable pub Define : Names → Edition → Bytes → Moment → List Answer → Progress
 Define names blueprint script moment answers =
     defined_end 0 (define_run names blueprint moment script run_budget run_questions first_depth answers)

@@ -1,5 +1,6 @@
 -- The responses that a request comes to, and what the results of filters and of the authorisation mean.
-use Rattle.std.specs.Prelude.{ℕ, ◌==◌, ◌||◌, nat_lt, Bool, List, [], ◌∷◌, bytes_eq, codes, if◌then◌else◌, Option, Some, None}
+use Rattle.std.specs.Prelude.{ℕ, ◌==◌, ◌||◌, nat_lt, Bool, [], ◌∷◌, bytes_eq, codes, if◌then◌else◌, Option, Some, None}
+use Rattle.txt_core.specs.Names.{Bytes}
 use Rattle.http_resp.specs.declared.response.Response.{Response}
 use Rattle.http_resp.specs.Replies.{plain_reply, text_reply}
 use Rattle.tcl_host.specs.Codes.{ok, return}
@@ -56,7 +57,7 @@ page_reply host = page_or_given host host.conn.response
 
 -- ---- results
 
-abbrev pub verdict_in : List ℕ → Verdict
+abbrev pub verdict_in : Bytes → Verdict
 verdict_in result =
     if bytes_eq result (codes "filter_ok") then Goes
     else if bytes_eq result (codes "filter_break") then Breaks
@@ -64,10 +65,10 @@ verdict_in result =
     else Fails
 
 -- what the code and the result of a filter mean
-abbrev pub verdict : ℕ → List ℕ → Verdict
+abbrev pub verdict : ℕ → Bytes → Verdict
 verdict code result = if is_good code then verdict_in result else Fails
 
-abbrev pub access_in : List ℕ → Access
+abbrev pub access_in : Bytes → Access
 access_in result =
     if bytes_eq result (codes "ok") then Allowed
     else if bytes_eq result (codes "unauthorized") then Unauthorized
@@ -75,5 +76,5 @@ access_in result =
     else Failed
 
 -- what the code and the result of the authorisation mean
-abbrev pub access : ℕ → List ℕ → Access
+abbrev pub access : ℕ → Bytes → Access
 access code result = if is_good code then access_in result else Failed

@@ -1,6 +1,7 @@
 -- A run whose questions get their answers from a list. A question for a run inside this one is answered by that run, whose own
 -- questions get theirs from the same list.
 use Rattle.std.specs.Prelude.{ℕ, zero, suc, ◌+◌, ◌-◌, List, [], ◌∷◌}
+use Rattle.txt_core.specs.Names.{Bytes, Words}
 use Rattle.outside.specs.declared.question.Answer.{Answer}
 use Rattle.outside.specs.declared.question.Question.{Question}
 use Rattle.outside.specs.declared.question.Service.{Service}
@@ -26,7 +27,7 @@ pub record Account : Type 0 where
 -- What a script comes to, with the answers that it didn't take.
 pub data Settled : Type 0 where
   -- it ended with this code and result
-  ended : (code : ℕ) (result : List ℕ) (state : State HostState) (account : Account) (left : List Answer) → Settled
+  ended : (code : ℕ) (result : Bytes) (state : State HostState) (account : Account) (left : List Answer) → Settled
   -- it stands at this question, and there is no answer for it
   asking : (question : Question) (state : State HostState) (inside : ℕ) → Settled
   -- it ended where a cost was more than what was left of the budget
@@ -45,7 +46,7 @@ pub data Defined : Type 0 where
 -- How a question for a run inside is answered.
 pub record Handler : Type 0 where
   -- by the words of the question, the budget that is left, how many questions may be asked, and the answers
-  pub runs : List (List ℕ) → ℕ → ℕ → List Answer → Defined
+  pub runs : Words → ℕ → ℕ → List Answer → Defined
   -- how many entries of a command table are written where an interpreter is made for that run
   pub build : ℕ
 

@@ -1,5 +1,6 @@
 -- What a script stands for that has come so far, with the run inside it, if there is one.
 use Rattle.std.specs.Prelude.{ℕ, ◌+◌, List, ◌∷◌, Option, Some, None}
+use Rattle.txt_core.specs.Names.{Bytes, Names, Moment}
 use Rattle.outside.specs.declared.question.Answer.{Answer}
 use Rattle.outside.specs.declared.question.Question.{Question}
 use Rattle.cmd_table.specs.Commands.{Writes}
@@ -35,25 +36,25 @@ outcome_at Spent = outcomes.Spent
 outcome_at TooDeep = outcomes.TooDeep
 
 -- what comes of a run that stopped so, with what is given further
-abbrev pub comes_to : List (List ℕ) → Stop → Running → Run
+abbrev pub comes_to : Names → Stop → Running → Run
 comes_to names stop run = engine_comes_to names host_table (outcome_at stop) run.engine
 
 -- ---- what was written
 
 -- the entries of its own command table that a run inside has written, from its making on
-abbrev pub inner_written : List (List ℕ) → Edition → Option InnerRun → ℕ
+abbrev pub inner_written : Names → Edition → Option InnerRun → ℕ
 inner_written names blueprint None = 0
 inner_written names blueprint (Some inner) = build_steps names blueprint.defs + Writes inner.run.engine.made
 
 -- the entries that a script has written so far in its own command table, with those of the run inside that hasn't ended
-abbrev pub written : List (List ℕ) → Edition → Settling → ℕ
+abbrev pub written : Names → Edition → Settling → ℕ
 written names blueprint settling = Writes settling.run.engine.made + inner_written names blueprint settling.inner
 
-module _ (names : List (List ℕ)) (blueprint : Edition) (moment : ℕ) where
+module _ (names : Names) (blueprint : Edition) (moment : Moment) where
   -- ---- a definition run
 
   -- It stands at a question: that of its script, or whether to publish, where its script's result is there.
-  abbrev pub define_at : Question → Running → DefineRun → Option (List ℕ) → List Answer → Defined
+  abbrev pub define_at : Question → Running → DefineRun → Option Bytes → List Answer → Defined
   define_at question run defining None answers =
       define_end (behind_other question (state_of run) 0 answers
       (λ answer inside left. settle (no_inner names blueprint moment) defining.questions inside (λ given. comes_to names (Asks question) run (answer ∷ given)) left))

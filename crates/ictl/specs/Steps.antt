@@ -1,5 +1,6 @@
 -- Whether a script, or a run, goes on.
 use Rattle.std.specs.Prelude.{◌≡◌, ◌<◌, ℕ, ◌+◌, ◌-◌, List, length, [], None}
+use Rattle.txt_core.specs.Names.{Bytes, Words, Names, Moment}
 use Rattle.outside.specs.declared.question.Answer.{Answer}
 use Rattle.server_host.specs.declared.edition.Edition.{Edition}
 use Rattle.ictl.specs.Settle.{Settled, settle}
@@ -28,7 +29,7 @@ use Rattle.ictl.specs.declared.task.Move.{Move}
 use Rattle.ictl.specs.declared.task.Move.TheVariants as moves
 use Rattle.ictl.specs.declared.interp.Interp.{Interp}
 
-abbrev pub step_gives : List (List ℕ) → Edition → ℕ → Step → Settling → ℕ → List Answer → Settled
+abbrev pub step_gives : Names → Edition → Moment → Step → Settling → ℕ → List Answer → Settled
 step_gives names blueprint moment (Goes stop) s inside answers =
     settle (inner_runs names blueprint moment) s.questions inside (comes_to names stop s.run) answers
 step_gives names blueprint moment (Stops stop) s inside answers = settling_gives names blueprint moment stop s inside answers
@@ -44,7 +45,7 @@ GoesLower (Goes stop) new old = (new.inner ≡ None) × (new.questions < old.que
 GoesLower (Stops stop) new old = Unit {0}
 
 -- How many scripts of a part of a run may still be begun, at most: those behind the one that runs.
-abbrev pub scripts_left : Visit → List (List ℕ) → Task → ℕ
+abbrev pub scripts_left : Visit → Words → Task → ℕ
 scripts_left visit cleanups New = 0
 scripts_left visit cleanups (Preauth next) = (length visit.preauth - next) + length visit.postauth + 3
 scripts_left visit cleanups Authorise = length visit.postauth + 2
@@ -67,7 +68,7 @@ Lowers (moves.Stops next) i before = Unit {0}
 -- ---- what the functions of an interpreter speak of
 
 -- the path of the first page that is asked for
-abbrev pub asked_path : Task → List ℕ
+abbrev pub asked_path : Task → Bytes
 asked_path (PageAsked path budget) = path
 asked_path New = []
 asked_path (Preauth next) = []
@@ -114,6 +115,6 @@ cut_reply Spent = budget_reply
 cut_reply TooDeep = nesting_reply
 
 -- what comes of a definition run that stands for itself, where it came to this
-abbrev pub defined_gives : List (List ℕ) → DefineStop → DefineRun → ℕ → Interp → List Answer → Progress
+abbrev pub defined_gives : Names → DefineStop → DefineRun → ℕ → Interp → List Answer → Progress
 defined_gives names stop defining inside i answers =
     defined_end inside (define_gives names i.blueprint.value i.moment stop i.settling.run defining answers)

@@ -1,6 +1,7 @@
 -- What a request goes through, by the blueprint that it is served on.
-use Rattle.std.specs.Prelude.{ℕ, nat_eq, Bool, true, false, ◌&&◌, ◌||◌, List, [], ◌∷◌, ◌++◌, bytes_eq, codes, if◌then◌else◌, Option, Some, None}
+use Rattle.std.specs.Prelude.{nat_eq, Bool, true, false, ◌&&◌, ◌||◌, List, [], ◌∷◌, ◌++◌, bytes_eq, codes, if◌then◌else◌, Option, Some, None}
 use Rattle.std.specs.List.{ends_with}
+use Rattle.txt_core.specs.Names.{Bytes, Words, Names}
 use Rattle.cmd_table.specs.Table.{command_of}
 use Rattle.cmd_table.specs.Commands.{Commands}
 use Rattle.cmd_table.specs.declared.command.Cmd.{Cmd}
@@ -25,28 +26,28 @@ use Rattle.ictl.specs.declared.visit.Visit.{Visit}
 -- ---- filters
 
 -- a filter is called with its registered words, and then the name of its stage
-abbrev pub filter_call : When → List (List ℕ) → List (List ℕ)
+abbrev pub filter_call : When → Words → Words
 filter_call when words = words ++ when_name when ∷ []
 
 -- the calls of the filters that a request passes at a stage, in the order of their registration
-abbrev pub calls_of : When → List (List (List ℕ)) → List (List (List ℕ))
+abbrev pub calls_of : When → List Words → List Words
 calls_of when [] = []
 calls_of when (words ∷ filters) = filter_call when words ∷ calls_of when filters
 
-abbrev pub filter_calls : When → Request → List Def → List (List (List ℕ))
+abbrev pub filter_calls : When → Request → List Def → List Words
 filter_calls when request made = calls_of when (Filters when request.method (path_of request) made)
 
 -- ---- authorisation
 
 -- the procedure that says whether a request is allowed
-abbrev pub authoriser : List ℕ
+abbrev pub authoriser : Bytes
 authoriser = codes "ns_authorize"
 
 -- its call: the method, the path, and the user and the password of the request
-abbrev pub authorise_words : Request → Credentials → List (List ℕ)
+abbrev pub authorise_words : Request → Credentials → Words
 authorise_words request shown = authoriser ∷ request.method ∷ path_of request ∷ shown.user ∷ shown.password ∷ []
 
-abbrev pub authorise_call : Request → List (List ℕ)
+abbrev pub authorise_call : Request → Words
 authorise_call request = authorise_words request (credentials request.fields)
 
 -- what has this name is a procedure
@@ -56,13 +57,13 @@ is_procedure (Some (Built name)) = false
 is_procedure (Some (Proc params body)) = true
 
 -- a request is authorised where that name is a procedure of the blueprint
-abbrev pub authorisation : Option Cmd → Request → Option (List (List ℕ))
+abbrev pub authorisation : Option Cmd → Request → Option Words
 authorisation found request = if is_procedure found then Some (authorise_call request) else None
 
 -- ---- what serves
 
 -- pages are served to these methods
-abbrev pub is_page_method : List ℕ → Bool
+abbrev pub is_page_method : Bytes → Bool
 is_page_method method = bytes_eq method (codes "GET") || bytes_eq method (codes "HEAD") || bytes_eq method (codes "POST")
 
 -- a request for a page: its path's last segment ends so
@@ -70,14 +71,14 @@ abbrev pub is_page : Request → Bool
 is_page request = is_page_method request.method && ends_with nat_eq (last_of request.segments) (codes ".adp")
 
 -- without a registration a page is served, where the request is for one
-abbrev pub serving_by : Option (List (List ℕ)) → Request → Serving
+abbrev pub serving_by : Option Words → Request → Serving
 serving_by (Some words) request = Procedure words
 serving_by None request = if is_page request then Page (path_of request) else Nothing
 
 -- ---- cleanup
 
 -- the cleanup scripts of definitions, in their order
-abbrev pub cleanup_in : Def → List (List ℕ)
+abbrev pub cleanup_in : Def → Words
 cleanup_in (defs.Cleanup script) = script ∷ []
 cleanup_in (defs.Proc name params body) = []
 cleanup_in (defs.Rename old new) = []
@@ -85,7 +86,7 @@ cleanup_in (defs.Route method url inherit words) = []
 cleanup_in (defs.Filter when method pattern words) = []
 cleanup_in (defs.Set name value) = []
 
-abbrev pub cleanups_of : List Def → List (List ℕ)
+abbrev pub cleanups_of : List Def → Words
 cleanups_of [] = []
 cleanups_of (def ∷ made) = cleanup_in def ++ cleanups_of made
 
@@ -97,7 +98,7 @@ no_visit = record { preauth = []; authorisation = None; postauth = []; serving =
 
 -- What a request goes through on natives of these names and a blueprint. The declared `Visit` has the calls of its filters at each
 -- stage, that of its authorisation, and what serves it.
-abbrev pub visit_of : List (List ℕ) → Edition → Request → Visit
+abbrev pub visit_of : Names → Edition → Request → Visit
 visit_of names blueprint request = record {
   preauth = filter_calls Preauth request blueprint.defs;
   authorisation = authorisation (command_of (Commands names blueprint.defs) authoriser) request;

@@ -34,14 +34,18 @@ pub fn define_all<L: Ledger>(
     requires idle { IsIdle engine.old }
     requires base { IsAtBase engine.old.frames }
     requires applies { first_misfit engine.old.table.table defs.now ≡ None }
-    ensures ok { OnOk result (state_of engine.new ≡ record (state_of engine.old) { commands = fold defined engine.old.table.table defs.now; frames = at_base (engine.old.frames.keeps ++ keeps_of defs.now) }) }
+    ensures ok { OnOk result
+        (state_of engine.new
+        ≡ record (state_of engine.old)
+        { commands = fold defined engine.old.table.table defs.now; frames = at_base (engine.old.frames.keeps ++ keeps_of defs.now) }) }
     ensures steps { OnOk result (steps.new ≡ steps.old + Writes defs.now) }
     ensures most { steps.new ≤ steps.old + Writes defs.now }
     ensures marks { steps.new + mark_of engine.old.table ≡ steps.old + mark_of engine.new.table }
     ensures keeps { Keeps engine.old.table engine.new.table }
     ensures idle { IsIdle engine.new }
     ensures base { IsAtBase engine.new.frames }
-    ensures front { take (length engine.old.frames.keeps) engine.new.frames.keeps ≡ engine.old.frames.keeps }
+    ensures front { take (length engine.old.frames.keeps) engine.new.frames.keeps
+        ≡ engine.old.frames.keeps }
     ensures rest { (engine.new.host ≡ engine.old.host) × (engine.new.made ≡ engine.old.made) }
 {
     definitions_fit_where_they_apply();
@@ -73,7 +77,8 @@ pub struct Tables {
 pub fn tables_of(alloc: Global, edition: Edition) -> Result<Tables, NoMemory>
     ensures blueprint { IfOk result (λ tables. tables.blueprint.value ≡ edition) }
     ensures routes { IfOk result (λ tables. IsBuiltOf tables.routes tables.blueprint.value.defs) }
-    ensures cleanups { IfOk result (λ tables. tables.cleanups ≡ cleanups_of tables.blueprint.value.defs) }
+    ensures cleanups { IfOk result (λ tables.
+        tables.cleanups ≡ cleanups_of tables.blueprint.value.defs) }
 {
     let blueprint = Rc::new(alloc, edition)?;
     let routes = Routes::build(alloc, &blueprint.defs)?;
@@ -93,7 +98,8 @@ fn keep_global(
     value: &Text,
 ) -> Result<(), NoMemory>
     requires { IsAtBase frames.old }
-    ensures { OnOk result (frames.new ≡ at_base (frames.old.keeps ++ keeps_in (defs.Set name.now value.now))) }
+    ensures { OnOk result
+        (frames.new ≡ at_base (frames.old.keeps ++ keeps_in (defs.Set name.now value.now))) }
 {
     if is_element_name(name) {
         return Ok(());
@@ -153,11 +159,14 @@ pub fn engine_on<L: Ledger>(
     blueprint: &Rc<Edition>,
     steps: &mut Steps<L>,
 ) -> Result<Engine<RunHost>, NoMemory>
-    ensures state { IfOk result (λ engine. state_of engine ≡ Fresh (names_of natives.now) blueprint.now.value) }
+    ensures state { IfOk result (λ engine.
+        state_of engine ≡ Fresh (names_of natives.now) blueprint.now.value) }
     ensures idle { IfOk result (λ engine. IsIdle engine) }
-    ensures steps { OnOk result (steps.new ≡ steps.old + build_steps (names_of natives.now) blueprint.now.value.defs) }
+    ensures steps { OnOk result
+        (steps.new ≡ steps.old + build_steps (names_of natives.now) blueprint.now.value.defs) }
     ensures least { steps.old ≤ steps.new }
-    ensures most { steps.new ≤ steps.old + build_steps (names_of natives.now) blueprint.now.value.defs }
+    ensures most { steps.new ≤ steps.old + build_steps (names_of natives.now)
+        blueprint.now.value.defs }
 {
     let mut frames = Frames::new(alloc)?;
     let Ok(mut table) = CmdTable::new(alloc, natives, steps) else {

@@ -1,6 +1,7 @@
 //! Definition runs. The only error of each call is want of memory.
 
 ghost use Rattle.std.specs.Prelude.{◌≡◌, ◌<◌, ◌≤◌, ◌+◌, ◌∷◌, [], ℕ, List, None, IfOk, OnErr};
+ghost use Rattle.txt_core.specs.Names.{Names, Moment};
 ghost use Rattle.cmd_table.specs.Commands.{Writes};
 ghost use Rattle.natives.specs.Names.{names_of};
 ghost use Rattle.outside.specs.declared.question.Answer.{Answer};
@@ -104,12 +105,22 @@ impl DefineRun {
         steps: &mut Steps<L>,
     ) -> Result<DefineStop, NoMemory>
         requires { DefineAsks run.old self.old.questions self.old.value }
-        ensures gives { IfOk result (λ stop. (blueprint : Published) (moment : ℕ) (question : Question) (further : List Answer) → define_gives (names_of natives.now) blueprint moment stop run.new self.new further ≡ define_at (names_of natives.now) blueprint moment question run.old self.old self.old.value (answer ∷ further)) }
+        ensures gives { IfOk result (λ stop.
+            (blueprint : Published) (moment : Moment) (question : Question) (further : List Answer)
+            → define_gives (names_of natives.now) blueprint moment stop run.new self.new further
+            ≡ define_at (names_of natives.now) blueprint moment question run.old self.old
+            self.old.value (answer ∷ further)) }
         ensures lasts { Lasts run.new.engine run.old.engine }
-        ensures counts { steps.new + Writes run.old.engine.made ≡ steps.old + Writes run.new.engine.made }
-        ensures most { OnErr result ((blueprint : Published) (moment : ℕ) (question : Question) → Writes run.new.engine.made ≤ defined_own (define_at (names_of natives.now) blueprint moment question run.old self.old self.old.value (answer ∷ []))) }
+        ensures counts { steps.new + Writes run.old.engine.made
+            ≡ steps.old + Writes run.new.engine.made }
+        ensures most { OnErr result
+            ((blueprint : Published) (moment : Moment) (question : Question)
+            → Writes run.new.engine.made ≤ defined_own
+            (define_at (names_of natives.now) blueprint moment question run.old self.old
+            self.old.value (answer ∷ []))) }
         ensures asks { IfOk result (λ stop. DefineStopAsks stop run.new self.new) }
-        ensures falls { IfOk result (λ stop. DefineFalls stop self.new (define_number self.old.questions self.old.value)) }
+        ensures falls { IfOk result (λ stop.
+            DefineFalls stop self.new (define_number self.old.questions self.old.value)) }
     {
         match self.value.take() {
             Some(value) => Ok(DefineStop::Said(published(alloc, value, answer))),
@@ -126,9 +137,15 @@ impl DefineRun {
         requires value { self.old.value ≡ None }
         requires asks { StopAsks stop run.now }
         requires suffices { Suffices stop run.now self.old.questions }
-        ensures gives { IfOk result (λ last. (names : List (List ℕ)) (blueprint : Published) (moment : ℕ) (further : List Answer) → define_gives names blueprint moment last run.now self.new further ≡ define_end (settle (no_inner names blueprint moment) self.old.questions 0 (comes_to names stop run.now) further)) }
+        ensures gives { IfOk result (λ last.
+            (names : Names) (blueprint : Published) (moment : Moment) (further : List Answer)
+            → define_gives names blueprint moment last run.now self.new further
+            ≡ define_end
+            (settle (no_inner names blueprint moment) self.old.questions 0
+            (comes_to names stop run.now) further)) }
         ensures asks { IfOk result (λ last. DefineStopAsks last run.now self.new) }
-        ensures falls { IfOk result (λ last. (before : ℕ) → self.old.questions < before → DefineFalls last self.new before) }
+        ensures falls { IfOk result (λ last.
+            (before : ℕ) → self.old.questions < before → DefineFalls last self.new before) }
         ensures fewer { self.new.questions ≤ self.old.questions }
     {
         match stop {
@@ -157,9 +174,13 @@ impl DefineRun {
         value: Text,
     ) -> Result<DefineStop, NoMemory>
         requires { self.old.value ≡ None }
-        ensures gives { IfOk result (λ last. (names : List (List ℕ)) (blueprint : Published) (moment : ℕ) (further : List Answer) → define_gives names blueprint moment last run.now self.new further ≡ script_end (returned code value) run.now.engine.budget (state_of run.now) further) }
+        ensures gives { IfOk result (λ last.
+            (names : Names) (blueprint : Published) (moment : Moment) (further : List Answer)
+            → define_gives names blueprint moment last run.now self.new further
+            ≡ script_end (returned code value) run.now.engine.budget (state_of run.now) further) }
         ensures asks { IfOk result (λ last. DefineStopAsks last run.now self.new) }
-        ensures falls { IfOk result (λ last. (before : ℕ) → 0 < before → DefineFalls last self.new before) }
+        ensures falls { IfOk result (λ last.
+            (before : ℕ) → 0 < before → DefineFalls last self.new before) }
         ensures same { self.new.questions ≡ self.old.questions }
     {
         if !is_good(code) {

@@ -1,6 +1,7 @@
 //! How scripts and runs end.
 
 ghost use Rattle.std.specs.Prelude.{◌≡◌, []};
+ghost use Rattle.tcl_host.specs.Codes as code_of;
 ghost use Rattle.ictl.specs.Replies.{is_good, verdict_in, verdict, access_in, access};
 ghost use Rattle.ictl.specs.Main.{both};
 
@@ -118,7 +119,7 @@ pub fn both(first: Ending, second: Outcome) -> Outcome
 
 /// How a run that was answered ends.
 pub fn answered(alloc: Global) -> Outcome
-    ensures { result ≡ Outcome.Done 0 [] }
+    ensures { result ≡ Outcome.Done code_of.ok [] }
 {
     Outcome::Done {
         code: OK,

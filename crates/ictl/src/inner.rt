@@ -1,6 +1,7 @@
 //! The run of a question for a run inside another one. Its calls have no error but want of memory.
 
-ghost use Rattle.std.specs.Prelude.{◌≡◌, ◌<◌, ◌≤◌, ◌+◌, ◌∷◌, [], ℕ, List, None, IfOk, OnErr, IfSome};
+ghost use Rattle.std.specs.Prelude.{◌≡◌, ◌<◌, ◌≤◌, ◌+◌, ◌∷◌, [], List, None, IfOk, OnErr, IfSome};
+ghost use Rattle.txt_core.specs.Names.{Moment};
 ghost use Rattle.txt_core.specs.Number.{number};
 ghost use Rattle.cmd_table.specs.Commands.{Writes};
 ghost use Rattle.natives.specs.Names.{names_of};
@@ -60,10 +61,23 @@ impl InnerRun {
         steps: &mut Steps<L>,
     ) -> Result<(InnerRun, DefineStop), NoMemory>
         requires { suffices budget questions }
-        ensures gives { IfOk result (λ x. (further : List Answer) → define_gives (names_of natives.now) blueprint.now.value moment x.1 x.0.run x.0.defining further ≡ inner_run (names_of natives.now) blueprint.now.value moment words.now budget questions further) }
-        ensures counts { IfOk result (λ x. steps.new ≡ steps.old + (build_steps (names_of natives.now) blueprint.now.value.defs + Writes x.0.run.engine.made)) }
+        ensures gives { IfOk result (λ x.
+            (further : List Answer)
+            → define_gives (names_of natives.now) blueprint.now.value moment x.1 x.0.run
+            x.0.defining further
+            ≡ inner_run (names_of natives.now) blueprint.now.value moment words.now budget questions
+            further) }
+        ensures counts { IfOk result (λ x.
+            steps.new
+            ≡ steps.old +
+            (build_steps (names_of natives.now) blueprint.now.value.defs + Writes
+            x.0.run.engine.made)) }
         ensures least { steps.old ≤ steps.new }
-        ensures most { OnErr result (steps.new ≤ steps.old + (build_steps (names_of natives.now) blueprint.now.value.defs + defined_own (inner_run (names_of natives.now) blueprint.now.value moment words.now budget questions []))) }
+        ensures most { OnErr result
+            (steps.new ≤ steps.old +
+            (build_steps (names_of natives.now) blueprint.now.value.defs + defined_own
+            (inner_run (names_of natives.now) blueprint.now.value moment words.now budget questions
+            []))) }
         ensures asks { IfOk result (λ x. DefineStopAsks x.1 x.0.run x.0.defining) }
         ensures questions { IfOk result (λ x. x.0.defining.questions ≤ questions) }
     {
@@ -92,9 +106,22 @@ impl InnerRun {
     ) -> Result<DefineStop, NoMemory>
         requires suffices { suffices budget self.old.defining.questions }
         requires value { self.old.defining.value ≡ None }
-        ensures gives { IfOk result (λ stop. (blueprint : Published) → state_of self.old.run ≡ Fresh (names_of natives.now) blueprint → (further : List Answer) → define_gives (names_of natives.now) blueprint moment stop self.new.run self.new.defining further ≡ inner_run (names_of natives.now) blueprint moment words.now budget self.old.defining.questions further) }
-        ensures counts { steps.new + Writes self.old.run.engine.made ≡ steps.old + Writes self.new.run.engine.made }
-        ensures most { OnErr result ((blueprint : Published) → state_of self.old.run ≡ Fresh (names_of natives.now) blueprint → Writes self.new.run.engine.made ≤ defined_own (inner_run (names_of natives.now) blueprint moment words.now budget self.old.defining.questions [])) }
+        ensures gives { IfOk result (λ stop.
+            (blueprint : Published)
+            → state_of self.old.run ≡ Fresh (names_of natives.now) blueprint
+            → (further : List Answer)
+            → define_gives (names_of natives.now) blueprint moment stop self.new.run
+            self.new.defining further
+            ≡ inner_run (names_of natives.now) blueprint moment words.now budget
+            self.old.defining.questions further) }
+        ensures counts { steps.new + Writes self.old.run.engine.made
+            ≡ steps.old + Writes self.new.run.engine.made }
+        ensures most { OnErr result
+            ((blueprint : Published)
+            → state_of self.old.run ≡ Fresh (names_of natives.now) blueprint
+            → Writes self.new.run.engine.made ≤ defined_own
+            (inner_run (names_of natives.now) blueprint moment words.now budget
+            self.old.defining.questions [])) }
         ensures asks { IfOk result (λ stop. DefineStopAsks stop self.new.run self.new.defining) }
         ensures fewer { self.new.defining.questions ≤ self.old.defining.questions }
     {
@@ -120,11 +147,23 @@ impl InnerRun {
         steps: &mut Steps<L>,
     ) -> Result<DefineStop, NoMemory>
         requires { DefineAsks self.old.run self.old.defining.questions self.old.defining.value }
-        ensures gives { IfOk result (λ stop. (blueprint : Published) (moment : ℕ) (question : Question) (further : List Answer) → define_gives (names_of natives.now) blueprint moment stop self.new.run self.new.defining further ≡ define_at (names_of natives.now) blueprint moment question self.old.run self.old.defining self.old.defining.value (answer ∷ further)) }
-        ensures counts { steps.new + Writes self.old.run.engine.made ≡ steps.old + Writes self.new.run.engine.made }
-        ensures most { OnErr result ((blueprint : Published) (moment : ℕ) (question : Question) → Writes self.new.run.engine.made ≤ defined_own (define_at (names_of natives.now) blueprint moment question self.old.run self.old.defining self.old.defining.value (answer ∷ []))) }
+        ensures gives { IfOk result (λ stop.
+            (blueprint : Published) (moment : Moment) (question : Question) (further : List Answer)
+            → define_gives (names_of natives.now) blueprint moment stop self.new.run
+            self.new.defining further
+            ≡ define_at (names_of natives.now) blueprint moment question self.old.run
+            self.old.defining self.old.defining.value (answer ∷ further)) }
+        ensures counts { steps.new + Writes self.old.run.engine.made
+            ≡ steps.old + Writes self.new.run.engine.made }
+        ensures most { OnErr result
+            ((blueprint : Published) (moment : Moment) (question : Question)
+            → Writes self.new.run.engine.made ≤ defined_own
+            (define_at (names_of natives.now) blueprint moment question self.old.run
+            self.old.defining self.old.defining.value (answer ∷ []))) }
         ensures asks { IfOk result (λ stop. DefineStopAsks stop self.new.run self.new.defining) }
-        ensures falls { IfOk result (λ stop. DefineFalls stop self.new.defining (define_number self.old.defining.questions self.old.defining.value)) }
+        ensures falls { IfOk result (λ stop.
+            DefineFalls stop self.new.defining
+            (define_number self.old.defining.questions self.old.defining.value)) }
     {
         self.defining
             .answer(alloc, natives, &mut self.run, answer, steps)

@@ -1,6 +1,7 @@
 //! Interpreters.
 
 ghost use Rattle.std.specs.Prelude.{◌≡◌, ◌≤◌, ◌<◌, ◌+◌, ◌-◌, ◌*◌, ◌++◌, ◌∷◌, [], ℕ, List, Some, None, false, IfOk, OnOk, OnErr, MatchResult, length, take};
+ghost use Rattle.txt_core.specs.Names.{Names};
 ghost use Rattle.cmd_table.specs.Commands.{Writes};
 ghost use Rattle.blueprint.specs.States.{first_misfit};
 ghost use Rattle.natives.specs.Names.{names_of};
@@ -131,9 +132,11 @@ impl Interp {
         steps: &mut Steps<L>,
     ) -> Result<Interp, NoMemory>
         ensures is_new { IfOk result (λ made. IsNew (names_of natives.now) made) }
-        ensures blueprint { IfOk result (λ made. made.blueprint.value ≡ record { epoch = epoch; defs = defs.now }) }
+        ensures blueprint { IfOk result (λ made.
+            made.blueprint.value ≡ record { epoch = epoch; defs = defs.now }) }
         ensures unmarked { IfOk result (λ made. made.settling.run.engine.host.marked ≡ false) }
-        ensures steps { OnOk result (steps.new ≡ steps.old + build_steps (names_of natives.now) defs.now) }
+        ensures steps { OnOk result
+            (steps.new ≡ steps.old + build_steps (names_of natives.now) defs.now) }
         ensures least { steps.old ≤ steps.new }
         ensures most { steps.new ≤ steps.old + build_steps (names_of natives.now) defs.now }
     {
@@ -200,12 +203,18 @@ impl Interp {
         steps: &mut Steps<L>,
     ) -> Next
         requires { IsNew (names_of natives.now) self.old }
-        ensures stands { let names = names_of natives.now in Stands names (Main names self.old.blueprint.value request moment) result (taken names steps.new steps.old self.new self.old) self.new [] }
+        ensures stands { let names = names_of natives.now in
+            Stands names (Main names self.old.blueprint.value request moment) result
+            (taken names steps.new steps.old self.new self.old) self.new [] }
         ensures counts { Counts (names_of natives.now) steps.new steps.old self.new self.old }
-        ensures most { let names = names_of natives.now in IsWithin 0 steps.old steps.new self.new (Main names self.old.blueprint.value request moment []) }
-        ensures visit { UnlessNoMemory result ((self.new.visit ≡ visit_of (names_of natives.now) self.old.blueprint.value request) × (self.new.moment ≡ moment)) }
+        ensures most { let names = names_of natives.now in
+            IsWithin 0 steps.old steps.new self.new
+            (Main names self.old.blueprint.value request moment []) }
+        ensures visit { UnlessNoMemory result
+            ((self.new.visit ≡ visit_of (names_of natives.now) self.old.blueprint.value request)
+            × (self.new.moment ≡ moment)) }
         ensures holds { Holds self.new self.old }
-        ensures sound { (names : List (List ℕ)) → IsSound names self.old → IsSound names self.new }
+        ensures sound { (names : Names) → IsSound names self.old → IsSound names self.new }
         ensures next { StandsAt result self.new }
         ensures falls { Falls result self.new first_number }
     {
@@ -228,11 +237,15 @@ impl Interp {
         steps: &mut Steps<L>,
     ) -> Next
         requires { IsNew (names_of natives.now) self.old }
-        ensures stands { let names = names_of natives.now in Stands names (Script names self.old.blueprint.value script.now moment) result (taken names steps.new steps.old self.new self.old) self.new [] }
+        ensures stands { let names = names_of natives.now in
+            Stands names (Script names self.old.blueprint.value script.now moment) result
+            (taken names steps.new steps.old self.new self.old) self.new [] }
         ensures counts { Counts (names_of natives.now) steps.new steps.old self.new self.old }
-        ensures most { let names = names_of natives.now in IsWithin 0 steps.old steps.new self.new (Script names self.old.blueprint.value script.now moment []) }
+        ensures most { let names = names_of natives.now in
+            IsWithin 0 steps.old steps.new self.new
+            (Script names self.old.blueprint.value script.now moment []) }
         ensures holds { Holds self.new self.old }
-        ensures sound { (names : List (List ℕ)) → IsSound names self.old → IsSound names self.new }
+        ensures sound { (names : Names) → IsSound names self.old → IsSound names self.new }
         ensures next { StandsAt result self.new }
         ensures falls { Falls result self.new first_number }
     {
@@ -258,11 +271,16 @@ impl Interp {
         steps: &mut Steps<L>,
     ) -> Next
         requires { IsNew (names_of natives.now) self.old }
-        ensures stands { let names = names_of natives.now in Stands names (Define names self.old.blueprint.value script.now moment) result 0 self.new [] }
-        ensures steps { steps.new + Writes self.old.settling.run.engine.made ≡ steps.old + Writes self.new.settling.run.engine.made }
-        ensures most { let names = names_of natives.now in IsWithin 0 steps.old steps.new self.new (Define names self.old.blueprint.value script.now moment []) }
+        ensures stands { let names = names_of natives.now in
+            Stands names (Define names self.old.blueprint.value script.now moment) result 0 self.new
+            [] }
+        ensures steps { steps.new + Writes self.old.settling.run.engine.made
+            ≡ steps.old + Writes self.new.settling.run.engine.made }
+        ensures most { let names = names_of natives.now in
+            IsWithin 0 steps.old steps.new self.new
+            (Define names self.old.blueprint.value script.now moment []) }
         ensures holds { Holds self.new self.old }
-        ensures sound { (names : List (List ℕ)) → IsSound names self.old → IsSound names self.new }
+        ensures sound { (names : Names) → IsSound names self.old → IsSound names self.new }
         ensures next { StandsAt result self.new }
         ensures falls { Falls result self.new first_number }
     {
@@ -282,13 +300,20 @@ impl Interp {
         steps: &mut Steps<L>,
     ) -> Next
         requires { IsAsking self.old }
-        ensures step { let names = names_of natives.now in GoesOn names result (taken names steps.new steps.old self.new self.old) self.new self.old answer }
-        ensures stands { let names = names_of natives.now in StandsOn names result (taken names steps.new steps.old self.new self.old) self.new self.old answer }
+        ensures step { let names = names_of natives.now in
+            GoesOn names result (taken names steps.new steps.old self.new self.old) self.new
+            self.old answer }
+        ensures stands { let names = names_of natives.now in
+            StandsOn names result (taken names steps.new steps.old self.new self.old) self.new
+            self.old answer }
         ensures counts { Counts (names_of natives.now) steps.new steps.old self.new self.old }
-        ensures most { let names = names_of natives.now in (question : Question) (inside : ℕ) → IsWithin (inside + interp_written names self.old) steps.old steps.new self.new (gives names (Next.Asks question) inside self.old (answer ∷ [])) }
+        ensures most { let names = names_of natives.now in
+            (question : Question) (inside : ℕ)
+            → IsWithin (inside + interp_written names self.old) steps.old steps.new self.new
+            (gives names (Next.Asks question) inside self.old (answer ∷ [])) }
         ensures same { IsSameRun self.new self.old }
         ensures holds { Holds self.new self.old }
-        ensures sound { (names : List (List ℕ)) → IsSound names self.old → IsSound names self.new }
+        ensures sound { (names : Names) → IsSound names self.old → IsSound names self.new }
         ensures next { StandsAt result self.new }
         ensures falls { Falls result self.new (number_of self.old) }
     {
@@ -305,13 +330,28 @@ impl Interp {
         steps: &mut Steps<L>,
     ) -> Next
         requires { IsWriting self.old }
-        ensures stands { let names = names_of natives.now in (request : Request) → IsSound names self.old → self.old.visit ≡ visit_of names self.old.blueprint.value request → (inside : ℕ) → Stands names (behind names self.old.blueprint.value self.old.moment whole request (ending_of self.old.task) (interp_state self.old) inside) result (inside + taken names steps.new steps.old self.new self.old) self.new [] }
-        ensures unwritten { whole ≡ false → (result ≡ Next.Ended (both (ending_of self.old.task) answered)) × (steps.new ≡ steps.old) }
+        ensures stands { let names = names_of natives.now in
+            (request : Request) → IsSound names self.old
+            → self.old.visit ≡ visit_of names self.old.blueprint.value request
+            → (inside : ℕ)
+            → Stands names
+            (behind names self.old.blueprint.value self.old.moment whole request
+            (ending_of self.old.task) (interp_state self.old) inside)
+            result (inside + taken names steps.new steps.old self.new self.old) self.new [] }
+        ensures unwritten { whole ≡ false
+            → (result ≡ Next.Ended (both (ending_of self.old.task) answered))
+            × (steps.new ≡ steps.old) }
         ensures counts { Counts (names_of natives.now) steps.new steps.old self.new self.old }
-        ensures most { let names = names_of natives.now in (request : Request) → IsSound names self.old → self.old.visit ≡ visit_of names self.old.blueprint.value request → (inside : ℕ) → IsWithin (inside + Writes (interp_state self.old).made) steps.old steps.new self.new (behind names self.old.blueprint.value self.old.moment whole request (ending_of self.old.task) (interp_state self.old) inside []) }
+        ensures most { let names = names_of natives.now in
+            (request : Request) → IsSound names self.old
+            → self.old.visit ≡ visit_of names self.old.blueprint.value request
+            → (inside : ℕ)
+            → IsWithin (inside + Writes (interp_state self.old).made) steps.old steps.new self.new
+            (behind names self.old.blueprint.value self.old.moment whole request
+            (ending_of self.old.task) (interp_state self.old) inside []) }
         ensures same { IsSameRun self.new self.old }
         ensures holds { Holds self.new self.old }
-        ensures sound { (names : List (List ℕ)) → IsSound names self.old → IsSound names self.new }
+        ensures sound { (names : Names) → IsSound names self.old → IsSound names self.new }
         ensures next { StandsAt result self.new }
         ensures falls { Falls result self.new first_number }
     {
@@ -328,10 +368,12 @@ impl Interp {
     ///
     /// The steps are the entries that the run's own definitions wrote: each is taken back.
     pub fn reset<L: Ledger>(&mut self, steps: &mut Steps<L>)
-        ensures is_new { (names : List (List ℕ)) → IsSound names self.old → IsNew names self.new }
-        ensures steps { (names : List (List ℕ)) → IsSound names self.old → steps.new ≡ steps.old + Writes self.old.settling.run.engine.made }
+        ensures is_new { (names : Names) → IsSound names self.old → IsNew names self.new }
+        ensures steps { (names : Names) → IsSound names self.old
+            → steps.new ≡ steps.old + Writes self.old.settling.run.engine.made }
         ensures blueprint { self.new.blueprint.value ≡ self.old.blueprint.value }
-        ensures marked { self.new.settling.run.engine.host.marked ≡ self.old.settling.run.engine.host.marked }
+        ensures marked { self.new.settling.run.engine.host.marked
+            ≡ self.old.settling.run.engine.host.marked }
     {
         let mark = self.mark.min(self.settling.run.engine.mark());
         drop(self.settling.inner.take());
@@ -344,7 +386,9 @@ impl Interp {
 
     /// Puts the host back on the blueprint, where there is a spare.
     fn put_back(&mut self)
-        ensures { self.new ≡ record self.old { settling = record self.old.settling { run = record { engine = record self.old.settling.run.engine { host = put_on (spare_of self.old) self.old.settling.run.engine.host } } }; spare = None } }
+        ensures { self.new
+            ≡ record self.old
+            { settling = record self.old.settling { run = record { engine = record self.old.settling.run.engine { host = put_on (spare_of self.old) self.old.settling.run.engine.host } } }; spare = None } }
     {
         match self.spare.take() {
             Some(spare) => self.settling.run.engine.host_mut().set_blueprint(spare),
@@ -374,12 +418,16 @@ impl Interp {
         defs: &Defs,
         steps: &mut Steps<L>,
     ) -> Result<(), NoMemory>
-        requires is_new { (names : List (List ℕ)) × IsNew names self.old }
+        requires is_new { (names : Names) × IsNew names self.old }
         requires applies { first_misfit self.old.settling.run.engine.table.table defs.now ≡ None }
-        ensures ok { OnOk result ((names : List (List ℕ)) → IsNew names self.old → IsNew names self.new) }
-        ensures blueprint { OnOk result (self.new.blueprint.value ≡ added self.old.blueprint.value epoch defs.now) }
-        ensures err { OnErr result (((names : List (List ℕ)) → IsNew names self.old → IsNew names self.new) × (self.new.blueprint.value ≡ self.old.blueprint.value)) }
-        ensures marked { self.new.settling.run.engine.host.marked ≡ self.old.settling.run.engine.host.marked }
+        ensures ok { OnOk result ((names : Names) → IsNew names self.old → IsNew names self.new) }
+        ensures blueprint { OnOk result
+            (self.new.blueprint.value ≡ added self.old.blueprint.value epoch defs.now) }
+        ensures err { OnErr result
+            (((names : Names) → IsNew names self.old → IsNew names self.new)
+            × (self.new.blueprint.value ≡ self.old.blueprint.value)) }
+        ensures marked { self.new.settling.run.engine.host.marked
+            ≡ self.old.settling.run.engine.host.marked }
         ensures steps { OnOk result (steps.new ≡ steps.old + Writes defs.now) }
         ensures most { steps.new ≤ steps.old + 2 * Writes defs.now }
     {
@@ -404,7 +452,8 @@ impl Interp {
 
     /// The tables of its blueprint with further definitions, and that blueprint once more.
     fn later(&self, epoch: u64, defs: &Defs) -> Result<(Tables, Rc<Edition>), NoMemory>
-        ensures blueprint { IfOk result (λ x. x.0.blueprint.value ≡ added self.now.blueprint.value epoch defs.now) }
+        ensures blueprint { IfOk result (λ x.
+            x.0.blueprint.value ≡ added self.now.blueprint.value epoch defs.now) }
         ensures routes { IfOk result (λ x. IsBuiltOf x.0.routes x.0.blueprint.value.defs) }
         ensures cleanups { IfOk result (λ x. x.0.cleanups ≡ cleanups_of x.0.blueprint.value.defs) }
         ensures shared { IfOk result (λ x. x.1.value ≡ x.0.blueprint.value) }
@@ -431,10 +480,15 @@ impl Interp {
 
     /// Puts further definitions into the engine, or none where memory wants.
     fn define_more<L: Ledger>(&mut self, defs: &Defs, steps: &mut Steps<L>) -> Result<(), NoMemory>
-        requires is_new { (names : List (List ℕ)) × IsNew names self.old }
+        requires is_new { (names : Names) × IsNew names self.old }
         requires applies { first_misfit self.old.settling.run.engine.table.table defs.now ≡ None }
-        ensures ok { OnOk result ((interp_state self.new ≡ updated defs.now (interp_state self.old)) × (self.new ≡ record self.old { settling = self.new.settling })) }
-        ensures err { OnErr result ((interp_state self.new ≡ interp_state self.old) × (self.new.settling.run.engine.table ≡ self.old.settling.run.engine.table) × (self.new ≡ record self.old { settling = self.new.settling })) }
+        ensures ok { OnOk result
+            ((interp_state self.new ≡ updated defs.now (interp_state self.old))
+            × (self.new ≡ record self.old { settling = self.new.settling })) }
+        ensures err { OnErr result
+            ((interp_state self.new ≡ interp_state self.old)
+            × (self.new.settling.run.engine.table ≡ self.old.settling.run.engine.table)
+            × (self.new ≡ record self.old { settling = self.new.settling })) }
         ensures idle { IsIdle self.new.settling.run.engine }
         ensures inner { self.new.settling.inner ≡ self.old.settling.inner }
         ensures steps { OnOk result (steps.new ≡ steps.old + Writes defs.now) }
@@ -463,9 +517,18 @@ impl Interp {
         steps: &mut Steps<L>,
     ) -> Result<Next, NoMemory>
         requires { IsAsking self.old }
-        ensures step { let names = names_of natives.now in IfOk result (λ next. (question : Question) (inside : ℕ) (further : List Answer) → gives names next (inside + taken names steps.new steps.old self.new self.old) self.new further ≡ gives names (Next.Asks question) inside self.old (answer ∷ further)) }
+        ensures step { let names = names_of natives.now in
+            IfOk result (λ next.
+            (question : Question) (inside : ℕ) (further : List Answer)
+            → gives names next (inside + taken names steps.new steps.old self.new self.old) self.new
+            further
+            ≡ gives names (Next.Asks question) inside self.old (answer ∷ further)) }
         ensures counts { Counts (names_of natives.now) steps.new steps.old self.new self.old }
-        ensures most { let names = names_of natives.now in OnErr result ((question : Question) (inside : ℕ) → IsWithin (inside + interp_written names self.old) steps.old steps.new self.new (gives names (Next.Asks question) inside self.old (answer ∷ []))) }
+        ensures most { let names = names_of natives.now in
+            OnErr result
+            ((question : Question) (inside : ℕ)
+            → IsWithin (inside + interp_written names self.old) steps.old steps.new self.new
+            (gives names (Next.Asks question) inside self.old (answer ∷ []))) }
         ensures same { IsSameRun self.new self.old }
         ensures holds { Holds self.new self.old }
         ensures next { IfOk result (λ next. GoesOut next self.new) }
@@ -501,13 +564,23 @@ impl Interp {
         steps: &mut Steps<L>,
     ) -> Result<Next, NoMemory>
         requires { MoveStandsAt step self.old }
-        ensures gives { let names = names_of natives.now in IfOk result (λ next. (inside : ℕ) (further : List Answer) → gives names next (inside + taken names steps.new steps.old self.new self.old) self.new further ≡ move_gives names step inside self.old further) }
+        ensures gives { let names = names_of natives.now in
+            IfOk result (λ next.
+            (inside : ℕ) (further : List Answer)
+            → gives names next (inside + taken names steps.new steps.old self.new self.old) self.new
+            further
+            ≡ move_gives names step inside self.old further) }
         ensures counts { Counts (names_of natives.now) steps.new steps.old self.new self.old }
-        ensures most { let names = names_of natives.now in OnErr result ((inside : ℕ) → IsWithin (inside + interp_written names self.old) steps.old steps.new self.new (move_gives names step inside self.old [])) }
+        ensures most { let names = names_of natives.now in
+            OnErr result
+            ((inside : ℕ)
+            → IsWithin (inside + interp_written names self.old) steps.old steps.new self.new
+            (move_gives names step inside self.old [])) }
         ensures same { IsSameRun self.new self.old }
         ensures holds { Holds self.new self.old }
         ensures next { IfOk result (λ next. GoesOut next self.new) }
-        ensures falls { IfOk result (λ next. (before : ℕ) → MoveFalls step self.old before → Falls next self.new before) }
+        ensures falls { IfOk result (λ next.
+            (before : ℕ) → MoveFalls step self.old before → Falls next self.new before) }
     {
         match step {
             Move::Stops(next) => Ok(next),
@@ -528,13 +601,24 @@ impl Interp {
     ) -> Result<Next, NoMemory>
         requires at { SettlingAt stop self.old.settling }
         requires script { IsScriptTask self.old.task }
-        ensures gives { let names = names_of natives.now in IfOk result (λ next. (inside : ℕ) (further : List Answer) → gives names next (inside + taken names steps.new steps.old self.new self.old) self.new further ≡ goes_to names stop inside self.old further) }
+        ensures gives { let names = names_of natives.now in
+            IfOk result (λ next.
+            (inside : ℕ) (further : List Answer)
+            → gives names next (inside + taken names steps.new steps.old self.new self.old) self.new
+            further
+            ≡ goes_to names stop inside self.old further) }
         ensures counts { Counts (names_of natives.now) steps.new steps.old self.new self.old }
-        ensures most { let names = names_of natives.now in OnErr result ((inside : ℕ) → IsWithin (inside + interp_written names self.old) steps.old steps.new self.new (goes_to names stop inside self.old [])) }
+        ensures most { let names = names_of natives.now in
+            OnErr result
+            ((inside : ℕ)
+            → IsWithin (inside + interp_written names self.old) steps.old steps.new self.new
+            (goes_to names stop inside self.old [])) }
         ensures same { IsSameRun self.new self.old }
         ensures holds { Holds self.new self.old }
         ensures next { IfOk result (λ next. GoesOut next self.new) }
-        ensures falls { IfOk result (λ next. (before : ℕ) → StopFalls stop self.old.task self.old.settling before → Falls next self.new before) }
+        ensures falls { IfOk result (λ next.
+            (before : ℕ) → StopFalls stop self.old.task self.old.settling before
+            → Falls next self.new before) }
     {
         'scripts: loop {
             match self.stopped(natives, stop, steps)? {
@@ -553,14 +637,26 @@ impl Interp {
     ) -> Result<Move, NoMemory>
         requires at { SettlingAt stop self.old.settling }
         requires script { IsScriptTask self.old.task }
-        ensures gives { let names = names_of natives.now in IfOk result (λ step. (inside : ℕ) (further : List Answer) → move_gives names step (inside + taken names steps.new steps.old self.new self.old) self.new further ≡ goes_to names stop inside self.old further) }
+        ensures gives { let names = names_of natives.now in
+            IfOk result (λ step.
+            (inside : ℕ) (further : List Answer)
+            → move_gives names step (inside + taken names steps.new steps.old self.new self.old)
+            self.new further
+            ≡ goes_to names stop inside self.old further) }
         ensures counts { Counts (names_of natives.now) steps.new steps.old self.new self.old }
-        ensures most { let names = names_of natives.now in OnErr result ((inside : ℕ) → IsWithin (inside + interp_written names self.old) steps.old steps.new self.new (goes_to names stop inside self.old [])) }
-        ensures lowers { IfOk result (λ step. Lowers step self.new (scripts_left self.old.visit self.old.cleanups self.old.task)) }
+        ensures most { let names = names_of natives.now in
+            OnErr result
+            ((inside : ℕ)
+            → IsWithin (inside + interp_written names self.old) steps.old steps.new self.new
+            (goes_to names stop inside self.old [])) }
+        ensures lowers { IfOk result (λ step.
+            Lowers step self.new (scripts_left self.old.visit self.old.cleanups self.old.task)) }
         ensures same { IsSameRun self.new self.old }
         ensures holds { Holds self.new self.old }
         ensures next { IfOk result (λ step. MoveStandsAt step self.new) }
-        ensures falls { IfOk result (λ step. (before : ℕ) → StopFalls stop self.old.task self.old.settling before → MoveFalls step self.new before) }
+        ensures falls { IfOk result (λ step.
+            (before : ℕ) → StopFalls stop self.old.task self.old.settling before
+            → MoveFalls step self.new before) }
     {
         made_grows::<RunHost>();
         match stop {
@@ -584,14 +680,26 @@ impl Interp {
         steps: &mut Steps<L>,
     ) -> Result<Move, NoMemory>
         requires { SettlingAt (Stop.Ended code value) self.old.settling }
-        ensures gives { let names = names_of natives.now in IfOk result (λ step. (inside : ℕ) (further : List Answer) → move_gives names step (inside + taken names steps.new steps.old self.new self.old) self.new further ≡ goes_to names (Stop.Ended code value) inside self.old further) }
+        ensures gives { let names = names_of natives.now in
+            IfOk result (λ step.
+            (inside : ℕ) (further : List Answer)
+            → move_gives names step (inside + taken names steps.new steps.old self.new self.old)
+            self.new further
+            ≡ goes_to names (Stop.Ended code value) inside self.old further) }
         ensures counts { Counts (names_of natives.now) steps.new steps.old self.new self.old }
-        ensures most { let names = names_of natives.now in OnErr result ((inside : ℕ) → IsWithin (inside + interp_written names self.old) steps.old steps.new self.new (goes_to names (Stop.Ended code value) inside self.old [])) }
-        ensures lowers { IfOk result (λ step. Lowers step self.new (scripts_left self.old.visit self.old.cleanups self.old.task)) }
+        ensures most { let names = names_of natives.now in
+            OnErr result
+            ((inside : ℕ)
+            → IsWithin (inside + interp_written names self.old) steps.old steps.new self.new
+            (goes_to names (Stop.Ended code value) inside self.old [])) }
+        ensures lowers { IfOk result (λ step.
+            Lowers step self.new (scripts_left self.old.visit self.old.cleanups self.old.task)) }
         ensures same { IsSameRun self.new self.old }
         ensures holds { Holds self.new self.old }
         ensures next { IfOk result (λ step. MoveStandsAt step self.new) }
-        ensures falls { IfOk result (λ step. (before : ℕ) → EndFalls self.old.task self.old.settling before → MoveFalls step self.new before) }
+        ensures falls { IfOk result (λ step.
+            (before : ℕ) → EndFalls self.old.task self.old.settling before
+            → MoveFalls step self.new before) }
     {
         match self.task {
             Task::Preauth { next } => self.end_preauth(natives, next, code, value, steps),
@@ -635,8 +743,13 @@ impl Interp {
     fn cut(&mut self, ending: Ending) -> Result<Move, NoMemory>
         requires cut { ¬ (ending ≡ Ending.Answered) }
         requires inner { self.old.settling.inner ≡ None }
-        ensures gives { (names : List (List ℕ)) → IfOk result (λ step. (inside : ℕ) (further : List Answer) → move_gives names step inside self.new further ≡ goes_to names (cut_stop ending) inside self.old further) }
-        ensures stops { IfOk result (λ step. (before : ℕ) → Lowers step self.new before × MoveFalls step self.new before) }
+        ensures gives { (names : Names)
+            → IfOk result (λ step.
+            (inside : ℕ) (further : List Answer)
+            → move_gives names step inside self.new further
+            ≡ goes_to names (cut_stop ending) inside self.old further) }
+        ensures stops { IfOk result (λ step.
+            (before : ℕ) → Lowers step self.new before × MoveFalls step self.new before) }
         ensures next { IfOk result (λ step. MoveStandsAt step self.new) }
         ensures rest { (task : Tasks) × (self.new ≡ record self.old { task = task }) }
     {

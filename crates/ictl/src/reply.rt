@@ -68,7 +68,8 @@ pub fn procedure_reply(
     code: u8,
     given: Option<&Response>,
 ) -> Result<Response, NoMemory>
-    ensures { IfOk result (λ response. response ≡ procedure_reply code (option_copied given.entry)) }
+    ensures { IfOk result (λ response.
+        response ≡ procedure_reply code (option_copied given.entry)) }
 {
     if is_good(code) {
         given_or_failed(alloc, given)

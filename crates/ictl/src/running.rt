@@ -79,12 +79,20 @@ impl Running {
     ) -> Result<Stop, NoMemory>
         requires least { 1 ≤ depth }
         requires most { depth ≤ 200 }
-        ensures gives { IfOk result (λ stop. (given : Given) → eval (names_of natives.now) host_table depth work (at_global (state_of self.old)) budget given ≡ comes_to (names_of natives.now) stop self.new given) }
+        ensures gives { IfOk result (λ stop.
+            (given : Given)
+            → eval (names_of natives.now) host_table depth work (at_global (state_of self.old))
+            budget given
+            ≡ comes_to (names_of natives.now) stop self.new given) }
         ensures lasts { Lasts self.new.engine self.old.engine }
-        ensures counts { steps.new + Writes self.old.engine.made ≡ steps.old + Writes self.new.engine.made }
-        ensures most { RunWrites (Writes self.new.engine.made) (eval (names_of natives.now) host_table depth work (at_global (state_of self.old)) budget) }
+        ensures counts { steps.new + Writes self.old.engine.made
+            ≡ steps.old + Writes self.new.engine.made }
+        ensures most { RunWrites (Writes self.new.engine.made)
+            (eval (names_of natives.now) host_table depth work (at_global (state_of self.old))
+            budget) }
         ensures asks { IfOk result (λ stop. StopAsks stop self.new) }
-        ensures suffices { IfOk result (λ stop. (questions : ℕ) → suffices budget questions → Suffices stop self.new questions) }
+        ensures suffices { IfOk result (λ stop.
+            (questions : ℕ) → suffices budget questions → Suffices stop self.new questions) }
     {
         self.engine.abandon();
         let outcome = self.engine.start(natives, work, budget, depth, steps);
@@ -100,12 +108,19 @@ impl Running {
         steps: &mut Steps<L>,
     ) -> Result<Stop, NoMemory>
         requires { IsSome self.old.engine.question }
-        ensures gives { IfOk result (λ stop. (question : Question) (given : Given) → comes_to (names_of natives.now) stop self.new given ≡ comes_to (names_of natives.now) (Stop.Asks question) self.old ((answer, 0) ∷ given)) }
+        ensures gives { IfOk result (λ stop.
+            (question : Question) (given : Given)
+            → comes_to (names_of natives.now) stop self.new given
+            ≡ comes_to (names_of natives.now) (Stop.Asks question) self.old ((answer, 0) ∷ given)) }
         ensures lasts { Lasts self.new.engine self.old.engine }
-        ensures counts { steps.new + Writes self.old.engine.made ≡ steps.old + Writes self.new.engine.made }
-        ensures most { (question : Question) → RunWrites (Writes self.new.engine.made) (λ given. comes_to (names_of natives.now) (Stop.Asks question) self.old ((answer, 0) ∷ given)) }
+        ensures counts { steps.new + Writes self.old.engine.made
+            ≡ steps.old + Writes self.new.engine.made }
+        ensures most { (question : Question)
+            → RunWrites (Writes self.new.engine.made) (λ given.
+            comes_to (names_of natives.now) (Stop.Asks question) self.old ((answer, 0) ∷ given)) }
         ensures asks { IfOk result (λ stop. StopAsks stop self.new) }
-        ensures suffices { IfOk result (λ stop. (questions : ℕ) → askable self.old ≤ questions → Suffices stop self.new questions) }
+        ensures suffices { IfOk result (λ stop.
+            (questions : ℕ) → askable self.old ≤ questions → Suffices stop self.new questions) }
     {
         let outcome = self.engine.resume(natives, answer, steps);
         let stop = stop_of(outcome)?;
@@ -123,12 +138,19 @@ impl Running {
     ) -> Result<Stop, NoMemory>
         requires left { used ≤ self.old.engine.budget }
         requires open { IsOpenTo service.Inner self.old.engine.question }
-        ensures gives { IfOk result (λ stop. (question : Question) (given : Given) → comes_to (names_of natives.now) stop self.new given ≡ comes_to (names_of natives.now) (Stop.Asks question) self.old ((answer, used) ∷ given)) }
+        ensures gives { IfOk result (λ stop.
+            (question : Question) (given : Given)
+            → comes_to (names_of natives.now) stop self.new given
+            ≡ comes_to (names_of natives.now) (Stop.Asks question) self.old ((answer, used) ∷ given)) }
         ensures lasts { Lasts self.new.engine self.old.engine }
-        ensures counts { steps.new + Writes self.old.engine.made ≡ steps.old + Writes self.new.engine.made }
-        ensures most { (question : Question) → RunWrites (Writes self.new.engine.made) (λ given. comes_to (names_of natives.now) (Stop.Asks question) self.old ((answer, used) ∷ given)) }
+        ensures counts { steps.new + Writes self.old.engine.made
+            ≡ steps.old + Writes self.new.engine.made }
+        ensures most { (question : Question)
+            → RunWrites (Writes self.new.engine.made) (λ given.
+            comes_to (names_of natives.now) (Stop.Asks question) self.old ((answer, used) ∷ given)) }
         ensures asks { IfOk result (λ stop. StopAsks stop self.new) }
-        ensures suffices { IfOk result (λ stop. (questions : ℕ) → askable self.old ≤ questions → Suffices stop self.new questions) }
+        ensures suffices { IfOk result (λ stop.
+            (questions : ℕ) → askable self.old ≤ questions → Suffices stop self.new questions) }
     {
         self.engine.charge(used);
         let outcome = self.engine.resume(natives, answer, steps);

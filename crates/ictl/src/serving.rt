@@ -1,6 +1,7 @@
 //! The run of a request up to its response.
 
 ghost use Rattle.std.specs.Prelude.{◌≡◌, ◌≤◌, ◌<◌, ◌+◌, ◌-◌, ◌*◌, ◌^◌, ◌∷◌, [], ℕ, List, IfOk, OnOk, OnErr, drop, length, MatchOption};
+ghost use Rattle.txt_core.specs.Names.{Bytes};
 ghost use Rattle.natives.specs.Names.{names_of};
 ghost use Rattle.outside.specs.declared.question.Answer.{Answer};
 ghost use Rattle.tcl_eval.specs.Engine.{at_global};
@@ -44,8 +45,11 @@ pub(crate) fn words_at(
     list: &WordsList,
     at: usize,
 ) -> Result<Option<Words>, NoMemory>
-    ensures here { IfOk result (λ found. MatchOption found (drop at list.now ≡ []) (λ words. drop at list.now ≡ words ∷ drop (at + 1) list.now)) }
-    ensures small { IfOk result (λ found. MatchOption found (length list.now ≤ at) (λ _. (at < length list.now) × (at < 2 ^ 63))) }
+    ensures here { IfOk result (λ found.
+        MatchOption found (drop at list.now ≡ []) (λ words.
+        drop at list.now ≡ words ∷ drop (at + 1) list.now)) }
+    ensures small { IfOk result (λ found.
+        MatchOption found (length list.now ≤ at) (λ _. (at < length list.now) × (at < 2 ^ 63))) }
 {
     match list.as_slice().get(at) {
         None => Ok(None),
@@ -87,7 +91,7 @@ fn add_page_words(alloc: Global, words: &mut Words, path: &Text) -> Result<(), N
 
 /// The words by which the first page that is asked for is entered, and the budget that is left for it.
 fn page_words(alloc: Global, task: &Task) -> Result<(Words, u64), NoMemory>
-    requires { (path : List ℕ) × (budget : ℕ) × (task.now ≡ Task.PageAsked path budget) }
+    requires { (path : Bytes) × (budget : ℕ) × (task.now ≡ Task.PageAsked path budget) }
     ensures words { IfOk result (λ x. x.0 ≡ page_words (asked_path task.now)) }
     ensures budget { IfOk result (λ x. task.now ≡ Task.PageAsked (asked_path task.now) x.1) }
 {
@@ -104,7 +108,8 @@ fn page_words(alloc: Global, task: &Task) -> Result<(Words, u64), NoMemory>
 /// What runs where a reply enters a page, or none where it doesn't. Its only error is that the reply was
 /// want of memory.
 fn entered(reply: HostReply) -> Result<Option<Work>, NoMemory>
-    ensures { IfOk result (λ found. MatchOption found (EntersNone reply) (λ work. EntersBy work reply)) }
+    ensures { IfOk result (λ found.
+        MatchOption found (EntersNone reply) (λ work. EntersBy work reply)) }
 {
     match reply {
         HostReply::Enter(pieces) => Ok(Some(Work::Page(pieces))),
@@ -125,14 +130,33 @@ impl Interp {
     ) -> Result<Move, NoMemory>
         requires ready { IsReady budget self.old.settling }
         requires script { IsScriptTask task }
-        ensures gives { let names = names_of natives.now in IfOk result (λ step. (inside : ℕ) (further : List Answer) → move_gives names step (inside + taken names steps.new steps.old self.new self.old) self.new further ≡ task_end names self.old task (runs names self.old.blueprint.value self.old.moment work (at_global (interp_state self.old)) (account_of budget self.old.settling.questions inside) further)) }
+        ensures gives { let names = names_of natives.now in
+            IfOk result (λ step.
+            (inside : ℕ) (further : List Answer)
+            → move_gives names step (inside + taken names steps.new steps.old self.new self.old)
+            self.new further
+            ≡ task_end names self.old task
+            (runs names self.old.blueprint.value self.old.moment work
+            (at_global (interp_state self.old))
+            (account_of budget self.old.settling.questions inside) further)) }
         ensures counts { Counts (names_of natives.now) steps.new steps.old self.new self.old }
-        ensures most { let names = names_of natives.now in OnErr result ((inside : ℕ) → IsWithin (inside + interp_written names self.old) steps.old steps.new self.new (task_end names self.old task (runs names self.old.blueprint.value self.old.moment work (at_global (interp_state self.old)) (account_of budget self.old.settling.questions inside) []))) }
-        ensures lowers { IfOk result (λ step. (before : ℕ) → scripts_left self.old.visit self.old.cleanups task < before → Lowers step self.new before) }
+        ensures most { let names = names_of natives.now in
+            OnErr result
+            ((inside : ℕ)
+            → IsWithin (inside + interp_written names self.old) steps.old steps.new self.new
+            (task_end names self.old task
+            (runs names self.old.blueprint.value self.old.moment work
+            (at_global (interp_state self.old))
+            (account_of budget self.old.settling.questions inside) []))) }
+        ensures lowers { IfOk result (λ step.
+            (before : ℕ) → scripts_left self.old.visit self.old.cleanups task < before
+            → Lowers step self.new before) }
         ensures same { IsSameRun self.new self.old }
         ensures holds { Holds self.new self.old }
         ensures next { IfOk result (λ step. MoveStandsAt step self.new) }
-        ensures falls { IfOk result (λ step. (before : ℕ) → per_question * self.old.settling.questions ≤ before → EndFalls task self.old.settling before → MoveFalls step self.new before) }
+        ensures falls { IfOk result (λ step.
+            (before : ℕ) → per_question * self.old.settling.questions ≤ before
+            → EndFalls task self.old.settling before → MoveFalls step self.new before) }
     {
         made_grows::<RunHost>();
         let stop = self
@@ -154,14 +178,31 @@ impl Interp {
     ) -> Result<Move, NoMemory>
         requires ready { IsReady budget self.old.settling }
         requires script { IsScriptTask task }
-        ensures gives { let names = names_of natives.now in IfOk result (λ step. (inside : ℕ) (further : List Answer) → move_gives names step (inside + taken names steps.new steps.old self.new self.old) self.new further ≡ task_end names self.old task (calls names self.old.blueprint.value self.old.moment words (interp_state self.old) (account_of budget self.old.settling.questions inside) further)) }
+        ensures gives { let names = names_of natives.now in
+            IfOk result (λ step.
+            (inside : ℕ) (further : List Answer)
+            → move_gives names step (inside + taken names steps.new steps.old self.new self.old)
+            self.new further
+            ≡ task_end names self.old task
+            (calls names self.old.blueprint.value self.old.moment words (interp_state self.old)
+            (account_of budget self.old.settling.questions inside) further)) }
         ensures counts { Counts (names_of natives.now) steps.new steps.old self.new self.old }
-        ensures most { let names = names_of natives.now in OnErr result ((inside : ℕ) → IsWithin (inside + interp_written names self.old) steps.old steps.new self.new (task_end names self.old task (calls names self.old.blueprint.value self.old.moment words (interp_state self.old) (account_of budget self.old.settling.questions inside) []))) }
-        ensures lowers { IfOk result (λ step. (before : ℕ) → scripts_left self.old.visit self.old.cleanups task < before → Lowers step self.new before) }
+        ensures most { let names = names_of natives.now in
+            OnErr result
+            ((inside : ℕ)
+            → IsWithin (inside + interp_written names self.old) steps.old steps.new self.new
+            (task_end names self.old task
+            (calls names self.old.blueprint.value self.old.moment words (interp_state self.old)
+            (account_of budget self.old.settling.questions inside) []))) }
+        ensures lowers { IfOk result (λ step.
+            (before : ℕ) → scripts_left self.old.visit self.old.cleanups task < before
+            → Lowers step self.new before) }
         ensures same { IsSameRun self.new self.old }
         ensures holds { Holds self.new self.old }
         ensures next { IfOk result (λ step. MoveStandsAt step self.new) }
-        ensures falls { IfOk result (λ step. (before : ℕ) → per_question * self.old.settling.questions + 2 < before → MoveFalls step self.new before) }
+        ensures falls { IfOk result (λ step.
+            (before : ℕ) → per_question * self.old.settling.questions + 2 < before
+            → MoveFalls step self.new before) }
     {
         self.settling.run.set_out();
         self.run(natives, task, Work::Call(words), budget, steps)
@@ -176,14 +217,33 @@ impl Interp {
         steps: &mut Steps<L>,
     ) -> Result<Move, NoMemory>
         requires { IsReady budget self.old.settling }
-        ensures gives { let names = names_of natives.now in IfOk result (λ step. (inside : ℕ) (further : List Answer) → move_gives names step (inside + taken names steps.new steps.old self.new self.old) self.new further ≡ filters_from names self.old.blueprint.value self.old.moment (drop next self.old.visit.preauth) (unauthorised names self.old.blueprint.value self.old.moment self.old.visit) (interp_state self.old) (account_of budget self.old.settling.questions inside) further) }
+        ensures gives { let names = names_of natives.now in
+            IfOk result (λ step.
+            (inside : ℕ) (further : List Answer)
+            → move_gives names step (inside + taken names steps.new steps.old self.new self.old)
+            self.new further
+            ≡ filters_from names self.old.blueprint.value self.old.moment
+            (drop next self.old.visit.preauth)
+            (unauthorised names self.old.blueprint.value self.old.moment self.old.visit)
+            (interp_state self.old) (account_of budget self.old.settling.questions inside) further) }
         ensures counts { Counts (names_of natives.now) steps.new steps.old self.new self.old }
-        ensures most { let names = names_of natives.now in OnErr result ((inside : ℕ) → IsWithin (inside + interp_written names self.old) steps.old steps.new self.new (filters_from names self.old.blueprint.value self.old.moment (drop next self.old.visit.preauth) (unauthorised names self.old.blueprint.value self.old.moment self.old.visit) (interp_state self.old) (account_of budget self.old.settling.questions inside) [])) }
-        ensures lowers { IfOk result (λ step. Lowers step self.new ((length self.old.visit.preauth - next) + length self.old.visit.postauth + 3)) }
+        ensures most { let names = names_of natives.now in
+            OnErr result
+            ((inside : ℕ)
+            → IsWithin (inside + interp_written names self.old) steps.old steps.new self.new
+            (filters_from names self.old.blueprint.value self.old.moment
+            (drop next self.old.visit.preauth)
+            (unauthorised names self.old.blueprint.value self.old.moment self.old.visit)
+            (interp_state self.old) (account_of budget self.old.settling.questions inside) [])) }
+        ensures lowers { IfOk result (λ step.
+            Lowers step self.new
+            ((length self.old.visit.preauth - next) + length self.old.visit.postauth + 3)) }
         ensures same { IsSameRun self.new self.old }
         ensures holds { Holds self.new self.old }
         ensures next { IfOk result (λ step. MoveStandsAt step self.new) }
-        ensures falls { IfOk result (λ step. (before : ℕ) → per_question * self.old.settling.questions + 2 < before → MoveFalls step self.new before) }
+        ensures falls { IfOk result (λ step.
+            (before : ℕ) → per_question * self.old.settling.questions + 2 < before
+            → MoveFalls step self.new before) }
     {
         made_grows::<RunHost>();
         let found = words_at(self.alloc, &self.visit.preauth, next)?;
@@ -209,14 +269,40 @@ impl Interp {
         steps: &mut Steps<L>,
     ) -> Result<Move, NoMemory>
         requires { IsReady self.old.settling.run.engine.budget self.old.settling }
-        ensures gives { let names = names_of natives.now in IfOk result (λ step. (inside : ℕ) (further : List Answer) → move_gives names step (inside + taken names steps.new steps.old self.new self.old) self.new further ≡ filter_end (filters_from names self.old.blueprint.value self.old.moment (drop next self.old.visit.preauth) (unauthorised names self.old.blueprint.value self.old.moment self.old.visit)) (unauthorised names self.old.blueprint.value self.old.moment self.old.visit) (verdict code value) (interp_state self.old) (account_of self.old.settling.run.engine.budget self.old.settling.questions inside) further) }
+        ensures gives { let names = names_of natives.now in
+            IfOk result (λ step.
+            (inside : ℕ) (further : List Answer)
+            → move_gives names step (inside + taken names steps.new steps.old self.new self.old)
+            self.new further
+            ≡ filter_end
+            (filters_from names self.old.blueprint.value self.old.moment
+            (drop next self.old.visit.preauth)
+            (unauthorised names self.old.blueprint.value self.old.moment self.old.visit))
+            (unauthorised names self.old.blueprint.value self.old.moment self.old.visit)
+            (verdict code value) (interp_state self.old)
+            (account_of self.old.settling.run.engine.budget self.old.settling.questions inside)
+            further) }
         ensures counts { Counts (names_of natives.now) steps.new steps.old self.new self.old }
-        ensures most { let names = names_of natives.now in OnErr result ((inside : ℕ) → IsWithin (inside + interp_written names self.old) steps.old steps.new self.new (filter_end (filters_from names self.old.blueprint.value self.old.moment (drop next self.old.visit.preauth) (unauthorised names self.old.blueprint.value self.old.moment self.old.visit)) (unauthorised names self.old.blueprint.value self.old.moment self.old.visit) (verdict code value) (interp_state self.old) (account_of self.old.settling.run.engine.budget self.old.settling.questions inside) [])) }
-        ensures lowers { IfOk result (λ step. Lowers step self.new ((length self.old.visit.preauth - next) + length self.old.visit.postauth + 3)) }
+        ensures most { let names = names_of natives.now in
+            OnErr result
+            ((inside : ℕ)
+            → IsWithin (inside + interp_written names self.old) steps.old steps.new self.new
+            (filter_end
+            (filters_from names self.old.blueprint.value self.old.moment
+            (drop next self.old.visit.preauth)
+            (unauthorised names self.old.blueprint.value self.old.moment self.old.visit))
+            (unauthorised names self.old.blueprint.value self.old.moment self.old.visit)
+            (verdict code value) (interp_state self.old)
+            (account_of self.old.settling.run.engine.budget self.old.settling.questions inside) [])) }
+        ensures lowers { IfOk result (λ step.
+            Lowers step self.new
+            ((length self.old.visit.preauth - next) + length self.old.visit.postauth + 3)) }
         ensures same { IsSameRun self.new self.old }
         ensures holds { Holds self.new self.old }
         ensures next { IfOk result (λ step. MoveStandsAt step self.new) }
-        ensures falls { IfOk result (λ step. (before : ℕ) → per_question * self.old.settling.questions + 2 < before → MoveFalls step self.new before) }
+        ensures falls { IfOk result (λ step.
+            (before : ℕ) → per_question * self.old.settling.questions + 2 < before
+            → MoveFalls step self.new before) }
     {
         let budget = self.settling.run.engine.left();
         let said = verdict_of(code, &value);
@@ -236,14 +322,28 @@ impl Interp {
         steps: &mut Steps<L>,
     ) -> Result<Move, NoMemory>
         requires { IsReady budget self.old.settling }
-        ensures gives { let names = names_of natives.now in IfOk result (λ step. (inside : ℕ) (further : List Answer) → move_gives names step (inside + taken names steps.new steps.old self.new self.old) self.new further ≡ unauthorised names self.old.blueprint.value self.old.moment self.old.visit (interp_state self.old) (account_of budget self.old.settling.questions inside) further) }
+        ensures gives { let names = names_of natives.now in
+            IfOk result (λ step.
+            (inside : ℕ) (further : List Answer)
+            → move_gives names step (inside + taken names steps.new steps.old self.new self.old)
+            self.new further
+            ≡ unauthorised names self.old.blueprint.value self.old.moment self.old.visit
+            (interp_state self.old) (account_of budget self.old.settling.questions inside) further) }
         ensures counts { Counts (names_of natives.now) steps.new steps.old self.new self.old }
-        ensures most { let names = names_of natives.now in OnErr result ((inside : ℕ) → IsWithin (inside + interp_written names self.old) steps.old steps.new self.new (unauthorised names self.old.blueprint.value self.old.moment self.old.visit (interp_state self.old) (account_of budget self.old.settling.questions inside) [])) }
-        ensures lowers { IfOk result (λ step. Lowers step self.new (length self.old.visit.postauth + 3)) }
+        ensures most { let names = names_of natives.now in
+            OnErr result
+            ((inside : ℕ)
+            → IsWithin (inside + interp_written names self.old) steps.old steps.new self.new
+            (unauthorised names self.old.blueprint.value self.old.moment self.old.visit
+            (interp_state self.old) (account_of budget self.old.settling.questions inside) [])) }
+        ensures lowers { IfOk result (λ step.
+            Lowers step self.new (length self.old.visit.postauth + 3)) }
         ensures same { IsSameRun self.new self.old }
         ensures holds { Holds self.new self.old }
         ensures next { IfOk result (λ step. MoveStandsAt step self.new) }
-        ensures falls { IfOk result (λ step. (before : ℕ) → per_question * self.old.settling.questions + 2 < before → MoveFalls step self.new before) }
+        ensures falls { IfOk result (λ step.
+            (before : ℕ) → per_question * self.old.settling.questions + 2 < before
+            → MoveFalls step self.new before) }
     {
         made_grows::<RunHost>();
         let call = copy_call(self.alloc, &self.visit.authorisation)?;
@@ -262,14 +362,31 @@ impl Interp {
         steps: &mut Steps<L>,
     ) -> Result<Move, NoMemory>
         requires { IsReady self.old.settling.run.engine.budget self.old.settling }
-        ensures gives { let names = names_of natives.now in IfOk result (λ step. (inside : ℕ) (further : List Answer) → move_gives names step (inside + taken names steps.new steps.old self.new self.old) self.new further ≡ access_end (authorised names self.old.blueprint.value self.old.moment self.old.visit) (access code value) (interp_state self.old) (account_of self.old.settling.run.engine.budget self.old.settling.questions inside) further) }
+        ensures gives { let names = names_of natives.now in
+            IfOk result (λ step.
+            (inside : ℕ) (further : List Answer)
+            → move_gives names step (inside + taken names steps.new steps.old self.new self.old)
+            self.new further
+            ≡ access_end (authorised names self.old.blueprint.value self.old.moment self.old.visit)
+            (access code value) (interp_state self.old)
+            (account_of self.old.settling.run.engine.budget self.old.settling.questions inside)
+            further) }
         ensures counts { Counts (names_of natives.now) steps.new steps.old self.new self.old }
-        ensures most { let names = names_of natives.now in OnErr result ((inside : ℕ) → IsWithin (inside + interp_written names self.old) steps.old steps.new self.new (access_end (authorised names self.old.blueprint.value self.old.moment self.old.visit) (access code value) (interp_state self.old) (account_of self.old.settling.run.engine.budget self.old.settling.questions inside) [])) }
-        ensures lowers { IfOk result (λ step. Lowers step self.new (length self.old.visit.postauth + 2)) }
+        ensures most { let names = names_of natives.now in
+            OnErr result
+            ((inside : ℕ)
+            → IsWithin (inside + interp_written names self.old) steps.old steps.new self.new
+            (access_end (authorised names self.old.blueprint.value self.old.moment self.old.visit)
+            (access code value) (interp_state self.old)
+            (account_of self.old.settling.run.engine.budget self.old.settling.questions inside) [])) }
+        ensures lowers { IfOk result (λ step.
+            Lowers step self.new (length self.old.visit.postauth + 2)) }
         ensures same { IsSameRun self.new self.old }
         ensures holds { Holds self.new self.old }
         ensures next { IfOk result (λ step. MoveStandsAt step self.new) }
-        ensures falls { IfOk result (λ step. (before : ℕ) → per_question * self.old.settling.questions + 2 < before → MoveFalls step self.new before) }
+        ensures falls { IfOk result (λ step.
+            (before : ℕ) → per_question * self.old.settling.questions + 2 < before
+            → MoveFalls step self.new before) }
     {
         let budget = self.settling.run.engine.left();
         let said = access_of(code, &value);
@@ -296,14 +413,32 @@ impl Interp {
         steps: &mut Steps<L>,
     ) -> Result<Move, NoMemory>
         requires { IsReady budget self.old.settling }
-        ensures gives { let names = names_of natives.now in IfOk result (λ step. (inside : ℕ) (further : List Answer) → move_gives names step (inside + taken names steps.new steps.old self.new self.old) self.new further ≡ filters_from names self.old.blueprint.value self.old.moment (drop next self.old.visit.postauth) (serve names self.old.blueprint.value self.old.moment self.old.visit.serving) (interp_state self.old) (account_of budget self.old.settling.questions inside) further) }
+        ensures gives { let names = names_of natives.now in
+            IfOk result (λ step.
+            (inside : ℕ) (further : List Answer)
+            → move_gives names step (inside + taken names steps.new steps.old self.new self.old)
+            self.new further
+            ≡ filters_from names self.old.blueprint.value self.old.moment
+            (drop next self.old.visit.postauth)
+            (serve names self.old.blueprint.value self.old.moment self.old.visit.serving)
+            (interp_state self.old) (account_of budget self.old.settling.questions inside) further) }
         ensures counts { Counts (names_of natives.now) steps.new steps.old self.new self.old }
-        ensures most { let names = names_of natives.now in OnErr result ((inside : ℕ) → IsWithin (inside + interp_written names self.old) steps.old steps.new self.new (filters_from names self.old.blueprint.value self.old.moment (drop next self.old.visit.postauth) (serve names self.old.blueprint.value self.old.moment self.old.visit.serving) (interp_state self.old) (account_of budget self.old.settling.questions inside) [])) }
-        ensures lowers { IfOk result (λ step. Lowers step self.new ((length self.old.visit.postauth - next) + 1)) }
+        ensures most { let names = names_of natives.now in
+            OnErr result
+            ((inside : ℕ)
+            → IsWithin (inside + interp_written names self.old) steps.old steps.new self.new
+            (filters_from names self.old.blueprint.value self.old.moment
+            (drop next self.old.visit.postauth)
+            (serve names self.old.blueprint.value self.old.moment self.old.visit.serving)
+            (interp_state self.old) (account_of budget self.old.settling.questions inside) [])) }
+        ensures lowers { IfOk result (λ step.
+            Lowers step self.new ((length self.old.visit.postauth - next) + 1)) }
         ensures same { IsSameRun self.new self.old }
         ensures holds { Holds self.new self.old }
         ensures next { IfOk result (λ step. MoveStandsAt step self.new) }
-        ensures falls { IfOk result (λ step. (before : ℕ) → per_question * self.old.settling.questions + 2 < before → MoveFalls step self.new before) }
+        ensures falls { IfOk result (λ step.
+            (before : ℕ) → per_question * self.old.settling.questions + 2 < before
+            → MoveFalls step self.new before) }
     {
         made_grows::<RunHost>();
         let found = words_at(self.alloc, &self.visit.postauth, next)?;
@@ -329,14 +464,39 @@ impl Interp {
         steps: &mut Steps<L>,
     ) -> Result<Move, NoMemory>
         requires { IsReady self.old.settling.run.engine.budget self.old.settling }
-        ensures gives { let names = names_of natives.now in IfOk result (λ step. (inside : ℕ) (further : List Answer) → move_gives names step (inside + taken names steps.new steps.old self.new self.old) self.new further ≡ filter_end (filters_from names self.old.blueprint.value self.old.moment (drop next self.old.visit.postauth) (serve names self.old.blueprint.value self.old.moment self.old.visit.serving)) (serve names self.old.blueprint.value self.old.moment self.old.visit.serving) (verdict code value) (interp_state self.old) (account_of self.old.settling.run.engine.budget self.old.settling.questions inside) further) }
+        ensures gives { let names = names_of natives.now in
+            IfOk result (λ step.
+            (inside : ℕ) (further : List Answer)
+            → move_gives names step (inside + taken names steps.new steps.old self.new self.old)
+            self.new further
+            ≡ filter_end
+            (filters_from names self.old.blueprint.value self.old.moment
+            (drop next self.old.visit.postauth)
+            (serve names self.old.blueprint.value self.old.moment self.old.visit.serving))
+            (serve names self.old.blueprint.value self.old.moment self.old.visit.serving)
+            (verdict code value) (interp_state self.old)
+            (account_of self.old.settling.run.engine.budget self.old.settling.questions inside)
+            further) }
         ensures counts { Counts (names_of natives.now) steps.new steps.old self.new self.old }
-        ensures most { let names = names_of natives.now in OnErr result ((inside : ℕ) → IsWithin (inside + interp_written names self.old) steps.old steps.new self.new (filter_end (filters_from names self.old.blueprint.value self.old.moment (drop next self.old.visit.postauth) (serve names self.old.blueprint.value self.old.moment self.old.visit.serving)) (serve names self.old.blueprint.value self.old.moment self.old.visit.serving) (verdict code value) (interp_state self.old) (account_of self.old.settling.run.engine.budget self.old.settling.questions inside) [])) }
-        ensures lowers { IfOk result (λ step. Lowers step self.new ((length self.old.visit.postauth - next) + 1)) }
+        ensures most { let names = names_of natives.now in
+            OnErr result
+            ((inside : ℕ)
+            → IsWithin (inside + interp_written names self.old) steps.old steps.new self.new
+            (filter_end
+            (filters_from names self.old.blueprint.value self.old.moment
+            (drop next self.old.visit.postauth)
+            (serve names self.old.blueprint.value self.old.moment self.old.visit.serving))
+            (serve names self.old.blueprint.value self.old.moment self.old.visit.serving)
+            (verdict code value) (interp_state self.old)
+            (account_of self.old.settling.run.engine.budget self.old.settling.questions inside) [])) }
+        ensures lowers { IfOk result (λ step.
+            Lowers step self.new ((length self.old.visit.postauth - next) + 1)) }
         ensures same { IsSameRun self.new self.old }
         ensures holds { Holds self.new self.old }
         ensures next { IfOk result (λ step. MoveStandsAt step self.new) }
-        ensures falls { IfOk result (λ step. (before : ℕ) → per_question * self.old.settling.questions + 2 < before → MoveFalls step self.new before) }
+        ensures falls { IfOk result (λ step.
+            (before : ℕ) → per_question * self.old.settling.questions + 2 < before
+            → MoveFalls step self.new before) }
     {
         let budget = self.settling.run.engine.left();
         let said = verdict_of(code, &value);
@@ -356,14 +516,27 @@ impl Interp {
         steps: &mut Steps<L>,
     ) -> Result<Move, NoMemory>
         requires { IsReady budget self.old.settling }
-        ensures gives { let names = names_of natives.now in IfOk result (λ step. (inside : ℕ) (further : List Answer) → move_gives names step (inside + taken names steps.new steps.old self.new self.old) self.new further ≡ serve names self.old.blueprint.value self.old.moment self.old.visit.serving (interp_state self.old) (account_of budget self.old.settling.questions inside) further) }
+        ensures gives { let names = names_of natives.now in
+            IfOk result (λ step.
+            (inside : ℕ) (further : List Answer)
+            → move_gives names step (inside + taken names steps.new steps.old self.new self.old)
+            self.new further
+            ≡ serve names self.old.blueprint.value self.old.moment self.old.visit.serving
+            (interp_state self.old) (account_of budget self.old.settling.questions inside) further) }
         ensures counts { Counts (names_of natives.now) steps.new steps.old self.new self.old }
-        ensures most { let names = names_of natives.now in OnErr result ((inside : ℕ) → IsWithin (inside + interp_written names self.old) steps.old steps.new self.new (serve names self.old.blueprint.value self.old.moment self.old.visit.serving (interp_state self.old) (account_of budget self.old.settling.questions inside) [])) }
+        ensures most { let names = names_of natives.now in
+            OnErr result
+            ((inside : ℕ)
+            → IsWithin (inside + interp_written names self.old) steps.old steps.new self.new
+            (serve names self.old.blueprint.value self.old.moment self.old.visit.serving
+            (interp_state self.old) (account_of budget self.old.settling.questions inside) [])) }
         ensures lowers { IfOk result (λ step. Lowers step self.new (1)) }
         ensures same { IsSameRun self.new self.old }
         ensures holds { Holds self.new self.old }
         ensures next { IfOk result (λ step. MoveStandsAt step self.new) }
-        ensures falls { IfOk result (λ step. (before : ℕ) → per_question * self.old.settling.questions + 2 < before → MoveFalls step self.new before) }
+        ensures falls { IfOk result (λ step.
+            (before : ℕ) → per_question * self.old.settling.questions + 2 < before
+            → MoveFalls step self.new before) }
     {
         made_grows::<RunHost>();
         let serving = copy_serving(self.alloc, &self.visit.serving)?;
@@ -386,15 +559,29 @@ impl Interp {
         answer: Answer,
         steps: &mut Steps<L>,
     ) -> Result<Move, NoMemory>
-        requires { (path : List ℕ) × (budget : ℕ) × (self.old.task ≡ Task.PageAsked path budget) × IsReady budget self.old.settling }
-        ensures gives { let names = names_of natives.now in IfOk result (λ step. (inside : ℕ) (further : List Answer) → move_gives names step (inside + taken names steps.new steps.old self.new self.old) self.new further ≡ asking_gives names (page_question (asked_path self.old.task)) self.old.task inside self.old (answer ∷ further)) }
+        requires { (path : Bytes) × (budget : ℕ) × (self.old.task ≡ Task.PageAsked path budget)
+            × IsReady budget self.old.settling }
+        ensures gives { let names = names_of natives.now in
+            IfOk result (λ step.
+            (inside : ℕ) (further : List Answer)
+            → move_gives names step (inside + taken names steps.new steps.old self.new self.old)
+            self.new further
+            ≡ asking_gives names (page_question (asked_path self.old.task)) self.old.task inside
+            self.old (answer ∷ further)) }
         ensures counts { Counts (names_of natives.now) steps.new steps.old self.new self.old }
-        ensures most { let names = names_of natives.now in OnErr result ((inside : ℕ) → IsWithin (inside + interp_written names self.old) steps.old steps.new self.new (asking_gives names (page_question (asked_path self.old.task)) self.old.task inside self.old (answer ∷ []))) }
+        ensures most { let names = names_of natives.now in
+            OnErr result
+            ((inside : ℕ)
+            → IsWithin (inside + interp_written names self.old) steps.old steps.new self.new
+            (asking_gives names (page_question (asked_path self.old.task)) self.old.task inside
+            self.old (answer ∷ []))) }
         ensures lowers { IfOk result (λ step. Lowers step self.new (1)) }
         ensures same { IsSameRun self.new self.old }
         ensures holds { Holds self.new self.old }
         ensures next { IfOk result (λ step. MoveStandsAt step self.new) }
-        ensures falls { IfOk result (λ step. (before : ℕ) → per_question * self.old.settling.questions ≤ before → MoveFalls step self.new before) }
+        ensures falls { IfOk result (λ step.
+            (before : ℕ) → per_question * self.old.settling.questions ≤ before
+            → MoveFalls step self.new before) }
     {
         made_grows::<RunHost>();
         let (words, budget) = page_words(self.alloc, &self.task)?;
@@ -448,8 +635,12 @@ impl Interp {
 
     /// The response that was given is to be written; without one the request failed.
     fn respond_given(&mut self) -> Result<Move, NoMemory>
-        ensures stops { IfOk result (λ step. step ≡ Move.Stops (Next.Write (given_or_failed (interp_state self.old).host.conn.response))) }
-        ensures task { IfOk result (λ _. self.new ≡ record self.old { task = Task.Writing Ending.Answered }) }
+        ensures stops { IfOk result (λ step.
+            step
+            ≡ Move.Stops
+            (Next.Write (given_or_failed (interp_state self.old).host.conn.response))) }
+        ensures task { IfOk result (λ _.
+            self.new ≡ record self.old { task = Task.Writing Ending.Answered }) }
         ensures rest { (task : Tasks) × (self.new ≡ record self.old { task = task }) }
         ensures same { IsSameRun self.new self.old }
         ensures holds { Holds self.new self.old }
@@ -461,7 +652,8 @@ impl Interp {
     /// The request failed, whatever response was given.
     fn fail(&mut self) -> Result<Move, NoMemory>
         ensures stops { IfOk result (λ step. step ≡ Move.Stops (Next.Write failed)) }
-        ensures task { IfOk result (λ _. self.new ≡ record self.old { task = Task.Writing Ending.Answered }) }
+        ensures task { IfOk result (λ _.
+            self.new ≡ record self.old { task = Task.Writing Ending.Answered }) }
         ensures rest { (task : Tasks) × (self.new ≡ record self.old { task = task }) }
         ensures same { IsSameRun self.new self.old }
         ensures holds { Holds self.new self.old }
@@ -472,8 +664,12 @@ impl Interp {
 
     /// The procedure has ended.
     pub(crate) fn end_procedure(&mut self, code: u8) -> Result<Move, NoMemory>
-        ensures stops { IfOk result (λ step. step ≡ Move.Stops (Next.Write (procedure_reply code (interp_state self.old).host.conn.response))) }
-        ensures task { IfOk result (λ _. self.new ≡ record self.old { task = Task.Writing Ending.Answered }) }
+        ensures stops { IfOk result (λ step.
+            step
+            ≡ Move.Stops
+            (Next.Write (procedure_reply code (interp_state self.old).host.conn.response))) }
+        ensures task { IfOk result (λ _.
+            self.new ≡ record self.old { task = Task.Writing Ending.Answered }) }
         ensures rest { (task : Tasks) × (self.new ≡ record self.old { task = task }) }
         ensures same { IsSameRun self.new self.old }
         ensures holds { Holds self.new self.old }
@@ -485,8 +681,10 @@ impl Interp {
 
     /// The first page has ended.
     pub(crate) fn end_page(&mut self) -> Result<Move, NoMemory>
-        ensures stops { IfOk result (λ step. step ≡ Move.Stops (Next.Write (page_reply (interp_state self.old).host))) }
-        ensures task { IfOk result (λ _. self.new ≡ record self.old { task = Task.Writing Ending.Answered }) }
+        ensures stops { IfOk result (λ step.
+            step ≡ Move.Stops (Next.Write (page_reply (interp_state self.old).host))) }
+        ensures task { IfOk result (λ _.
+            self.new ≡ record self.old { task = Task.Writing Ending.Answered }) }
         ensures rest { (task : Tasks) × (self.new ≡ record self.old { task = task }) }
         ensures same { IsSameRun self.new self.old }
         ensures holds { Holds self.new self.old }

@@ -67,13 +67,35 @@ impl Settling {
         steps: &mut Steps<L>,
     ) -> Result<Stop, NoMemory>
         requires { IsReady budget self.old }
-        ensures gives { let names = names_of natives.now in let published = blueprint.now.value in IfOk result (λ stop. (inside : ℕ) (further : List Answer) → settling_gives names published moment stop self.new (inside + ((steps.new + written names published self.old) - (steps.old + written names published self.new))) further ≡ settle (inner_runs names published moment) self.old.questions inside (eval names host_table first_depth work (at_global (state_of self.old.run)) budget) further) }
-        ensures counts { let names = names_of natives.now in let published = blueprint.now.value in steps.old + written names published self.new ≤ steps.new + written names published self.old }
-        ensures most { let names = names_of natives.now in let published = blueprint.now.value in OnErr result ((inside : ℕ) → SettledWithin (inside + written names published self.old) steps.old steps.new self.new (settle (inner_runs names published moment) self.old.questions inside (eval names host_table first_depth work (at_global (state_of self.old.run)) budget) [])) }
+        ensures gives { let names = names_of natives.now in
+            let published = blueprint.now.value in
+            IfOk result (λ stop.
+            (inside : ℕ) (further : List Answer)
+            → settling_gives names published moment stop self.new
+            (inside +
+            ((steps.new + written names published self.old) -
+            (steps.old + written names published self.new)))
+            further
+            ≡ settle (inner_runs names published moment) self.old.questions inside
+            (eval names host_table first_depth work (at_global (state_of self.old.run)) budget)
+            further) }
+        ensures counts { let names = names_of natives.now in
+            let published = blueprint.now.value in
+            steps.old + written names published self.new ≤ steps.new + written names published
+            self.old }
+        ensures most { let names = names_of natives.now in
+            let published = blueprint.now.value in
+            OnErr result
+            ((inside : ℕ)
+            → SettledWithin (inside + written names published self.old) steps.old steps.new self.new
+            (settle (inner_runs names published moment) self.old.questions inside
+            (eval names host_table first_depth work (at_global (state_of self.old.run)) budget) [])) }
         ensures lasts { Lasts self.new.run.engine self.old.run.engine }
         ensures at { IfOk result (λ stop. SettlingAt stop self.new) }
         ensures lower { self.new.questions ≤ self.old.questions }
-        ensures falls { IfOk result (λ stop. (before : ℕ) → per_question * self.old.questions ≤ before → SettlingFalls stop self.new before) }
+        ensures falls { IfOk result (λ stop.
+            (before : ℕ) → per_question * self.old.questions ≤ before
+            → SettlingFalls stop self.new before) }
     {
         let came = self.run.start(natives, work, budget, FIRST_DEPTH, steps)?;
         let stop = self.go_on(natives, blueprint, moment, came, steps)?;
@@ -90,13 +112,33 @@ impl Settling {
         steps: &mut Steps<L>,
     ) -> Result<Stop, NoMemory>
         requires { SettlingAsks self.old }
-        ensures gives { let names = names_of natives.now in let published = blueprint.now.value in IfOk result (λ stop. (question : Question) (inside : ℕ) (further : List Answer) → settling_gives names published moment stop self.new (inside + ((steps.new + written names published self.old) - (steps.old + written names published self.new))) further ≡ settling_at names published moment question self.old self.old.inner inside (answer ∷ further)) }
-        ensures counts { let names = names_of natives.now in let published = blueprint.now.value in steps.old + written names published self.new ≤ steps.new + written names published self.old }
-        ensures most { let names = names_of natives.now in let published = blueprint.now.value in OnErr result ((question : Question) (inside : ℕ) → SettledWithin (inside + written names published self.old) steps.old steps.new self.new (settling_at names published moment question self.old self.old.inner inside (answer ∷ []))) }
+        ensures gives { let names = names_of natives.now in
+            let published = blueprint.now.value in
+            IfOk result (λ stop.
+            (question : Question) (inside : ℕ) (further : List Answer)
+            → settling_gives names published moment stop self.new
+            (inside +
+            ((steps.new + written names published self.old) -
+            (steps.old + written names published self.new)))
+            further
+            ≡ settling_at names published moment question self.old self.old.inner inside
+            (answer ∷ further)) }
+        ensures counts { let names = names_of natives.now in
+            let published = blueprint.now.value in
+            steps.old + written names published self.new ≤ steps.new + written names published
+            self.old }
+        ensures most { let names = names_of natives.now in
+            let published = blueprint.now.value in
+            OnErr result
+            ((question : Question) (inside : ℕ)
+            → SettledWithin (inside + written names published self.old) steps.old steps.new self.new
+            (settling_at names published moment question self.old self.old.inner inside
+            (answer ∷ []))) }
         ensures lasts { Lasts self.new.run.engine self.old.run.engine }
         ensures at { IfOk result (λ stop. SettlingAt stop self.new) }
         ensures lower { self.new.questions ≤ self.old.questions }
-        ensures falls { IfOk result (λ stop. SettlingFalls stop self.new (settling_number self.old)) }
+        ensures falls { IfOk result (λ stop.
+            SettlingFalls stop self.new (settling_number self.old)) }
     {
         made_grows_on::<RunHost>();
         match self.inner.take() {
@@ -135,13 +177,34 @@ impl Settling {
         requires inner { self.old.inner ≡ None }
         requires asks { StopAsks stop self.old.run }
         requires suffices { Suffices stop self.old.run self.old.questions }
-        ensures gives { let names = names_of natives.now in let published = blueprint.now.value in IfOk result (λ last. (inside : ℕ) (further : List Answer) → settling_gives names published moment last self.new (inside + ((steps.new + written names published self.old) - (steps.old + written names published self.new))) further ≡ settle (inner_runs names published moment) self.old.questions inside (comes_to names stop self.old.run) further) }
-        ensures counts { let names = names_of natives.now in let published = blueprint.now.value in steps.old + written names published self.new ≤ steps.new + written names published self.old }
-        ensures most { let names = names_of natives.now in let published = blueprint.now.value in OnErr result ((inside : ℕ) → SettledWithin (inside + written names published self.old) steps.old steps.new self.new (settle (inner_runs names published moment) self.old.questions inside (comes_to names stop self.old.run) [])) }
+        ensures gives { let names = names_of natives.now in
+            let published = blueprint.now.value in
+            IfOk result (λ last.
+            (inside : ℕ) (further : List Answer)
+            → settling_gives names published moment last self.new
+            (inside +
+            ((steps.new + written names published self.old) -
+            (steps.old + written names published self.new)))
+            further
+            ≡ settle (inner_runs names published moment) self.old.questions inside
+            (comes_to names stop self.old.run) further) }
+        ensures counts { let names = names_of natives.now in
+            let published = blueprint.now.value in
+            steps.old + written names published self.new ≤ steps.new + written names published
+            self.old }
+        ensures most { let names = names_of natives.now in
+            let published = blueprint.now.value in
+            OnErr result
+            ((inside : ℕ)
+            → SettledWithin (inside + written names published self.old) steps.old steps.new self.new
+            (settle (inner_runs names published moment) self.old.questions inside
+            (comes_to names stop self.old.run) [])) }
         ensures lasts { Lasts self.new.run.engine self.old.run.engine }
         ensures at { IfOk result (λ last. SettlingAt last self.new) }
         ensures lower { self.new.questions ≤ self.old.questions }
-        ensures falls { IfOk result (λ last. (before : ℕ) → per_question * self.old.questions ≤ before → SettlingFalls last self.new before) }
+        ensures falls { IfOk result (λ last.
+            (before : ℕ) → per_question * self.old.questions ≤ before
+            → SettlingFalls last self.new before) }
     {
         'runs: loop {
             let step = self.step(natives, blueprint, moment, stop, steps)?;
@@ -164,14 +227,35 @@ impl Settling {
         requires inner { self.old.inner ≡ None }
         requires asks { StopAsks stop self.old.run }
         requires suffices { Suffices stop self.old.run self.old.questions }
-        ensures gives { let names = names_of natives.now in let published = blueprint.now.value in IfOk result (λ step. (inside : ℕ) (further : List Answer) → step_gives names published moment step self.new (inside + ((steps.new + written names published self.old) - (steps.old + written names published self.new))) further ≡ settle (inner_runs names published moment) self.old.questions inside (comes_to names stop self.old.run) further) }
-        ensures counts { let names = names_of natives.now in let published = blueprint.now.value in steps.old + written names published self.new ≤ steps.new + written names published self.old }
-        ensures most { let names = names_of natives.now in let published = blueprint.now.value in OnErr result ((inside : ℕ) → SettledWithin (inside + written names published self.old) steps.old steps.new self.new (settle (inner_runs names published moment) self.old.questions inside (comes_to names stop self.old.run) [])) }
+        ensures gives { let names = names_of natives.now in
+            let published = blueprint.now.value in
+            IfOk result (λ step.
+            (inside : ℕ) (further : List Answer)
+            → step_gives names published moment step self.new
+            (inside +
+            ((steps.new + written names published self.old) -
+            (steps.old + written names published self.new)))
+            further
+            ≡ settle (inner_runs names published moment) self.old.questions inside
+            (comes_to names stop self.old.run) further) }
+        ensures counts { let names = names_of natives.now in
+            let published = blueprint.now.value in
+            steps.old + written names published self.new ≤ steps.new + written names published
+            self.old }
+        ensures most { let names = names_of natives.now in
+            let published = blueprint.now.value in
+            OnErr result
+            ((inside : ℕ)
+            → SettledWithin (inside + written names published self.old) steps.old steps.new self.new
+            (settle (inner_runs names published moment) self.old.questions inside
+            (comes_to names stop self.old.run) [])) }
         ensures goes { IfOk result (λ step. GoesLower step self.new self.old) }
         ensures lower { self.new.questions ≤ self.old.questions }
         ensures lasts { Lasts self.new.run.engine self.old.run.engine }
         ensures at { IfOk result (λ step. StepAt step self.new) }
-        ensures falls { IfOk result (λ step. (before : ℕ) → per_question * self.old.questions ≤ before → StepFalls step self.new before) }
+        ensures falls { IfOk result (λ step.
+            (before : ℕ) → per_question * self.old.questions ≤ before
+            → StepFalls step self.new before) }
     {
         match stop {
             Stop::Asks(question) => {
@@ -202,14 +286,43 @@ impl Settling {
         requires inner { self.old.inner ≡ None }
         requires open { IsOpenTo service.Inner self.old.run.engine.question }
         requires suffices { askable self.old.run ≤ self.old.questions }
-        ensures gives { let names = names_of natives.now in let published = blueprint.now.value in IfOk result (λ step. (asked : Question) (inside : ℕ) (further : List Answer) → step_gives names published moment step self.new (inside + ((steps.new + written names published self.old) - (steps.old + written names published self.new))) further ≡ behind_inner (build_steps names published.defs) (inner_run names published moment question.words self.old.run.engine.budget self.old.questions further) (state_of self.old.run) (account_of self.old.run.engine.budget self.old.questions inside) (onward names published moment asked self.old)) }
-        ensures counts { let names = names_of natives.now in let published = blueprint.now.value in steps.old + written names published self.new ≤ steps.new + written names published self.old }
-        ensures most { let names = names_of natives.now in let published = blueprint.now.value in OnErr result ((asked : Question) (inside : ℕ) → SettledWithin (inside + written names published self.old) steps.old steps.new self.new (behind_inner (build_steps names published.defs) (inner_run names published moment question.words self.old.run.engine.budget self.old.questions []) (state_of self.old.run) (account_of self.old.run.engine.budget self.old.questions inside) (onward names published moment asked self.old))) }
+        ensures gives { let names = names_of natives.now in
+            let published = blueprint.now.value in
+            IfOk result (λ step.
+            (asked : Question) (inside : ℕ) (further : List Answer)
+            → step_gives names published moment step self.new
+            (inside +
+            ((steps.new + written names published self.old) -
+            (steps.old + written names published self.new)))
+            further
+            ≡ behind_inner (build_steps names published.defs)
+            (inner_run names published moment question.words self.old.run.engine.budget
+            self.old.questions further)
+            (state_of self.old.run)
+            (account_of self.old.run.engine.budget self.old.questions inside)
+            (onward names published moment asked self.old)) }
+        ensures counts { let names = names_of natives.now in
+            let published = blueprint.now.value in
+            steps.old + written names published self.new ≤ steps.new + written names published
+            self.old }
+        ensures most { let names = names_of natives.now in
+            let published = blueprint.now.value in
+            OnErr result
+            ((asked : Question) (inside : ℕ)
+            → SettledWithin (inside + written names published self.old) steps.old steps.new self.new
+            (behind_inner (build_steps names published.defs)
+            (inner_run names published moment question.words self.old.run.engine.budget
+            self.old.questions [])
+            (state_of self.old.run)
+            (account_of self.old.run.engine.budget self.old.questions inside)
+            (onward names published moment asked self.old))) }
         ensures stays { IfOk result (λ step. Stays step self.new self.old) }
         ensures same { self.new.questions ≡ self.old.questions }
         ensures lasts { Lasts self.new.run.engine self.old.run.engine }
         ensures at { IfOk result (λ step. StepAt step self.new) }
-        ensures falls { IfOk result (λ step. (before : ℕ) → per_question * (self.old.questions + 1) ≤ before → StepFalls step self.new before) }
+        ensures falls { IfOk result (λ step.
+            (before : ℕ) → per_question * (self.old.questions + 1) ≤ before
+            → StepFalls step self.new before) }
     {
         made_grows_on::<RunHost>();
         let (inner, stop) = InnerRun::begin(
@@ -240,14 +353,47 @@ impl Settling {
         requires open { IsOpenTo service.Inner self.old.run.engine.question }
         requires suffices { askable self.old.run ≤ self.old.questions }
         requires asks { DefineStopAsks stop inner.run inner.defining }
-        ensures gives { let names = names_of natives.now in let published = blueprint.now.value in IfOk result (λ step. (question : Question) (inside : ℕ) (further : List Answer) → step_gives names published moment step self.new (inside + ((steps.new + (written names published self.old + inner_written names published (Some inner))) - (steps.old + written names published self.new))) further ≡ behind_inner (build_steps names published.defs) (define_gives names published moment stop inner.run inner.defining further) (state_of self.old.run) (account_of self.old.run.engine.budget self.old.questions inside) (onward names published moment question self.old)) }
-        ensures counts { let names = names_of natives.now in let published = blueprint.now.value in steps.old + written names published self.new ≤ steps.new + (written names published self.old + inner_written names published (Some inner)) }
-        ensures most { let names = names_of natives.now in let published = blueprint.now.value in OnErr result ((question : Question) (inside : ℕ) → SettledWithin (inside + (written names published self.old + inner_written names published (Some inner))) steps.old steps.new self.new (behind_inner (build_steps names published.defs) (define_gives names published moment stop inner.run inner.defining []) (state_of self.old.run) (account_of self.old.run.engine.budget self.old.questions inside) (onward names published moment question self.old))) }
+        ensures gives { let names = names_of natives.now in
+            let published = blueprint.now.value in
+            IfOk result (λ step.
+            (question : Question) (inside : ℕ) (further : List Answer)
+            → step_gives names published moment step self.new
+            (inside +
+            ((steps.new +
+            (written names published self.old + inner_written names published (Some inner)))
+            -
+            (steps.old + written names published self.new)))
+            further
+            ≡ behind_inner (build_steps names published.defs)
+            (define_gives names published moment stop inner.run inner.defining further)
+            (state_of self.old.run)
+            (account_of self.old.run.engine.budget self.old.questions inside)
+            (onward names published moment question self.old)) }
+        ensures counts { let names = names_of natives.now in
+            let published = blueprint.now.value in
+            steps.old + written names published self.new ≤ steps.new +
+            (written names published self.old + inner_written names published (Some inner)) }
+        ensures most { let names = names_of natives.now in
+            let published = blueprint.now.value in
+            OnErr result
+            ((question : Question) (inside : ℕ)
+            → SettledWithin
+            (inside +
+            (written names published self.old + inner_written names published (Some inner)))
+            steps.old steps.new self.new
+            (behind_inner (build_steps names published.defs)
+            (define_gives names published moment stop inner.run inner.defining [])
+            (state_of self.old.run)
+            (account_of self.old.run.engine.budget self.old.questions inside)
+            (onward names published moment question self.old))) }
         ensures stays { IfOk result (λ step. Stays step self.new self.old) }
         ensures same { self.new.questions ≡ self.old.questions }
         ensures lasts { Lasts self.new.run.engine self.old.run.engine }
         ensures at { IfOk result (λ step. StepAt step self.new) }
-        ensures falls { IfOk result (λ step. (before : ℕ) → per_question * self.old.questions ≤ before → DefineFalls stop inner.defining (before - (per_question * self.old.questions + 4)) → StepFalls step self.new before) }
+        ensures falls { IfOk result (λ step.
+            (before : ℕ) → per_question * self.old.questions ≤ before
+            → DefineFalls stop inner.defining (before - (per_question * self.old.questions + 4))
+            → StepFalls step self.new before) }
     {
         match stop {
             DefineStop::Stands(question) => {

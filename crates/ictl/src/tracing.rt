@@ -1,6 +1,7 @@
 //! The run of a request behind its response, and the runs without a connection.
 
 ghost use Rattle.std.specs.Prelude.{◌≡◌, ◌≤◌, ◌<◌, ◌+◌, ◌-◌, ◌*◌, ◌^◌, ◌++◌, ◌∷◌, [], ℕ, List, None, true, IfOk, OnErr, drop, length, MatchOption};
+ghost use Rattle.txt_core.specs.Names.{Names};
 ghost use Rattle.natives.specs.Names.{names_of};
 ghost use Rattle.outside.specs.declared.question.Answer.{Answer};
 ghost use Rattle.outside.specs.declared.question.Question.{Question};
@@ -39,8 +40,11 @@ use txt_core::{NoMemory, Text, Words};
 
 /// A copy of the text at a place, or none past the end.
 fn text_at(alloc: Global, list: &Words, at: usize) -> Result<Option<Text>, NoMemory>
-    ensures here { IfOk result (λ found. MatchOption found (drop at list.now ≡ []) (λ text. drop at list.now ≡ text ∷ drop (at + 1) list.now)) }
-    ensures small { IfOk result (λ found. MatchOption found (length list.now ≤ at) (λ _. (at < length list.now) × (at < 2 ^ 63))) }
+    ensures here { IfOk result (λ found.
+        MatchOption found (drop at list.now ≡ []) (λ text.
+        drop at list.now ≡ text ∷ drop (at + 1) list.now)) }
+    ensures small { IfOk result (λ found.
+        MatchOption found (length list.now ≤ at) (λ _. (at < length list.now) × (at < 2 ^ 63))) }
 {
     match list.as_slice().get(at) {
         None => Ok(None),
@@ -98,10 +102,19 @@ impl Interp {
         steps: &mut Steps<L>,
     ) -> Result<Next, NoMemory>
         requires { IsNew (names_of natives.now) self.old }
-        ensures stands { let names = names_of natives.now in IfOk result (λ next. (further : List Answer) → Main names self.old.blueprint.value request moment further ≡ gives names next (taken names steps.new steps.old self.new self.old) self.new further) }
+        ensures stands { let names = names_of natives.now in
+            IfOk result (λ next.
+            (further : List Answer)
+            → Main names self.old.blueprint.value request moment further
+            ≡ gives names next (taken names steps.new steps.old self.new self.old) self.new further) }
         ensures counts { Counts (names_of natives.now) steps.new steps.old self.new self.old }
-        ensures most { let names = names_of natives.now in OnErr result (IsWithin 0 steps.old steps.new self.new (Main names self.old.blueprint.value request moment [])) }
-        ensures visit { IfOk result (λ _. (self.new.visit ≡ visit_of (names_of natives.now) self.old.blueprint.value request) × (self.new.moment ≡ moment)) }
+        ensures most { let names = names_of natives.now in
+            OnErr result
+            (IsWithin 0 steps.old steps.new self.new
+            (Main names self.old.blueprint.value request moment [])) }
+        ensures visit { IfOk result (λ _.
+            (self.new.visit ≡ visit_of (names_of natives.now) self.old.blueprint.value request)
+            × (self.new.moment ≡ moment)) }
         ensures spare { spare_of self.new ≡ spare_of self.old }
         ensures holds { Holds self.new self.old }
         ensures next { IfOk result (λ next. GoesOut next self.new) }
@@ -122,7 +135,8 @@ impl Interp {
 
     /// What a request goes through. The interpreter is as newly made.
     fn visit_of(&self, request: &Request) -> Result<Visit, NoMemory>
-        ensures { (names : List (List ℕ)) → IsNew names self.now → IfOk result (λ visit. visit ≡ visit_of names self.now.blueprint.value request.now) }
+        ensures { (names : Names) → IsNew names self.now
+            → IfOk result (λ visit. visit ≡ visit_of names self.now.blueprint.value request.now) }
     {
         let name = Text::new(self.alloc, AUTHORISER)?;
         let authoriser = self.settling.run.engine.command(&name);
@@ -140,9 +154,16 @@ impl Interp {
         steps: &mut Steps<L>,
     ) -> Result<Next, NoMemory>
         requires { IsNew (names_of natives.now) self.old }
-        ensures stands { let names = names_of natives.now in IfOk result (λ next. (further : List Answer) → Script names self.old.blueprint.value script.now moment further ≡ gives names next (taken names steps.new steps.old self.new self.old) self.new further) }
+        ensures stands { let names = names_of natives.now in
+            IfOk result (λ next.
+            (further : List Answer)
+            → Script names self.old.blueprint.value script.now moment further
+            ≡ gives names next (taken names steps.new steps.old self.new self.old) self.new further) }
         ensures counts { Counts (names_of natives.now) steps.new steps.old self.new self.old }
-        ensures most { let names = names_of natives.now in OnErr result (IsWithin 0 steps.old steps.new self.new (Script names self.old.blueprint.value script.now moment [])) }
+        ensures most { let names = names_of natives.now in
+            OnErr result
+            (IsWithin 0 steps.old steps.new self.new
+            (Script names self.old.blueprint.value script.now moment [])) }
         ensures spare { spare_of self.new ≡ spare_of self.old }
         ensures holds { Holds self.new self.old }
         ensures next { IfOk result (λ next. GoesOut next self.new) }
@@ -164,12 +185,20 @@ impl Interp {
         script: Text,
         steps: &mut Steps<L>,
     ) -> Result<Next, NoMemory>
-        requires state { interp_state self.old ≡ script_state (names_of natives.now) self.old.blueprint.value self.old.moment }
+        requires state { interp_state self.old
+            ≡ script_state (names_of natives.now) self.old.blueprint.value self.old.moment }
         requires questions { self.old.settling.questions ≡ run_questions }
         requires inner { self.old.settling.inner ≡ None }
-        ensures stands { let names = names_of natives.now in IfOk result (λ next. (further : List Answer) → Script names self.old.blueprint.value script self.old.moment further ≡ gives names next (taken names steps.new steps.old self.new self.old) self.new further) }
+        ensures stands { let names = names_of natives.now in
+            IfOk result (λ next.
+            (further : List Answer)
+            → Script names self.old.blueprint.value script self.old.moment further
+            ≡ gives names next (taken names steps.new steps.old self.new self.old) self.new further) }
         ensures counts { Counts (names_of natives.now) steps.new steps.old self.new self.old }
-        ensures most { let names = names_of natives.now in OnErr result (IsWithin 0 steps.old steps.new self.new (Script names self.old.blueprint.value script self.old.moment [])) }
+        ensures most { let names = names_of natives.now in
+            OnErr result
+            (IsWithin 0 steps.old steps.new self.new
+            (Script names self.old.blueprint.value script self.old.moment [])) }
         ensures same { IsSameRun self.new self.old }
         ensures holds { Holds self.new self.old }
         ensures next { IfOk result (λ next. GoesOut next self.new) }
@@ -197,9 +226,17 @@ impl Interp {
         steps: &mut Steps<L>,
     ) -> Result<Next, NoMemory>
         requires { IsNew (names_of natives.now) self.old }
-        ensures stands { let names = names_of natives.now in IfOk result (λ next. (further : List Answer) → Define names self.old.blueprint.value script.now moment further ≡ gives names next 0 self.new further) }
-        ensures steps { steps.new + Writes self.old.settling.run.engine.made ≡ steps.old + Writes self.new.settling.run.engine.made }
-        ensures most { let names = names_of natives.now in OnErr result (IsWithin 0 steps.old steps.new self.new (Define names self.old.blueprint.value script.now moment [])) }
+        ensures stands { let names = names_of natives.now in
+            IfOk result (λ next.
+            (further : List Answer)
+            → Define names self.old.blueprint.value script.now moment further
+            ≡ gives names next 0 self.new further) }
+        ensures steps { steps.new + Writes self.old.settling.run.engine.made
+            ≡ steps.old + Writes self.new.settling.run.engine.made }
+        ensures most { let names = names_of natives.now in
+            OnErr result
+            (IsWithin 0 steps.old steps.new self.new
+            (Define names self.old.blueprint.value script.now moment [])) }
         ensures spare { spare_of self.new ≡ spare_of self.old }
         ensures holds { Holds self.new self.old }
         ensures next { IfOk result (λ next. GoesOut next self.new) }
@@ -230,9 +267,18 @@ impl Interp {
     ) -> Result<Next, NoMemory>
         requires asking { IsAsking self.old }
         requires define { (defining : Defining) × (self.old.task ≡ Task.Define defining) }
-        ensures gives { let names = names_of natives.now in IfOk result (λ next. (question : Question) (inside : ℕ) (further : List Answer) → gives names next inside self.new further ≡ gives names (Next.Asks question) inside self.old (answer ∷ further)) }
-        ensures steps { steps.new + Writes self.old.settling.run.engine.made ≡ steps.old + Writes self.new.settling.run.engine.made }
-        ensures most { let names = names_of natives.now in OnErr result ((question : Question) (inside : ℕ) → IsWithin (inside + interp_written names self.old) steps.old steps.new self.new (gives names (Next.Asks question) inside self.old (answer ∷ []))) }
+        ensures gives { let names = names_of natives.now in
+            IfOk result (λ next.
+            (question : Question) (inside : ℕ) (further : List Answer)
+            → gives names next inside self.new further
+            ≡ gives names (Next.Asks question) inside self.old (answer ∷ further)) }
+        ensures steps { steps.new + Writes self.old.settling.run.engine.made
+            ≡ steps.old + Writes self.new.settling.run.engine.made }
+        ensures most { let names = names_of natives.now in
+            OnErr result
+            ((question : Question) (inside : ℕ)
+            → IsWithin (inside + interp_written names self.old) steps.old steps.new self.new
+            (gives names (Next.Asks question) inside self.old (answer ∷ []))) }
         ensures inner { self.new.settling.inner ≡ self.old.settling.inner }
         ensures same { IsSameRun self.new self.old }
         ensures holds { Holds self.new self.old }
@@ -252,10 +298,13 @@ impl Interp {
     fn defined(&mut self, defining: DefineRun, stop: DefineStop) -> Next
         requires asks { DefineStopAsks stop self.old.settling.run defining }
         requires inner { self.old.settling.inner ≡ None }
-        ensures gives { (names : List (List ℕ)) (inside : ℕ) (further : List Answer) → gives names result inside self.new further ≡ defined_gives names stop defining inside self.old further }
+        ensures gives { (names : Names) (inside : ℕ) (further : List Answer)
+            → gives names result inside self.new further
+            ≡ defined_gives names stop defining inside self.old further }
         ensures next { GoesOut result self.new }
         ensures task { (task : Tasks) × (self.new ≡ record self.old { task = task }) }
-        ensures falls { (before : ℕ) → DefineFalls stop defining before → Falls result self.new before }
+        ensures falls { (before : ℕ) → DefineFalls stop defining before
+            → Falls result self.new before }
     {
         match stop {
             DefineStop::Stands(question) => {
@@ -298,9 +347,24 @@ impl Interp {
         steps: &mut Steps<L>,
     ) -> Result<Next, NoMemory>
         requires { IsWriting self.old }
-        ensures stands { let names = names_of natives.now in IfOk result (λ next. (request : Request) → IsSound names self.old → self.old.visit ≡ visit_of names self.old.blueprint.value request → (inside : ℕ) (further : List Answer) → behind names self.old.blueprint.value self.old.moment true request (ending_of self.old.task) (interp_state self.old) inside further ≡ gives names next (inside + taken names steps.new steps.old self.new self.old) self.new further) }
+        ensures stands { let names = names_of natives.now in
+            IfOk result (λ next.
+            (request : Request) → IsSound names self.old
+            → self.old.visit ≡ visit_of names self.old.blueprint.value request
+            → (inside : ℕ) (further : List Answer)
+            → behind names self.old.blueprint.value self.old.moment true request
+            (ending_of self.old.task) (interp_state self.old) inside further
+            ≡ gives names next (inside + taken names steps.new steps.old self.new self.old) self.new
+            further) }
         ensures counts { Counts (names_of natives.now) steps.new steps.old self.new self.old }
-        ensures most { let names = names_of natives.now in OnErr result ((request : Request) → IsSound names self.old → self.old.visit ≡ visit_of names self.old.blueprint.value request → (inside : ℕ) → IsWithin (inside + Writes (interp_state self.old).made) steps.old steps.new self.new (behind names self.old.blueprint.value self.old.moment true request (ending_of self.old.task) (interp_state self.old) inside [])) }
+        ensures most { let names = names_of natives.now in
+            OnErr result
+            ((request : Request) → IsSound names self.old
+            → self.old.visit ≡ visit_of names self.old.blueprint.value request
+            → (inside : ℕ)
+            → IsWithin (inside + Writes (interp_state self.old).made) steps.old steps.new self.new
+            (behind names self.old.blueprint.value self.old.moment true request
+            (ending_of self.old.task) (interp_state self.old) inside [])) }
         ensures same { IsSameRun self.new self.old }
         ensures holds { Holds self.new self.old }
         ensures next { IfOk result (λ next. GoesOut next self.new) }
@@ -323,14 +387,31 @@ impl Interp {
         steps: &mut Steps<L>,
     ) -> Result<Move, NoMemory>
         requires { IsReady budget self.old.settling }
-        ensures gives { let names = names_of natives.now in IfOk result (λ step. (inside : ℕ) (further : List Answer) → move_gives names step (inside + taken names steps.new steps.old self.new self.old) self.new further ≡ traces_from names self.old.blueprint.value self.old.moment (drop next self.old.visit.trace) self.old.cleanups ending (interp_state self.old) (account_of budget self.old.settling.questions inside) further) }
+        ensures gives { let names = names_of natives.now in
+            IfOk result (λ step.
+            (inside : ℕ) (further : List Answer)
+            → move_gives names step (inside + taken names steps.new steps.old self.new self.old)
+            self.new further
+            ≡ traces_from names self.old.blueprint.value self.old.moment
+            (drop next self.old.visit.trace) self.old.cleanups ending (interp_state self.old)
+            (account_of budget self.old.settling.questions inside) further) }
         ensures counts { Counts (names_of natives.now) steps.new steps.old self.new self.old }
-        ensures most { let names = names_of natives.now in OnErr result ((inside : ℕ) → IsWithin (inside + interp_written names self.old) steps.old steps.new self.new (traces_from names self.old.blueprint.value self.old.moment (drop next self.old.visit.trace) self.old.cleanups ending (interp_state self.old) (account_of budget self.old.settling.questions inside) [])) }
-        ensures lowers { IfOk result (λ step. Lowers step self.new ((length self.old.visit.trace - next) + length self.old.cleanups + 1)) }
+        ensures most { let names = names_of natives.now in
+            OnErr result
+            ((inside : ℕ)
+            → IsWithin (inside + interp_written names self.old) steps.old steps.new self.new
+            (traces_from names self.old.blueprint.value self.old.moment
+            (drop next self.old.visit.trace) self.old.cleanups ending (interp_state self.old)
+            (account_of budget self.old.settling.questions inside) [])) }
+        ensures lowers { IfOk result (λ step.
+            Lowers step self.new
+            ((length self.old.visit.trace - next) + length self.old.cleanups + 1)) }
         ensures same { IsSameRun self.new self.old }
         ensures holds { Holds self.new self.old }
         ensures next { IfOk result (λ step. MoveStandsAt step self.new) }
-        ensures falls { IfOk result (λ step. (before : ℕ) → per_question * self.old.settling.questions + 2 < before → MoveFalls step self.new before) }
+        ensures falls { IfOk result (λ step.
+            (before : ℕ) → per_question * self.old.settling.questions + 2 < before
+            → MoveFalls step self.new before) }
     {
         made_grows::<RunHost>();
         let found = words_at(self.alloc, &self.visit.trace, next)?;
@@ -357,14 +438,38 @@ impl Interp {
         steps: &mut Steps<L>,
     ) -> Result<Move, NoMemory>
         requires { IsReady self.old.settling.run.engine.budget self.old.settling }
-        ensures gives { let names = names_of natives.now in IfOk result (λ step. (inside : ℕ) (further : List Answer) → move_gives names step (inside + taken names steps.new steps.old self.new self.old) self.new further ≡ trace_end (traces_from names self.old.blueprint.value self.old.moment (drop next self.old.visit.trace) self.old.cleanups ending) (cleanups_from names self.old.blueprint.value self.old.moment self.old.cleanups ending) (verdict code value) (interp_state self.old) (account_of self.old.settling.run.engine.budget self.old.settling.questions inside) further) }
+        ensures gives { let names = names_of natives.now in
+            IfOk result (λ step.
+            (inside : ℕ) (further : List Answer)
+            → move_gives names step (inside + taken names steps.new steps.old self.new self.old)
+            self.new further
+            ≡ trace_end
+            (traces_from names self.old.blueprint.value self.old.moment
+            (drop next self.old.visit.trace) self.old.cleanups ending)
+            (cleanups_from names self.old.blueprint.value self.old.moment self.old.cleanups ending)
+            (verdict code value) (interp_state self.old)
+            (account_of self.old.settling.run.engine.budget self.old.settling.questions inside)
+            further) }
         ensures counts { Counts (names_of natives.now) steps.new steps.old self.new self.old }
-        ensures most { let names = names_of natives.now in OnErr result ((inside : ℕ) → IsWithin (inside + interp_written names self.old) steps.old steps.new self.new (trace_end (traces_from names self.old.blueprint.value self.old.moment (drop next self.old.visit.trace) self.old.cleanups ending) (cleanups_from names self.old.blueprint.value self.old.moment self.old.cleanups ending) (verdict code value) (interp_state self.old) (account_of self.old.settling.run.engine.budget self.old.settling.questions inside) [])) }
-        ensures lowers { IfOk result (λ step. Lowers step self.new ((length self.old.visit.trace - next) + length self.old.cleanups + 1)) }
+        ensures most { let names = names_of natives.now in
+            OnErr result
+            ((inside : ℕ)
+            → IsWithin (inside + interp_written names self.old) steps.old steps.new self.new
+            (trace_end
+            (traces_from names self.old.blueprint.value self.old.moment
+            (drop next self.old.visit.trace) self.old.cleanups ending)
+            (cleanups_from names self.old.blueprint.value self.old.moment self.old.cleanups ending)
+            (verdict code value) (interp_state self.old)
+            (account_of self.old.settling.run.engine.budget self.old.settling.questions inside) [])) }
+        ensures lowers { IfOk result (λ step.
+            Lowers step self.new
+            ((length self.old.visit.trace - next) + length self.old.cleanups + 1)) }
         ensures same { IsSameRun self.new self.old }
         ensures holds { Holds self.new self.old }
         ensures next { IfOk result (λ step. MoveStandsAt step self.new) }
-        ensures falls { IfOk result (λ step. (before : ℕ) → per_question * self.old.settling.questions + 2 < before → MoveFalls step self.new before) }
+        ensures falls { IfOk result (λ step.
+            (before : ℕ) → per_question * self.old.settling.questions + 2 < before
+            → MoveFalls step self.new before) }
     {
         let budget = self.settling.run.engine.left();
         let said = verdict_of(code, &value);
@@ -387,14 +492,30 @@ impl Interp {
         steps: &mut Steps<L>,
     ) -> Result<Move, NoMemory>
         requires { IsReady budget self.old.settling }
-        ensures gives { let names = names_of natives.now in IfOk result (λ step. (inside : ℕ) (further : List Answer) → move_gives names step (inside + taken names steps.new steps.old self.new self.old) self.new further ≡ cleanups_from names self.old.blueprint.value self.old.moment (drop next self.old.cleanups) ending (interp_state self.old) (account_of budget self.old.settling.questions inside) further) }
+        ensures gives { let names = names_of natives.now in
+            IfOk result (λ step.
+            (inside : ℕ) (further : List Answer)
+            → move_gives names step (inside + taken names steps.new steps.old self.new self.old)
+            self.new further
+            ≡ cleanups_from names self.old.blueprint.value self.old.moment
+            (drop next self.old.cleanups) ending (interp_state self.old)
+            (account_of budget self.old.settling.questions inside) further) }
         ensures counts { Counts (names_of natives.now) steps.new steps.old self.new self.old }
-        ensures most { let names = names_of natives.now in OnErr result ((inside : ℕ) → IsWithin (inside + interp_written names self.old) steps.old steps.new self.new (cleanups_from names self.old.blueprint.value self.old.moment (drop next self.old.cleanups) ending (interp_state self.old) (account_of budget self.old.settling.questions inside) [])) }
-        ensures lowers { IfOk result (λ step. Lowers step self.new (length self.old.cleanups - next)) }
+        ensures most { let names = names_of natives.now in
+            OnErr result
+            ((inside : ℕ)
+            → IsWithin (inside + interp_written names self.old) steps.old steps.new self.new
+            (cleanups_from names self.old.blueprint.value self.old.moment
+            (drop next self.old.cleanups) ending (interp_state self.old)
+            (account_of budget self.old.settling.questions inside) [])) }
+        ensures lowers { IfOk result (λ step.
+            Lowers step self.new (length self.old.cleanups - next)) }
         ensures same { IsSameRun self.new self.old }
         ensures holds { Holds self.new self.old }
         ensures next { IfOk result (λ step. MoveStandsAt step self.new) }
-        ensures falls { IfOk result (λ step. (before : ℕ) → per_question * self.old.settling.questions + 2 < before → MoveFalls step self.new before) }
+        ensures falls { IfOk result (λ step.
+            (before : ℕ) → per_question * self.old.settling.questions + 2 < before
+            → MoveFalls step self.new before) }
     {
         made_grows::<RunHost>();
         let found = text_at(self.alloc, &self.cleanups, next)?;

@@ -64,7 +64,8 @@ fn filter_calls(
     path: &Text,
 ) -> Result<WordsList, NoMemory>
     requires { path.now ≡ path_of request.now }
-    ensures { (defs : List Def) → IsBuiltOf routes.now defs → IfOk result (λ calls. calls ≡ filter_calls when request.now defs) }
+    ensures { (defs : List Def) → IsBuiltOf routes.now defs
+        → IfOk result (λ calls. calls ≡ filter_calls when request.now defs) }
 {
     let filters = routes.filters(when, &request.method, path)?;
     calls_of(alloc, when, filters.as_slice())
@@ -137,7 +138,9 @@ fn serving_by(
     path: Text,
 ) -> Result<Serving, NoMemory>
     requires { path ≡ path_of request.now }
-    ensures { IfOk result (λ serving. serving ≡ serving_by (option_map (λ route. route.words) (option_copied found.entry)) request.now) }
+    ensures { IfOk result (λ serving.
+        serving
+        ≡ serving_by (option_map (λ route. route.words) (option_copied found.entry)) request.now) }
 {
     match found {
         Some(route) => Ok(Serving::Procedure(Words::of_copies(alloc, route.words.as_slice())?)),

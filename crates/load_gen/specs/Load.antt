@@ -1,5 +1,6 @@
 -- A large rehearsal file that is made from a number.
-use Rattle.std.specs.Prelude.{ℕ, zero, suc, ◌+◌, ◌*◌, ◌/◌, ◌%◌, List, [], ◌++◌, length, decimal, codes}
+use Rattle.std.specs.Prelude.{ℕ, zero, suc, ◌+◌, ◌*◌, ◌/◌, ◌%◌, [], ◌++◌, length, decimal, codes}
+use Rattle.txt_core.specs.Names.{Bytes}
 
 -- ---- numbers that are drawn
 
@@ -18,44 +19,44 @@ choice x = (x / 4) % 3
 -- ---- one connection
 
 -- the k-th request: for a procedure that counts, for one that tells its query, or for nothing that there is
-abbrev pub target_of : ℕ → ℕ → List ℕ
+abbrev pub target_of : ℕ → ℕ → Bytes
 target_of zero k = codes "/hit"
 target_of (suc zero) k = codes "/form?name=n" ++ decimal k
 target_of (suc (suc more)) k = codes "/miss"
 
 -- the input of a connection: a GET with the one field Host
-abbrev pub get_of : List ℕ → List ℕ
+abbrev pub get_of : Bytes → Bytes
 get_of target = codes "GET " ++ target ++ codes " HTTP/1.1\r\nHost: l\r\n\r\n"
 
 -- the worker ends what it had, gets the connection, and each of the four workers takes a step
-abbrev pub round_of : ℕ → List ℕ → List ℕ
+abbrev pub round_of : ℕ → Bytes → Bytes
 round_of number input =
     codes "run " ++ decimal number ++ codes "\n"
     ++ codes "connect " ++ decimal number ++ codes " " ++ decimal (length input) ++ codes "\n" ++ input ++ codes "\n"
     ++ codes "step 0\nstep 1\nstep 2\nstep 3\n"
 
-abbrev pub round : ℕ → ℕ → List ℕ
+abbrev pub round : ℕ → ℕ → Bytes
 round x k = round_of (worker x) (get_of (target_of (choice x) k))
 
 -- so many connections, the first of which is the k-th, behind the number that was drawn last
-abbrev pub rounds : ℕ → ℕ → ℕ → List ℕ
+abbrev pub rounds : ℕ → ℕ → ℕ → Bytes
 rounds zero k x = []
 rounds (suc more) k x = round (next x) k ++ rounds more (k + 1) (next x)
 
 -- ---- the file
 
 -- two procedures and their URLs
-abbrev pub block : List ℕ
+abbrev pub block : Bytes
 block = codes "proc hit {} {ns_return 200 text/plain [nsv_incr c n]}\nproc form {} {ns_return 200 text/plain [ns_queryget name]}\nns_register_proc GET /hit hit\nns_register_proc GET /form form"
 
-abbrev pub front : List ℕ
+abbrev pub front : Bytes
 front = codes "workers 4\ndefine " ++ decimal (length block) ++ codes "\n" ++ block ++ codes "\n"
 
-abbrev pub back : List ℕ
+abbrev pub back : Bytes
 back = codes "run 0\nrun 1\nrun 2\nrun 3\n"
 
 -- The file of so many connections. The first number is drawn behind their count.
-abbrev pub load_file : ℕ → List ℕ
+abbrev pub load_file : ℕ → Bytes
 load_file n = front ++ rounds n 1 n ++ back
 
 -- the most connections

@@ -118,7 +118,10 @@ fn push_rounds(
     requires below { drawn < 2147483648 }
     requires few { first + count ≤ most_requests + 1 }
     ensures below { IfOk result (λ last. last < 2147483648) }
-    ensures rounds { (more : ℕ) → IfOk result (λ last. file.new ++ rounds more (first + count) last ≡ file.old ++ rounds (count + more) first drawn) }
+    ensures rounds { (more : ℕ)
+        → IfOk result (λ last.
+        file.new ++ rounds more (first + count) last
+        ≡ file.old ++ rounds (count + more) first drawn) }
 {
     let mut x = drawn;
     for k in first..first + count {

@@ -36,12 +36,13 @@ pub struct Pieces {
 }
 
 impl Model for Pieces {
-    ghost use Rattle.std.specs.Prelude.{ℕ, List, ◌<◌, ◌≤◌, ◌+◌};
+    ghost use Rattle.std.specs.Prelude.{◌<◌, ◌≤◌, ◌+◌};
     ghost use Rattle.std.specs.Coded.{coded_list, coded_ℕ};
+    ghost use Rattle.txt_core.specs.Names.{Bytes};
     ghost use Rattle.load_gen.specs.Load.{most_requests};
     ghost use Rattle.load_gen.specs.Parts.{still};
 
-    ghost Value = { List ℕ };
+    ghost Value = { Bytes };
 
     ghost coded = { coded_list coded_ℕ };
 

@@ -1,52 +1,53 @@
 -- The checks of words: each gives the text of its error, where it finds one.
-use Rattle.std.specs.Prelude.{◌≡◌, ℕ, List, [], ℤ, pos, Option, None, Some, unwrap_or}
+use Rattle.std.specs.Prelude.{◌≡◌, ℕ, [], ℤ, pos, Option, None, Some, unwrap_or}
 use Rattle.std.proofs.Common.{ap}
+use Rattle.txt_core.specs.Names.{Bytes, Words}
 use Rattle.txt_core.specs.Number.{number}
 use Rattle.txt_core.specs.Lists.{Listing, elements, bad_at}
 use Rattle.txt_core.specs.Listing.{listing}
 use Rattle.txt_core.specs.ErrorTexts.{no_integer, no_list}
 
 -- a text that must be a number
-abbrev pub no_number : List ℕ → Option ℤ → Option (List ℕ)
+abbrev pub no_number : Bytes → Option ℤ → Option Bytes
 no_number text None = Some (no_integer text)
 no_number text (Some n) = None
 
-unfoldable pub integer_error : List ℕ → Option (List ℕ)
+unfoldable pub integer_error : Bytes → Option Bytes
 integer_error text = no_number text (number text)
 
 -- the number that it is
-unfoldable pub integer : List ℕ → ℤ
+unfoldable pub integer : Bytes → ℤ
 integer text = unwrap_or (number text) (pos 0)
 
 -- a text that must be a list
-abbrev pub bad_list : Listing → Option (List ℕ)
+abbrev pub bad_list : Listing → Option Bytes
 bad_list (elements list) = None
 bad_list (bad_at place) = Some (no_list place)
 
-unfoldable pub list_error : List ℕ → Option (List ℕ)
+unfoldable pub list_error : Bytes → Option Bytes
 list_error text = bad_list (listing text)
 
 -- the elements that it has
-abbrev pub listed : Listing → List (List ℕ)
+abbrev pub listed : Listing → Words
 listed (elements list) = list
 listed (bad_at place) = []
 
-unfoldable pub items : List ℕ → List (List ℕ)
+unfoldable pub items : Bytes → Words
 items text = listed (listing text)
 
 -- what the checks find, by what a reading of the text gives
-pub number_found : (text : List ℕ) (n : ℤ) → number text ≡ Some n → (integer_error text ≡ None) × (integer text ≡ n)
+pub number_found : (text : Bytes) (n : ℤ) → number text ≡ Some n → (integer_error text ≡ None) × (integer text ≡ n)
 unfolding integer_error integer
 number_found text n e = (ap (no_number text) e, ap (λ (o : Option ℤ). unwrap_or o (pos 0)) e)
 
-pub no_number_found : (text : List ℕ) → number text ≡ None → integer_error text ≡ Some (no_integer text)
+pub no_number_found : (text : Bytes) → number text ≡ None → integer_error text ≡ Some (no_integer text)
 unfolding integer_error
 no_number_found text e = ap (no_number text) e
 
-pub list_found : (text : List ℕ) (list : List (List ℕ)) → listing text ≡ elements list → (list_error text ≡ None) × (items text ≡ list)
+pub list_found : (text : Bytes) (list : Words) → listing text ≡ elements list → (list_error text ≡ None) × (items text ≡ list)
 unfolding list_error items
 list_found text list e = (ap bad_list e, ap listed e)
 
-pub no_list_found : (text : List ℕ) (place : ℕ) → listing text ≡ bad_at place → list_error text ≡ Some (no_list place)
+pub no_list_found : (text : Bytes) (place : ℕ) → listing text ≡ bad_at place → list_error text ≡ Some (no_list place)
 unfolding list_error
 no_list_found text place e = ap bad_list e

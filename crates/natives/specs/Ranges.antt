@@ -1,5 +1,6 @@
 -- How many words the commands take, the name among them.
-use Rattle.std.specs.Prelude.{ℕ, ◌≤◌, List, length, if◌then◌else◌, codes, bytes_eq}
+use Rattle.std.specs.Prelude.{ℕ, ◌≤◌, length, if◌then◌else◌, codes, bytes_eq}
+use Rattle.txt_core.specs.Names.{Bytes, Words}
 
 -- the least and the most words of a command
 pub record Range : Type 0 where
@@ -13,7 +14,7 @@ abbrev pub from_to : ℕ → ℕ → Range
 from_to least most = record { least = least; most = most }
 
 -- each command by its name; any other name has no range that a list of words could be in
-unfoldable pub range_of : List ℕ → Range
+unfoldable pub range_of : Bytes → Range
 range_of name =
     if bytes_eq name (codes "list") then from_to 1 200001
     else if bytes_eq name (codes "concat") then from_to 1 200001
@@ -31,5 +32,5 @@ range_of name =
     else from_to 1 0
 
 -- the number of words is one that the command of this name takes
-abbrev pub InRange : List ℕ → List (List ℕ) → Type 0
+abbrev pub InRange : Bytes → Words → Type 0
 InRange name words = ((range_of name).least ≤ length words) × (length words ≤ (range_of name).most)

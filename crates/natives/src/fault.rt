@@ -1,6 +1,7 @@
 //! Why a command has no result.
 
-ghost use Rattle.std.specs.Prelude.{◌≡◌, ℕ, List, IfOk};
+ghost use Rattle.std.specs.Prelude.{◌≡◌, IfOk};
+ghost use Rattle.txt_core.specs.Names.{Bytes};
 ghost use Rattle.natives.specs.Answers.{Says};
 ghost use Rattle.txt_core.specs.ErrorTexts.{wrong_words, unknown_subcommand, bad_value, no_integer, no_list, too_long, overflow};
 
@@ -39,7 +40,7 @@ impl From<AllocError> for Fault {
 impl Fault {
     /// The error of this text, or want of memory where there is no text for want of it.
     pub fn saying(text: Result<Text, NoMemory>) -> Fault
-        ensures { (said : List ℕ) → IfOk text (λ t. t ≡ said) → Says said result }
+        ensures { (said : Bytes) → IfOk text (λ t. t ≡ said) → Says said result }
     {
         match text {
             Ok(text) => Fault::Error(text),

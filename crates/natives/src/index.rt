@@ -44,7 +44,8 @@ pub fn read_index(word: &[u8], last: i64) -> Option<i128>
 /// `Error` exactly where the word is no index, with the text `bad value "WORD" for "COMMAND"`;
 /// `NoMemory` for want of memory alone.
 pub fn index_in(alloc: Global, word: &Text, last: i64, command: &str) -> Result<i128, Fault>
-    ensures { Tried (index_error command.now last word.now) (λ place. place ≡ index last word.now) result }
+    ensures { Tried (index_error command.now last word.now) (λ place. place ≡ index last word.now)
+        result }
 {
     match read_index(word.bytes(), last) {
         Some(place) => Ok(place),

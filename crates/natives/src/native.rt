@@ -30,7 +30,10 @@ impl Native {
     pub fn new(name: Text, least: u32, most: u32, call: Call) -> Native
         requires least { least ≡ (range_of name).least }
         requires most { most ≡ (range_of name).most }
-        requires answers { (alloc : _) (words : _) → InRange name words.now → Call.pre call alloc words × ((result : _) → Call.post call alloc words result → Answers (pure_of name words.now) result) }
+        requires answers { (alloc : _) (words : _) → InRange name words.now
+            → Call.pre call alloc words
+            × ((result : _) → Call.post call alloc words result
+            → Answers (pure_of name words.now) result) }
         ensures { result.name ≡ name }
     {
         Native {

@@ -29,7 +29,8 @@ impl Natives {
     pub fn add(&mut self, native: Native) -> Result<(), Native>
         requires { has_name (names_of self.old) (name_of native) ≡ false }
         ensures ok { OnOk result (names_of self.new ≡ names_of self.old ++ name_of native ∷ []) }
-        ensures kept { IfErr result (λ back. (back ≡ native) × (names_of self.new ≡ names_of self.old)) }
+        ensures kept { IfErr result (λ back.
+            (back ≡ native) × (names_of self.new ≡ names_of self.old)) }
     {
         match self.list.push(native) {
             Ok(()) => Ok(()),

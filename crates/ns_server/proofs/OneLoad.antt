@@ -12,7 +12,7 @@ use Rattle.rehearse.specs.Files.{ComesNext, End, whole, bad, EndsAs, Opens, Hold
 use Rattle.rehearse.specs.Lines.{Line}
 use Rattle.rehearse.specs.Objects.{Setting}
 use Rattle.rehearse.specs.Plays.{MayCome, Does, Plays, Moves, Lists, no_event, one_event}
-use Rattle.rehearse.specs.Steps.{Place, Step, RunsUntilIdle, last, more}
+use Rattle.rehearse.specs.Steps.{Position, Step, RunsUntilIdle, last, more}
 use Rattle.rehearse.specs.World.{World, Worker, idle, connected, new_connection, opening, as_started}
 use Rattle.ns_server.specs.Loads.{each, round_events, rounds_events, load_events}
 use Rattle.ns_server.proofs.EventSpelling.{IsOfLoad, is_small, same_event}
@@ -121,7 +121,7 @@ Onward events = (world : World) → HasFour world → Follows world events
 started_four : (done after : World) → after ≡ as_started done → HasFour done → HasFour after
 started_four done after is four = ap (λ (w : World). length w.workers) is ∙ four
 
-moves_four : (Goes : ℕ → Setting → Place → List Line → Place → Type 0) (world done : World) (number : ℕ) (lines : List Line) → Moves Goes world number lines done → HasFour world → HasFour done
+moves_four : (Goes : ℕ → Setting → Position → List Line → Position → Type 0) (world done : World) (number : ℕ) (lines : List Line) → Moves Goes world number lines done → HasFour world → HasFour done
 moves_four Goes world done number lines moves four =
     ap (λ (w : World). length w.workers) moves.after_is ∙ length-set world.workers number moves.place.worker ∙ four
 
@@ -130,7 +130,7 @@ set_there {A = A} xs i x h =
     let there : i < length (slice_set xs i x) = omega (arith, length-set xs i x) in
     slice_get-get_or (slice_set xs i x) i x there ∙ ap (λ (y : A). Some y) (get_or-set_same xs i x x h)
 
-runs_idle : {number : ℕ} {setting : Setting} {before after : Place} {lines : List Line} → RunsUntilIdle number setting before lines after → after.worker ≡ idle
+runs_idle : {number : ℕ} {setting : Setting} {before after : Position} {lines : List Line} → RunsUntilIdle number setting before lines after → after.worker ≡ idle
 runs_idle (last one idles) = idles
 runs_idle (more lines others one busy runs) = runs_idle runs
 

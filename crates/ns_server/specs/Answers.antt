@@ -1,5 +1,6 @@
 -- The status of a rehearsal, and of a load.
-use Rattle.std.specs.Prelude.{◌≡◌, ◌<◌, ℕ, List, length, take, Option}
+use Rattle.std.specs.Prelude.{◌≡◌, ◌<◌, ℕ, length, take, Option}
+use Rattle.txt_core.specs.Names.{Bytes}
 use Rattle.outside.specs.Faults.{Rose}
 use Rattle.outside.specs.Writing.{Gains}
 use Rattle.rehearse.specs.declared.answer.Rehearsal.{Rehearsal}
@@ -8,7 +9,7 @@ use Rattle.ns_server.specs.declared.status.Status.{Status}
 use Rattle.ns_server.specs.declared.status.Status.TheVariants.{Done, BadEvent, BadWords, ReadFault, WriteFault, NoMemory}
 
 -- The lines were written whole, or the output failed when it had taken a front of them; or memory ran out before.
-abbrev pub WritesSummary : List ℕ → Option (List ℕ) → ℕ → Status → Option (List ℕ) → ℕ → Type 0
+abbrev pub WritesSummary : Bytes → Option Bytes → ℕ → Status → Option Bytes → ℕ → Type 0
 WritesSummary text output faults Done output_after faults_after = Gains output text output_after
 WritesSummary text output faults WriteFault output_after faults_after =
     (sent : ℕ) × (sent < length text) × Gains output (take sent text) output_after × Rose faults faults_after

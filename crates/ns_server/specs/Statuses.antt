@@ -1,5 +1,6 @@
 -- The statuses of the program: their numbers, and what each says on errors.
-use Rattle.std.specs.Prelude.{ℕ, List, [], ◌∷◌, ◌++◌, codes, decimal}
+use Rattle.std.specs.Prelude.{ℕ, [], ◌∷◌, ◌++◌, codes, decimal}
+use Rattle.txt_core.specs.Names.{Bytes, Words}
 use Rattle.ns_server.specs.declared.status.Status.{Status}
 use Rattle.ns_server.specs.declared.status.Status.TheVariants.{Done, BadEvent, BadWords, ReadFault, WriteFault, NoMemory}
 
@@ -13,7 +14,7 @@ number_of WriteFault = 4
 number_of NoMemory = 5
 
 -- the line that is written on errors, with its newline; none where all went well
-abbrev pub line_of : Status → List ℕ
+abbrev pub line_of : Status → Bytes
 line_of Done = []
 line_of (BadEvent event) = codes "bad event " ++ decimal event ++ codes "\n"
 line_of BadWords = codes "bad words\n"
@@ -22,9 +23,9 @@ line_of WriteFault = codes "write fault\n"
 line_of NoMemory = codes "out of memory\n"
 
 -- the words of a rehearsal: `rehearse` alone
-abbrev pub rehearse_words : List (List ℕ)
+abbrev pub rehearse_words : Words
 rehearse_words = codes "rehearse" ∷ []
 
 -- the words of a load of so many requests: `load` and their number
-abbrev pub load_words : ℕ → List (List ℕ)
+abbrev pub load_words : ℕ → Words
 load_words requests = codes "load" ∷ decimal requests ∷ []

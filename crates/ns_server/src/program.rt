@@ -47,7 +47,8 @@ fn asks_rehearsal(words: &Words) -> bool
 
 /// How many requests the words ask a load of; `None` where they ask none.
 fn requests_asked(words: &Words) -> Option<u32>
-    ensures { MatchOption result ((requests : ℕ) → ¬ (AsksLoad words.now requests)) (λ requests. AsksLoad words.now requests) }
+    ensures { MatchOption result ((requests : ℕ) → ¬ (AsksLoad words.now requests)) (λ requests.
+        AsksLoad words.now requests) }
 {
     let [word, count] = words.as_slice() else {
         return None;
@@ -64,7 +65,8 @@ fn requests_asked(words: &Words) -> Option<u32>
 
 /// Writes the four lines that tell of so many requests and what was counted of their listing.
 fn write_summary<K: Sink>(alloc: Global, requests: u32, tally: Tally, output: &mut K) -> Status
-    ensures { WritesSummary (summary requests tally) (K.taken output.old) (K.faults output.old) result (K.taken output.new) (K.faults output.new) }
+    ensures { WritesSummary (summary requests tally) (K.taken output.old) (K.faults output.old)
+        result (K.taken output.new) (K.faults output.new) }
 {
     let Ok(text) = tally.summary(alloc, requests) else {
         return Status::NoMemory;
@@ -86,7 +88,10 @@ fn run_load<K: Sink, L: Ledger>(
 ) -> Status
     requires some { 1 ≤ requests }
     requires few { requests ≤ most_requests }
-    ensures { (before : Streams) → before.output ≡ K.taken output.old → before.write_faults ≡ K.faults output.old → LoadMeans (names_of natives.now) result requests before (record before { output = K.taken output.new; write_faults = K.faults output.new }) }
+    ensures { (before : Streams) → before.output ≡ K.taken output.old
+        → before.write_faults ≡ K.faults output.old
+        → LoadMeans (names_of natives.now) result requests before
+        (record before { output = K.taken output.new; write_faults = K.faults output.new }) }
 {
     let mut file = MadeFile::new(alloc, requests);
     match count_listing(alloc, natives, &mut file, steps) {
@@ -101,7 +106,9 @@ fn run_load<K: Sink, L: Ledger>(
 /// changes no status.
 pub fn report<E: Sink>(errors: &mut E, status: Status) -> u8
     ensures number { result ≡ number_of status }
-    ensures tells { (sent : Sent) × Sends (E.taken errors.old) (E.faults errors.old) (line_of status) sent (E.taken errors.new) (E.faults errors.new) }
+    ensures tells { (sent : Sent)
+        × Sends (E.taken errors.old) (E.faults errors.old) (line_of status) sent
+        (E.taken errors.new) (E.faults errors.new) }
 {
     let line = status.line();
     let _ = write_all(errors, line.as_str().as_bytes());

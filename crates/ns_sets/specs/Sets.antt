@@ -2,11 +2,12 @@
 use Rattle.std.specs.Prelude.{ℕ, List, [], ◌∷◌, ◌++◌, Option, Some, None, slice_set}
 use Rattle.std.specs.List.{slice_index_or}
 use Rattle.std.specs.Option.{option_map_or}
+use Rattle.txt_core.specs.Names.{Bytes}
 use Rattle.ns_sets.specs.Fields.{Field}
 use Rattle.ns_sets.specs.declared.set.Set.{Set}
 
 -- the name of a set, where one stands
-abbrev pub name_at : Option Set → List ℕ
+abbrev pub name_at : Option Set → Bytes
 name_at slot = option_map_or (λ set. set.name) slot []
 
 -- the fields of a set, where one stands
@@ -22,7 +23,7 @@ abbrev pub set_of : List (Option Set) → ℕ → Option Set
 set_of sets number = slice_index_or sets number None
 
 -- its name
-abbrev pub name_of : List (Option Set) → ℕ → List ℕ
+abbrev pub name_of : List (Option Set) → ℕ → Bytes
 name_of sets number = name_at (set_of sets number)
 
 -- its fields
@@ -30,7 +31,7 @@ abbrev pub fields_of : List (Option Set) → ℕ → List Field
 fields_of sets number = fields_at (set_of sets number)
 
 -- one more set behind all that were made
-abbrev pub with_new : List (Option Set) → List ℕ → List Field → List (Option Set)
+abbrev pub with_new : List (Option Set) → Bytes → List Field → List (Option Set)
 with_new sets name fields = sets ++ Some (record { name = name; fields = fields }) ∷ []
 
 -- these are the fields of the set of this number, and all else is as it was

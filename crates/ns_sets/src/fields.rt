@@ -28,9 +28,9 @@ pub struct Fields {
 }
 
 impl Model for Fields {
-    ghost use Rattle.std.specs.Prelude.{ℕ, List};
+    ghost use Rattle.txt_core.specs.Names.{Pairs};
 
-    ghost Value = { List (List ℕ × List ℕ) };
+    ghost Value = { Pairs };
 
     ghost view = { λ a. a.list.items };
 }
@@ -106,7 +106,8 @@ impl Fields {
 
     /// The key of the field at a place. `NoField` comes exactly where there is none.
     pub fn key_at(&self, alloc: Global, at: u64) -> Result<Text, SetFault>
-        ensures key { IfOk result (λ key. option_map (λ field. field.0) (slice_get self.now at) ≡ Some key) }
+        ensures key { IfOk result (λ key.
+            option_map (λ field. field.0) (slice_get self.now at) ≡ Some key) }
         ensures outside { (result ≡ Err SetFault.NoField) ↔ (length self.now ≤ at) }
         ensures other { result ≢ Err SetFault.NoSet }
     {
@@ -118,7 +119,8 @@ impl Fields {
 
     /// The value of the field at a place. `NoField` comes exactly where there is none.
     pub fn value_at(&self, alloc: Global, at: u64) -> Result<Text, SetFault>
-        ensures value { IfOk result (λ value. option_map (λ field. field.1) (slice_get self.now at) ≡ Some value) }
+        ensures value { IfOk result (λ value.
+            option_map (λ field. field.1) (slice_get self.now at) ≡ Some value) }
         ensures outside { (result ≡ Err SetFault.NoField) ↔ (length self.now ≤ at) }
         ensures other { result ≢ Err SetFault.NoSet }
     {
@@ -148,7 +150,8 @@ impl Fields {
         value: &Text,
     ) -> Result<i64, NoMemory>
         ensures place { IfOk result (λ place. place ≡ place_put (same matching) self.old key.now) }
-        ensures ok { OnOk result (self.new ≡ with_absent (same matching) self.old key.now value.now) }
+        ensures ok { OnOk result
+            (self.new ≡ with_absent (same matching) self.old key.now value.now) }
         ensures err { OnErr result (self.new ≡ self.old) }
     {
         if self.has(matching, key) {
@@ -159,8 +162,10 @@ impl Fields {
 
     /// Puts a field at the end in place of the first of its key, and gives its place.
     pub fn update(&mut self, alloc: Global, key: &Text, value: &Text) -> Result<i64, NoMemory>
-        ensures place { IfOk result (λ place. place ≡ pos (length (without_first exact self.old key.now))) }
-        ensures ok { OnOk result (self.new ≡ with_field (without_first exact self.old key.now) key.now value.now) }
+        ensures place { IfOk result (λ place.
+            place ≡ pos (length (without_first exact self.old key.now))) }
+        ensures ok { OnOk result
+            (self.new ≡ with_field (without_first exact self.old key.now) key.now value.now) }
         ensures err { OnErr result (self.new ≡ self.old) }
     {
         self.replace(alloc, key, value)?;
@@ -169,7 +174,8 @@ impl Fields {
 
     /// Puts a field at the end in place of the first of its key.
     fn replace(&mut self, alloc: Global, key: &Text, value: &Text) -> Result<(), NoMemory>
-        ensures ok { OnOk result (self.new ≡ with_field (without_first exact self.old key.now) key.now value.now) }
+        ensures ok { OnOk result
+            (self.new ≡ with_field (without_first exact self.old key.now) key.now value.now) }
         ensures err { OnErr result (self.new ≡ self.old) }
     {
         let standing = self.find(Matching::Exact, key);

@@ -70,7 +70,9 @@ impl Sets {
     /// has this number, and `NoField` never. Whatever the fault, no set is changed.
     pub fn put(&mut self, set: u64, key: &Text, value: &Text) -> Result<i64, SetFault>
         ensures place { IfOk result (λ place. place ≡ pos (length (fields_of self.old set))) }
-        ensures ok { OnOk result (self.new ≡ with_fields self.old set (with_field (fields_of self.old set) key.now value.now)) }
+        ensures ok { OnOk result
+            (self.new
+            ≡ with_fields self.old set (with_field (fields_of self.old set) key.now value.now)) }
 
         ensures absent { (result ≡ Err SetFault.NoSet) ↔ (set_of self.old set ≡ None) }
         ensures other { result ≢ Err SetFault.NoField }
@@ -86,8 +88,12 @@ impl Sets {
     /// the set has one, nothing is put, and the answer is -1. `NoSet` comes exactly where no set
     /// has this number, and `NoField` never. Whatever the fault, no set is changed.
     pub fn cput(&mut self, set: u64, key: &Text, value: &Text) -> Result<i64, SetFault>
-        ensures place { IfOk result (λ place. place ≡ place_put exact (fields_of self.old set) key.now) }
-        ensures ok { OnOk result (self.new ≡ with_fields self.old set (with_absent exact (fields_of self.old set) key.now value.now)) }
+        ensures place { IfOk result (λ place.
+            place ≡ place_put exact (fields_of self.old set) key.now) }
+        ensures ok { OnOk result
+            (self.new
+            ≡ with_fields self.old set
+            (with_absent exact (fields_of self.old set) key.now value.now)) }
 
         ensures absent { (result ≡ Err SetFault.NoSet) ↔ (set_of self.old set ≡ None) }
         ensures other { result ≢ Err SetFault.NoField }
@@ -101,8 +107,12 @@ impl Sets {
 
     /// As `cput`, but keys that differ only in the case of the letters A to Z are the same.
     pub fn icput(&mut self, set: u64, key: &Text, value: &Text) -> Result<i64, SetFault>
-        ensures place { IfOk result (λ place. place ≡ place_put ignoring_case (fields_of self.old set) key.now) }
-        ensures ok { OnOk result (self.new ≡ with_fields self.old set (with_absent ignoring_case (fields_of self.old set) key.now value.now)) }
+        ensures place { IfOk result (λ place.
+            place ≡ place_put ignoring_case (fields_of self.old set) key.now) }
+        ensures ok { OnOk result
+            (self.new
+            ≡ with_fields self.old set
+            (with_absent ignoring_case (fields_of self.old set) key.now value.now)) }
 
         ensures absent { (result ≡ Err SetFault.NoSet) ↔ (set_of self.old set ≡ None) }
         ensures other { result ≢ Err SetFault.NoField }
@@ -118,8 +128,12 @@ impl Sets {
     /// and gives its place then. `NoSet` comes exactly where no set has this number, and `NoField`
     /// never. Whatever the fault, no set is changed.
     pub fn update(&mut self, set: u64, key: &Text, value: &Text) -> Result<i64, SetFault>
-        ensures place { IfOk result (λ place. place ≡ pos (length (without_first exact (fields_of self.old set) key.now))) }
-        ensures ok { OnOk result (self.new ≡ with_fields self.old set (with_field (without_first exact (fields_of self.old set) key.now) key.now value.now)) }
+        ensures place { IfOk result (λ place.
+            place ≡ pos (length (without_first exact (fields_of self.old set) key.now))) }
+        ensures ok { OnOk result
+            (self.new
+            ≡ with_fields self.old set
+            (with_field (without_first exact (fields_of self.old set) key.now) key.now value.now)) }
 
         ensures absent { (result ≡ Err SetFault.NoSet) ↔ (set_of self.old set ≡ None) }
         ensures other { result ≢ Err SetFault.NoField }
@@ -134,7 +148,8 @@ impl Sets {
     /// The value of the first field of this key; the empty text where the set has none. `NoSet`
     /// comes exactly where no set has this number, and `NoField` never.
     pub fn get(&self, set: u64, key: &Text) -> Result<Text, SetFault>
-        ensures value { IfOk result (λ value. value ≡ value_of exact (fields_of self.now set) key.now) }
+        ensures value { IfOk result (λ value.
+            value ≡ value_of exact (fields_of self.now set) key.now) }
 
         ensures absent { (result ≡ Err SetFault.NoSet) ↔ (set_of self.now set ≡ None) }
         ensures other { result ≢ Err SetFault.NoField }
@@ -145,7 +160,8 @@ impl Sets {
 
     /// As `get`, but keys that differ only in the case of the letters A to Z are the same.
     pub fn iget(&self, set: u64, key: &Text) -> Result<Text, SetFault>
-        ensures value { IfOk result (λ value. value ≡ value_of ignoring_case (fields_of self.now set) key.now) }
+        ensures value { IfOk result (λ value.
+            value ≡ value_of ignoring_case (fields_of self.now set) key.now) }
 
         ensures absent { (result ≡ Err SetFault.NoSet) ↔ (set_of self.now set ≡ None) }
         ensures other { result ≢ Err SetFault.NoField }
@@ -157,7 +173,8 @@ impl Sets {
     /// The place of the first field of this key, counted from 0; -1 where the set has none.
     /// `NoSet`, the only fault, comes exactly where no set has this number.
     pub fn find(&self, set: u64, key: &Text) -> Result<i64, SetFault>
-        ensures place { IfOk result (λ place. place ≡ place_number (place_of exact (fields_of self.now set) key.now)) }
+        ensures place { IfOk result (λ place.
+            place ≡ place_number (place_of exact (fields_of self.now set) key.now)) }
 
         ensures absent { IsErr result ↔ (set_of self.now set ≡ None) }
         ensures fault { IfErr result (λ fault. fault ≡ SetFault.NoSet) }
@@ -168,7 +185,8 @@ impl Sets {
 
     /// As `find`, but keys that differ only in the case of the letters A to Z are the same.
     pub fn ifind(&self, set: u64, key: &Text) -> Result<i64, SetFault>
-        ensures place { IfOk result (λ place. place ≡ place_number (place_of ignoring_case (fields_of self.now set) key.now)) }
+        ensures place { IfOk result (λ place.
+            place ≡ place_number (place_of ignoring_case (fields_of self.now set) key.now)) }
 
         ensures absent { IsErr result ↔ (set_of self.now set ≡ None) }
         ensures fault { IfErr result (λ fault. fault ≡ SetFault.NoSet) }
@@ -180,7 +198,9 @@ impl Sets {
     /// Removes the first field of this key, where the set has one. `NoSet`, the only fault, comes
     /// exactly where no set has this number, and no set is then changed.
     pub fn delkey(&mut self, set: u64, key: &Text) -> Result<(), SetFault>
-        ensures ok { OnOk result (self.new ≡ with_fields self.old set (without_first exact (fields_of self.old set) key.now)) }
+        ensures ok { OnOk result
+            (self.new
+            ≡ with_fields self.old set (without_first exact (fields_of self.old set) key.now)) }
 
         ensures absent { IsErr result ↔ (set_of self.old set ≡ None) }
         ensures fault { IfErr result (λ fault. fault ≡ SetFault.NoSet) }
@@ -194,7 +214,10 @@ impl Sets {
 
     /// As `delkey`, but keys that differ only in the case of the letters A to Z are the same.
     pub fn idelkey(&mut self, set: u64, key: &Text) -> Result<(), SetFault>
-        ensures ok { OnOk result (self.new ≡ with_fields self.old set (without_first ignoring_case (fields_of self.old set) key.now)) }
+        ensures ok { OnOk result
+            (self.new
+            ≡ with_fields self.old set
+            (without_first ignoring_case (fields_of self.old set) key.now)) }
 
         ensures absent { IsErr result ↔ (set_of self.old set ≡ None) }
         ensures fault { IfErr result (λ fault. fault ≡ SetFault.NoSet) }
@@ -210,10 +233,12 @@ impl Sets {
     /// comes exactly where no set has this number, `NoField` exactly where the set has no field at
     /// this place, and `NoMemory` never. Whatever the fault, no set is changed.
     pub fn delete(&mut self, set: u64, at: u64) -> Result<(), SetFault>
-        ensures ok { OnOk result (self.new ≡ with_fields self.old set (remove (fields_of self.old set) at)) }
+        ensures ok { OnOk result
+            (self.new ≡ with_fields self.old set (remove (fields_of self.old set) at)) }
 
         ensures absent { (result ≡ Err SetFault.NoSet) ↔ (set_of self.old set ≡ None) }
-        ensures outside { (result ≡ Err SetFault.NoField) ↔ IsSomeAnd (set_of self.old set) (λ set. length set.fields ≤ at) }
+        ensures outside { (result ≡ Err SetFault.NoField)
+            ↔ IsSomeAnd (set_of self.old set) (λ set. length set.fields ≤ at) }
         ensures other { result ≢ Err SetFault.NoMemory }
         ensures err { OnErr result (self.new ≡ self.old) }
     {
@@ -226,7 +251,8 @@ impl Sets {
     /// Keeps the first `size` fields of a set, or all where it has no more. `NoSet`, the only
     /// fault, comes exactly where no set has this number, and no set is then changed.
     pub fn truncate(&mut self, set: u64, size: u64) -> Result<(), SetFault>
-        ensures ok { OnOk result (self.new ≡ with_fields self.old set (take size (fields_of self.old set))) }
+        ensures ok { OnOk result
+            (self.new ≡ with_fields self.old set (take size (fields_of self.old set))) }
 
         ensures absent { IsErr result ↔ (set_of self.old set ≡ None) }
         ensures fault { IfErr result (λ fault. fault ≡ SetFault.NoSet) }
@@ -243,9 +269,13 @@ impl Sets {
     /// is put where the two are one set. `NoSet` comes exactly where no set has one of the
     /// numbers, and `NoField` never. Whatever the fault, no set is changed.
     pub fn merge(&mut self, high: u64, low: u64) -> Result<(), SetFault>
-        ensures ok { OnOk result (self.new ≡ with_fields self.old high (merged (fields_of self.old high) (fields_of self.old low))) }
+        ensures ok { OnOk result
+            (self.new
+            ≡ with_fields self.old high
+            (merged (fields_of self.old high) (fields_of self.old low))) }
 
-        ensures absent { (result ≡ Err SetFault.NoSet) ↔ ((set_of self.old high ≡ None) ⊎ (set_of self.old low ≡ None)) }
+        ensures absent { (result ≡ Err SetFault.NoSet)
+            ↔ ((set_of self.old high ≡ None) ⊎ (set_of self.old low ≡ None)) }
         ensures other { result ≢ Err SetFault.NoField }
         ensures err { OnErr result (self.new ≡ self.old) }
     {
@@ -261,7 +291,8 @@ impl Sets {
     /// number `set`, and `NoField` never. Whatever the fault, no set is made.
     pub fn copy(&mut self, set: u64) -> Result<u64, SetFault>
         ensures number { IfOk result (λ number. number ≡ length self.old) }
-        ensures ok { OnOk result (self.new ≡ with_new self.old (name_of self.old set) (fields_of self.old set)) }
+        ensures ok { OnOk result
+            (self.new ≡ with_new self.old (name_of self.old set) (fields_of self.old set)) }
 
         ensures absent { (result ≡ Err SetFault.NoSet) ↔ (set_of self.old set ≡ None) }
         ensures other { result ≢ Err SetFault.NoField }
@@ -316,10 +347,12 @@ impl Sets {
     /// The key of the field at a place, counted from 0. `NoSet` comes exactly where no set has
     /// this number, and `NoField` exactly where the set has no field at this place.
     pub fn key(&self, set: u64, at: u64) -> Result<Text, SetFault>
-        ensures key { IfOk result (λ key. option_map (λ field. field.0) (slice_get (fields_of self.now set) at) ≡ Some key) }
+        ensures key { IfOk result (λ key.
+            option_map (λ field. field.0) (slice_get (fields_of self.now set) at) ≡ Some key) }
 
         ensures absent { (result ≡ Err SetFault.NoSet) ↔ (set_of self.now set ≡ None) }
-        ensures outside { (result ≡ Err SetFault.NoField) ↔ IsSomeAnd (set_of self.now set) (λ set. length set.fields ≤ at) }
+        ensures outside { (result ≡ Err SetFault.NoField)
+            ↔ IsSomeAnd (set_of self.now set) (λ set. length set.fields ≤ at) }
     {
         let set = self.standing(set)?;
         set.fields.key_at(self.alloc, at)
@@ -328,10 +361,12 @@ impl Sets {
     /// The value of the field at a place, counted from 0. `NoSet` comes exactly where no set has
     /// this number, and `NoField` exactly where the set has no field at this place.
     pub fn value(&self, set: u64, at: u64) -> Result<Text, SetFault>
-        ensures value { IfOk result (λ value. option_map (λ field. field.1) (slice_get (fields_of self.now set) at) ≡ Some value) }
+        ensures value { IfOk result (λ value.
+            option_map (λ field. field.1) (slice_get (fields_of self.now set) at) ≡ Some value) }
 
         ensures absent { (result ≡ Err SetFault.NoSet) ↔ (set_of self.now set ≡ None) }
-        ensures outside { (result ≡ Err SetFault.NoField) ↔ IsSomeAnd (set_of self.now set) (λ set. length set.fields ≤ at) }
+        ensures outside { (result ≡ Err SetFault.NoField)
+            ↔ IsSomeAnd (set_of self.now set) (λ set. length set.fields ≤ at) }
     {
         let set = self.standing(set)?;
         set.fields.value_at(self.alloc, at)
@@ -362,9 +397,12 @@ impl Sets {
 
     /// Copies of the fields that a merge puts at the end of the set `high`.
     fn lacking(&self, high: u64, low: u64) -> Result<Fields, SetFault>
-        ensures ok { IfOk result (λ fields. fields_of self.now high ++ fields ≡ merged (fields_of self.now high) (fields_of self.now low)) }
+        ensures ok { IfOk result (λ fields.
+            fields_of self.now high ++ fields
+            ≡ merged (fields_of self.now high) (fields_of self.now low)) }
 
-        ensures absent { (result ≡ Err SetFault.NoSet) ↔ ((set_of self.now high ≡ None) ⊎ (set_of self.now low ≡ None)) }
+        ensures absent { (result ≡ Err SetFault.NoSet)
+            ↔ ((set_of self.now high ≡ None) ⊎ (set_of self.now low ≡ None)) }
         ensures other { result ≢ Err SetFault.NoField }
     {
         let high = self.standing(high)?;

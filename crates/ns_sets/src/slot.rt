@@ -20,7 +20,8 @@ pub fn put_at(
     value: &Text,
 ) -> Result<i64, SetFault>
     ensures number { IfOk result (λ number. number ≡ pos (length (fields_at slot.old))) }
-    ensures ok { OnOk result (slot.new ≡ holding slot.old (with_field (fields_at slot.old) key.now value.now)) }
+    ensures ok { OnOk result
+        (slot.new ≡ holding slot.old (with_field (fields_at slot.old) key.now value.now)) }
     ensures absent { (result ≡ Err SetFault.NoSet) ↔ (slot.old ≡ None) }
     ensures other { result ≢ Err SetFault.NoField }
     ensures err { OnErr result (slot.new ≡ slot.old) }
@@ -39,8 +40,11 @@ pub fn put_absent_at(
     key: &Text,
     value: &Text,
 ) -> Result<i64, SetFault>
-    ensures number { IfOk result (λ number. number ≡ place_put (same matching) (fields_at slot.old) key.now) }
-    ensures ok { OnOk result (slot.new ≡ holding slot.old (with_absent (same matching) (fields_at slot.old) key.now value.now)) }
+    ensures number { IfOk result (λ number.
+        number ≡ place_put (same matching) (fields_at slot.old) key.now) }
+    ensures ok { OnOk result
+        (slot.new
+        ≡ holding slot.old (with_absent (same matching) (fields_at slot.old) key.now value.now)) }
     ensures absent { (result ≡ Err SetFault.NoSet) ↔ (slot.old ≡ None) }
     ensures other { result ≢ Err SetFault.NoField }
     ensures err { OnErr result (slot.new ≡ slot.old) }
@@ -58,8 +62,12 @@ pub fn update_at(
     key: &Text,
     value: &Text,
 ) -> Result<i64, SetFault>
-    ensures number { IfOk result (λ number. number ≡ pos (length (without_first exact (fields_at slot.old) key.now))) }
-    ensures ok { OnOk result (slot.new ≡ holding slot.old (with_field (without_first exact (fields_at slot.old) key.now) key.now value.now)) }
+    ensures number { IfOk result (λ number.
+        number ≡ pos (length (without_first exact (fields_at slot.old) key.now))) }
+    ensures ok { OnOk result
+        (slot.new
+        ≡ holding slot.old
+        (with_field (without_first exact (fields_at slot.old) key.now) key.now value.now)) }
     ensures absent { (result ≡ Err SetFault.NoSet) ↔ (slot.old ≡ None) }
     ensures other { result ≢ Err SetFault.NoField }
     ensures err { OnErr result (slot.new ≡ slot.old) }
@@ -85,7 +93,8 @@ pub fn append_at(slot: &mut Option<Set>, more: Fields) -> Result<(), SetFault>
 
 /// Removes the first field of a key from the set, where there is one.
 pub fn remove_key_at(slot: &mut Option<Set>, matching: Matching, key: &Text) -> Result<(), SetFault>
-    ensures ok { OnOk result (slot.new ≡ holding slot.old (without_first (same matching) (fields_at slot.old) key.now)) }
+    ensures ok { OnOk result
+        (slot.new ≡ holding slot.old (without_first (same matching) (fields_at slot.old) key.now)) }
     ensures absent { IsErr result ↔ (slot.old ≡ None) }
     ensures fault { IfErr result (λ fault. fault ≡ SetFault.NoSet) }
     ensures err { OnErr result (slot.new ≡ slot.old) }
@@ -103,7 +112,8 @@ pub fn remove_key_at(slot: &mut Option<Set>, matching: Matching, key: &Text) -> 
 pub fn delete_at(slot: &mut Option<Set>, at: u64) -> Result<(), SetFault>
     ensures ok { OnOk result (slot.new ≡ holding slot.old (remove (fields_at slot.old) at)) }
     ensures absent { (result ≡ Err SetFault.NoSet) ↔ (slot.old ≡ None) }
-    ensures outside { (result ≡ Err SetFault.NoField) ↔ IsSomeAnd slot.old (λ set. length set.fields ≤ at) }
+    ensures outside { (result ≡ Err SetFault.NoField)
+        ↔ IsSomeAnd slot.old (λ set. length set.fields ≤ at) }
     ensures other { result ≢ Err SetFault.NoMemory }
     ensures err { OnErr result (slot.new ≡ slot.old) }
 {

@@ -2,6 +2,7 @@
 use Rattle.std.specs.Prelude.{ℕ, ◌-◌, ◌%◌, List, sum, slice_get, slice_index, slice_set, replicate, if◌then◌else◌, codes, bytes_eq}
 use Rattle.std.specs.FinMap as map
 use Rattle.std.specs.Option.{unwrap_or}
+use Rattle.txt_core.specs.Names.{Bytes, Words}
 use Rattle.txt_core.specs.Limits.{bucket_count}
 use Rattle.nsv_bucket.specs.declared.reply.NsvReply.{NsvReply}
 use Rattle.nsv_bucket.specs.Arrays.{Arrays}
@@ -9,17 +10,17 @@ use Rattle.nsv_bucket.specs.Questions.{word_at, is_bucket_number}
 use Rattle.nsv_bucket.specs.Steps.{array_step}
 
 -- the number of the bucket in which the array of this name lies: the sum of the name's bytes modulo 8
-abbrev pub bucket_of : List ℕ → ℕ
+abbrev pub bucket_of : Bytes → ℕ
 bucket_of name = sum name % bucket_count
 
 -- the bucket that a word names: the digit that it is; bucket 0 where it is the number of none
-abbrev pub bucket_named : List ℕ → ℕ
+abbrev pub bucket_named : Bytes → ℕ
 bucket_named word = if is_bucket_number word then slice_index word 0 - 48 else 0
 
 -- The bucket to which words are put. Those of `nsv_names` name it by their second word. Those of `nsv_array` are about
 -- the array that is their third word, and all others about the array that is their second; a word that is absent counts
 -- as the empty name.
-abbrev pub bucket_asked : List (List ℕ) → ℕ
+abbrev pub bucket_asked : Words → ℕ
 bucket_asked words =
     if bytes_eq (word_at words 0) (codes "nsv_names") then bucket_named (word_at words 1)
     else if bytes_eq (word_at words 0) (codes "nsv_array") then bucket_of (word_at words 2)
@@ -38,7 +39,7 @@ abbrev pub no_arrays : AllArrays
 no_arrays = replicate bucket_count map.empty
 
 -- the bucket to which the words are put answers them; the others are as they were
-abbrev pub buckets_step : AllArrays → List (List ℕ) → NsvReply × AllArrays
+abbrev pub buckets_step : AllArrays → Words → NsvReply × AllArrays
 buckets_step buckets words =
     let step = array_step (arrays_of buckets (bucket_asked words)) words in
     (step.0, slice_set buckets (bucket_asked words) step.1)

@@ -1,9 +1,10 @@
 -- What words do to a bucket: the reply, and the arrays after it.
-use Rattle.std.specs.Prelude.{◌≡◌, ◌⊎◌, ℕ, List, [], Option, None, Some}
+use Rattle.std.specs.Prelude.{◌≡◌, ◌⊎◌, [], Option, None, Some}
+use Rattle.txt_core.specs.Names.{Words}
 use Rattle.nsv_bucket.specs.declared.reply.NsvReply.{NsvReply}
 use Rattle.nsv_bucket.specs.declared.reply.NsvReply.TheVariants.{Failed, NoMemory}
-use Rattle.nsv_bucket.specs.declared.question.Question.{Question}
-use Rattle.nsv_bucket.specs.declared.question.Question.TheVariants.{Set, Get, Exists, Incr, Append, Lappend, Unset, Names, ArraySet, ArrayReset, ArrayGet, ArrayNames, ArraySize, ArrayExists}
+use Rattle.nsv_bucket.specs.declared.question.ArrayQuestion.{ArrayQuestion}
+use Rattle.nsv_bucket.specs.declared.question.ArrayQuestion.TheVariants.{Set, Get, Exists, Incr, Append, Lappend, Unset, Names, ArraySet, ArrayReset, ArrayGet, ArrayNames, ArraySize, ArrayExists}
 use Rattle.nsv_bucket.specs.Arrays.{Arrays}
 use Rattle.nsv_bucket.specs.Questions.{question_of}
 use Rattle.nsv_bucket.specs.Replies.{Outcome}
@@ -12,7 +13,7 @@ use Rattle.nsv_bucket.specs.Writes.{set_step, incr_step, append_step, unset_step
 use Rattle.nsv_bucket.specs.Lists.{lappend_step, array_set_step, array_reset_step}
 
 -- each question has its step
-abbrev pub question_step : Question → Arrays → List (List ℕ) → Outcome
+abbrev pub question_step : ArrayQuestion → Arrays → Words → Outcome
 question_step Set arrays words = set_step arrays words
 question_step Get arrays words = get_step arrays words
 question_step Exists arrays words = exists_step arrays words
@@ -29,18 +30,18 @@ question_step ArraySize arrays words = array_size_step arrays words
 question_step ArrayExists arrays words = array_exists_step arrays words
 
 -- words that are no question are refused with the empty text, and leave the arrays
-abbrev pub step_by : Option Question → Arrays → List (List ℕ) → Outcome
+abbrev pub step_by : Option ArrayQuestion → Arrays → Words → Outcome
 step_by None arrays words = (Failed [], arrays)
 step_by (Some question) arrays words = question_step question arrays words
 
 -- the step of words
-abbrev pub array_step : Arrays → List (List ℕ) → Outcome
+abbrev pub array_step : Arrays → Words → Outcome
 array_step arrays words = step_by (question_of words) arrays words
 
 -- the words take the first arrays to this reply and the second arrays; for want of memory the arrays are as they were
-abbrev pub Steps : Arrays → List (List ℕ) → NsvReply → Arrays → Type 0
+abbrev pub Steps : Arrays → Words → NsvReply → Arrays → Type 0
 Steps before words reply after = ((reply ≡ (array_step before words).0) × (after ≡ (array_step before words).1)) ⊎ ((reply ≡ NoMemory) × (after ≡ before))
 
 -- words have one reply and one map of arrays after it, but for want of memory
 abbrev pub StepsAreDetermined : Type 0
-StepsAreDetermined = (before one other : Arrays) (words : List (List ℕ)) (r s : NsvReply) → Steps before words r one → Steps before words s other → (r ≡ NoMemory → ⊥) → (s ≡ NoMemory → ⊥) → (r ≡ s) × (one ≡ other)
+StepsAreDetermined = (before one other : Arrays) (words : Words) (r s : NsvReply) → Steps before words r one → Steps before words s other → (r ≡ NoMemory → ⊥) → (s ≡ NoMemory → ⊥) → (r ≡ s) × (one ≡ other)

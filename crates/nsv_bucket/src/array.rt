@@ -112,7 +112,8 @@ impl NsvArray {
     ) -> Result<Text, NoMemory>
         requires { Holds known (text_at self.old key.now ++ more.now) }
         ensures value { IfOk result (λ text. text ≡ text_at self.old key.now ++ more.now) }
-        ensures ok { OnOk result (self.new ≡ map.insert self.old key.now (text_at self.old key.now ++ more.now)) }
+        ensures ok { OnOk result
+            (self.new ≡ map.insert self.old key.now (text_at self.old key.now ++ more.now)) }
         ensures err { OnErr result (self.new ≡ self.old) }
     {
         match self.values.get_mut(key) {
@@ -149,14 +150,16 @@ impl NsvArray {
 
     /// The keys that the pattern matches, or all, in byte order.
     pub fn names(&self, alloc: Global, pattern: Option<&Text>) -> Result<Words, NoMemory>
-        ensures { IfOk result (λ found. found ≡ names_in (option_copied pattern.entry) (map.entries self.now)) }
+        ensures { IfOk result (λ found.
+            found ≡ names_in (option_copied pattern.entry) (map.entries self.now)) }
     {
         names(alloc, &self.values, pattern)
     }
 
     /// The keys that the pattern matches, or all, each followed by its value, in byte order.
     pub fn pairs(&self, alloc: Global, pattern: Option<&Text>) -> Result<Words, NoMemory>
-        ensures { IfOk result (λ found. found ≡ pairs_in (option_copied pattern.entry) (map.entries self.now)) }
+        ensures { IfOk result (λ found.
+            found ≡ pairs_in (option_copied pattern.entry) (map.entries self.now)) }
     {
         pairs(alloc, &self.values, pattern)
     }

@@ -39,7 +39,9 @@ fn place_first(
     key: &Text,
     value: Text,
 ) -> Result<(), NoMemory>
-    ensures ok { OnOk result (seen arrays.new ≡ map.insert (seen arrays.old) name.now (map.insert map.empty key.now value)) }
+    ensures ok { OnOk result
+        (seen arrays.new
+        ≡ map.insert (seen arrays.old) name.now (map.insert map.empty key.now value)) }
     ensures err { OnErr result (seen arrays.new ≡ seen arrays.old) }
 {
     let mut array = NsvArray::new(alloc);
@@ -56,7 +58,8 @@ pub(crate) fn put_value(
     key: &Text,
     value: Text,
 ) -> Result<(), NoMemory>
-    ensures ok { OnOk result (seen arrays.new ≡ with_value (seen arrays.old) name.now key.now value) }
+    ensures ok { OnOk result
+        (seen arrays.new ≡ with_value (seen arrays.old) name.now key.now value) }
     ensures err { OnErr result (seen arrays.new ≡ seen arrays.old) }
 {
     match arrays.get_mut(name) {
@@ -77,8 +80,12 @@ pub(crate) fn append_value(
     known: Known,
 ) -> Result<Text, NoMemory>
     requires { Holds known (text_at (array_of (seen arrays.old) name.now) key.now ++ more.now) }
-    ensures value { IfOk result (λ text. text ≡ text_at (array_of (seen arrays.old) name.now) key.now ++ more.now) }
-    ensures ok { OnOk result (seen arrays.new ≡ with_value (seen arrays.old) name.now key.now (text_at (array_of (seen arrays.old) name.now) key.now ++ more.now)) }
+    ensures value { IfOk result (λ text.
+        text ≡ text_at (array_of (seen arrays.old) name.now) key.now ++ more.now) }
+    ensures ok { OnOk result
+        (seen arrays.new
+        ≡ with_value (seen arrays.old) name.now key.now
+        (text_at (array_of (seen arrays.old) name.now) key.now ++ more.now)) }
     ensures err { OnErr result (seen arrays.new ≡ seen arrays.old) }
 {
     match arrays.get_mut(name) {
@@ -100,7 +107,8 @@ pub(crate) fn place_pairs(
     name: &Text,
     pairs: &[Text],
 ) -> Result<(), NoMemory>
-    ensures ok { OnOk result (seen arrays.new ≡ map.insert (seen arrays.old) name.now (with_pairs map.empty pairs.now)) }
+    ensures ok { OnOk result
+        (seen arrays.new ≡ map.insert (seen arrays.old) name.now (with_pairs map.empty pairs.now)) }
     ensures err { OnErr result (seen arrays.new ≡ seen arrays.old) }
 {
     let mut array = NsvArray::new(alloc);
@@ -117,7 +125,10 @@ pub(crate) fn put_pairs(
     name: &Text,
     pairs: &[Text],
 ) -> Result<(), NoMemory>
-    ensures ok { OnOk result (seen arrays.new ≡ map.insert (seen arrays.old) name.now (with_pairs (array_of (seen arrays.old) name.now) pairs.now)) }
+    ensures ok { OnOk result
+        (seen arrays.new
+        ≡ map.insert (seen arrays.old) name.now
+        (with_pairs (array_of (seen arrays.old) name.now) pairs.now)) }
     ensures err { OnErr result (seen arrays.new ≡ seen arrays.old) }
 {
     match arrays.get_mut(name) {

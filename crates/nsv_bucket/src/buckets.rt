@@ -78,8 +78,10 @@ impl Model for Buckets {
 /// Puts words to the bucket at a place of a list.
 fn put_to(list: &mut [Bucket], at: usize, words: &Words) -> Result<NsvReply, NoMemory>
     requires { at < length list.old }
-    ensures reply { IfOk result (λ reply. reply ≡ (array_step (arrays_of list.old at) words.now).0) }
-    ensures ok { OnOk result (list.new ≡ slice_set list.old at (array_step (arrays_of list.old at) words.now).1) }
+    ensures reply { IfOk result (λ reply.
+        reply ≡ (array_step (arrays_of list.old at) words.now).0) }
+    ensures ok { OnOk result
+        (list.new ≡ slice_set list.old at (array_step (arrays_of list.old at) words.now).1) }
     ensures err { OnErr result (list.new ≡ list.old) }
 {
     list[at].ask(words)

@@ -34,7 +34,10 @@ pub(crate) fn names<V>(
     map: &BTreeMap<Text, V>,
     pattern: Option<&Text>,
 ) -> Result<Words, NoMemory>
-    ensures { IfOk result (λ found. found ≡ names_in (option_copied pattern.entry) (fin.entries (fin.from_entries {R = text_cmp} map.now.entries))) }
+    ensures { IfOk result (λ found.
+        found
+        ≡ names_in (option_copied pattern.entry)
+        (fin.entries (fin.from_entries {R = text_cmp} map.now.entries))) }
 {
     let mut found = Words::new(alloc);
     for (key, _) in map {
@@ -51,7 +54,10 @@ pub(crate) fn pairs(
     map: &BTreeMap<Text, Text>,
     pattern: Option<&Text>,
 ) -> Result<Words, NoMemory>
-    ensures { IfOk result (λ found. found ≡ pairs_in (option_copied pattern.entry) (fin.entries (fin.from_entries {R = text_cmp} map.now.entries))) }
+    ensures { IfOk result (λ found.
+        found
+        ≡ pairs_in (option_copied pattern.entry)
+        (fin.entries (fin.from_entries {R = text_cmp} map.now.entries))) }
 {
     let mut found = Words::new(alloc);
     for (key, value) in map {

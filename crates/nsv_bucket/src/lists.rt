@@ -56,7 +56,10 @@ fn write(
     base: Base,
     pairs: &[Text],
 ) -> Result<(), NoMemory>
-    ensures ok { OnOk result (seen arrays.new ≡ map.insert (seen arrays.old) name.now (with_pairs (base_of (seen arrays.old) name.now base) pairs.now)) }
+    ensures ok { OnOk result
+        (seen arrays.new
+        ≡ map.insert (seen arrays.old) name.now
+        (with_pairs (base_of (seen arrays.old) name.now base) pairs.now)) }
     ensures err { OnErr result (seen arrays.new ≡ seen arrays.old) }
 {
     match base {
@@ -68,8 +71,12 @@ fn write(
 /// Writes the pairs of the list that the words have, where they can be written.
 fn pair(alloc: Global, arrays: &mut Arrays, words: &Words, base: Base) -> Result<NsvReply, NoMemory>
     requires { 4 ≤ length words.now }
-    ensures reply { IfOk result (λ reply. reply ≡ (paired (seen arrays.old) words.now (base_of (seen arrays.old) (word_at words.now 2) base) (listing (word_at words.now 3))).0) }
-    ensures ok { OnOk result (seen arrays.new ≡ (paired (seen arrays.old) words.now (base_of (seen arrays.old) (word_at words.now 2) base) (listing (word_at words.now 3))).1) }
+    ensures reply { IfOk result (λ reply.
+        reply
+        ≡ (paired (seen arrays.old) words.now (base_of (seen arrays.old) (word_at words.now 2) base) (listing (word_at words.now 3))).0) }
+    ensures ok { OnOk result
+        (seen arrays.new
+        ≡ (paired (seen arrays.old) words.now (base_of (seen arrays.old) (word_at words.now 2) base) (listing (word_at words.now 3))).1) }
     ensures err { OnErr result (seen arrays.new ≡ seen arrays.old) }
 {
     match split(alloc, word(words, 3)) {
@@ -88,8 +95,12 @@ fn pair_elements(
     pairs: &Words,
 ) -> Result<NsvReply, NoMemory>
     requires { 4 ≤ length words.now }
-    ensures reply { IfOk result (λ reply. reply ≡ (paired (seen arrays.old) words.now (base_of (seen arrays.old) (word_at words.now 2) base) (elements pairs.now)).0) }
-    ensures ok { OnOk result (seen arrays.new ≡ (paired (seen arrays.old) words.now (base_of (seen arrays.old) (word_at words.now 2) base) (elements pairs.now)).1) }
+    ensures reply { IfOk result (λ reply.
+        reply
+        ≡ (paired (seen arrays.old) words.now (base_of (seen arrays.old) (word_at words.now 2) base) (elements pairs.now)).0) }
+    ensures ok { OnOk result
+        (seen arrays.new
+        ≡ (paired (seen arrays.old) words.now (base_of (seen arrays.old) (word_at words.now 2) base) (elements pairs.now)).1) }
     ensures err { OnErr result (seen arrays.new ≡ seen arrays.old) }
 {
     let pairs = pairs.as_slice();
@@ -124,7 +135,8 @@ pub(crate) fn array_reset(
     words: &Words,
 ) -> Result<NsvReply, NoMemory>
     requires { 4 ≤ length words.now }
-    ensures reply { IfOk result (λ reply. reply ≡ (array_reset_step (seen arrays.old) words.now).0) }
+    ensures reply { IfOk result (λ reply.
+        reply ≡ (array_reset_step (seen arrays.old) words.now).0) }
     ensures ok { OnOk result (seen arrays.new ≡ (array_reset_step (seen arrays.old) words.now).1) }
     ensures err { OnErr result (seen arrays.new ≡ seen arrays.old) }
 {

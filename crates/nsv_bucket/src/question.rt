@@ -7,7 +7,7 @@ use txt_core::{Text, Words};
 
 /// A question on shared arrays.
 #[derive(Clone, Copy, Debug, PartialEq, Eq)]
-pub enum Question {
+pub enum ArrayQuestion {
     /// `nsv_set ARRAY KEY VALUE`
     Set,
     /// `nsv_get ARRAY KEY`
@@ -89,22 +89,22 @@ pub(crate) fn is_bucket(word: &[u8]) -> bool
 }
 
 /// The question of `nsv_array`.
-fn array_question(words: &Words) -> Option<Question>
+fn array_question(words: &Words) -> Option<ArrayQuestion>
     ensures question { result ≡ array_question_of words.now }
     ensures words { IfSome result (λ question. least_words question ≤ length words.now) }
 {
     if is_asked_of_array(words, b"set", 4, 4) {
-        Some(Question::ArraySet)
+        Some(ArrayQuestion::ArraySet)
     } else if is_asked_of_array(words, b"reset", 4, 4) {
-        Some(Question::ArrayReset)
+        Some(ArrayQuestion::ArrayReset)
     } else if is_asked_of_array(words, b"get", 3, 4) {
-        Some(Question::ArrayGet)
+        Some(ArrayQuestion::ArrayGet)
     } else if is_asked_of_array(words, b"names", 3, 4) {
-        Some(Question::ArrayNames)
+        Some(ArrayQuestion::ArrayNames)
     } else if is_asked_of_array(words, b"size", 3, 3) {
-        Some(Question::ArraySize)
+        Some(ArrayQuestion::ArraySize)
     } else if is_asked_of_array(words, b"exists", 3, 3) {
-        Some(Question::ArrayExists)
+        Some(ArrayQuestion::ArrayExists)
     } else {
         None
     }
@@ -112,14 +112,14 @@ fn array_question(words: &Words) -> Option<Question>
 
 /// The question of `nsv_append` or `nsv_lappend`, which have no greatest number of words, or of
 /// `nsv_array`.
-fn adding_question(words: &Words) -> Option<Question>
+fn adding_question(words: &Words) -> Option<ArrayQuestion>
     ensures question { result ≡ adding_question_of words.now }
     ensures words { IfSome result (λ question. least_words question ≤ length words.now) }
 {
     if is_word(words, 0, b"nsv_append") && words.len() >= 4 {
-        Some(Question::Append)
+        Some(ArrayQuestion::Append)
     } else if is_word(words, 0, b"nsv_lappend") && words.len() >= 4 {
-        Some(Question::Lappend)
+        Some(ArrayQuestion::Lappend)
     } else {
         array_question(words)
     }
@@ -127,22 +127,22 @@ fn adding_question(words: &Words) -> Option<Question>
 
 /// The question that the words are. `None` exactly where they are none: they have another name, a
 /// number of words that the command doesn't take, or a subcommand that `nsv_array` lacks.
-pub(crate) fn read_question(words: &Words) -> Option<Question>
+pub(crate) fn read_question(words: &Words) -> Option<ArrayQuestion>
     ensures question { result ≡ question_of words.now }
     ensures words { IfSome result (λ question. least_words question ≤ length words.now) }
 {
     if is_asked(words, b"nsv_set", 4, 4) {
-        Some(Question::Set)
+        Some(ArrayQuestion::Set)
     } else if is_asked(words, b"nsv_get", 3, 3) {
-        Some(Question::Get)
+        Some(ArrayQuestion::Get)
     } else if is_asked(words, b"nsv_exists", 3, 3) {
-        Some(Question::Exists)
+        Some(ArrayQuestion::Exists)
     } else if is_asked(words, b"nsv_incr", 3, 4) {
-        Some(Question::Incr)
+        Some(ArrayQuestion::Incr)
     } else if is_asked(words, b"nsv_unset", 2, 3) {
-        Some(Question::Unset)
+        Some(ArrayQuestion::Unset)
     } else if is_asked(words, b"nsv_names", 2, 3) && is_bucket(bytes_at(words, 1)) {
-        Some(Question::Names)
+        Some(ArrayQuestion::Names)
     } else {
         adding_question(words)
     }

@@ -29,8 +29,10 @@ fn store(
     key: &Text,
     mut value: Text,
 ) -> Result<NsvReply, NoMemory>
-    ensures reply { IfOk result (λ reply. reply ≡ (stored (seen arrays.old) name.now key.now value).0) }
-    ensures ok { OnOk result (seen arrays.new ≡ (stored (seen arrays.old) name.now key.now value).1) }
+    ensures reply { IfOk result (λ reply.
+        reply ≡ (stored (seen arrays.old) name.now key.now value).0) }
+    ensures ok { OnOk result
+        (seen arrays.new ≡ (stored (seen arrays.old) name.now key.now value).1) }
     ensures err { OnErr result (seen arrays.new ≡ seen arrays.old) }
 {
     if is_too_long(&value) {
@@ -55,7 +57,10 @@ pub(crate) fn set(alloc: Global, arrays: &mut Arrays, words: &Words) -> Result<N
 /// The value of a key, or another text where the key is absent.
 fn standing(alloc: Global, arrays: &Arrays, words: &Words, absent: &[u8]) -> Result<Text, NoMemory>
     requires { 3 ≤ length words.now }
-    ensures { IfOk result (λ text. text ≡ unwrap_or (value_of (seen arrays.now) (word_at words.now 1) (word_at words.now 2)) absent.now) }
+    ensures { IfOk result (λ text.
+        text
+        ≡ unwrap_or (value_of (seen arrays.now) (word_at words.now 1) (word_at words.now 2))
+        absent.now) }
 {
     match value(arrays, word(words, 1), word(words, 2)) {
         Some(value) => copied(alloc, value),
@@ -133,8 +138,10 @@ fn grow(
     known: Known,
 ) -> Result<NsvReply, NoMemory>
     requires { Holds known (text_at (array_of (seen arrays.old) name.now) key.now ++ more.now) }
-    ensures reply { IfOk result (λ reply. reply ≡ (grown (seen arrays.old) name.now key.now more.now).0) }
-    ensures ok { OnOk result (seen arrays.new ≡ (grown (seen arrays.old) name.now key.now more.now).1) }
+    ensures reply { IfOk result (λ reply.
+        reply ≡ (grown (seen arrays.old) name.now key.now more.now).0) }
+    ensures ok { OnOk result
+        (seen arrays.new ≡ (grown (seen arrays.old) name.now key.now more.now).1) }
     ensures err { OnErr result (seen arrays.new ≡ seen arrays.old) }
 {
     let front = length_of(arrays, name, key);
@@ -180,7 +187,8 @@ pub(crate) fn append(
 
 /// The value of a key, where it is known to be a list of at least one element, as a list is written.
 fn written_list<'a>(arrays: &'a Arrays, name: &Text, key: &Text) -> Option<&'a Text>
-    ensures value { IfSome result (λ list. list.now ≡ text_at (array_of (seen arrays.now) name.now) key.now) }
+    ensures value { IfSome result (λ list.
+        list.now ≡ text_at (array_of (seen arrays.now) name.now) key.now) }
     ensures list { IfSome result (λ list. IsWrittenList list.now) }
 {
     match value(arrays, name, key) {
@@ -235,7 +243,8 @@ fn unset_of_key(
     name: &Text,
     key: &Text,
 ) -> Result<NsvReply, NoMemory>
-    ensures reply { IfOk result (λ reply. reply ≡ (unset_key (seen arrays.old) name.now key.now).0) }
+    ensures reply { IfOk result (λ reply.
+        reply ≡ (unset_key (seen arrays.old) name.now key.now).0) }
     ensures ok { OnOk result (seen arrays.new ≡ (unset_key (seen arrays.old) name.now key.now).1) }
     ensures err { OnErr result (seen arrays.new ≡ seen arrays.old) }
 {

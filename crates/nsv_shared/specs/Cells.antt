@@ -1,5 +1,6 @@
 -- What a clause says of the eight cells and of their passes, a line for each bucket.
 use Rattle.std.specs.Prelude.{◌≡◌, ℕ, ◌≤◌, List}
+use Rattle.txt_core.specs.Names.{Words}
 use Rattle.turn_cell.specs.Cells.{pass_view, IsOf}
 use Rattle.turn_cell.specs.Passes.{WHOLE, joined}
 use Rattle.turn_cell.specs.Steps.{IsInOrder}
@@ -123,7 +124,7 @@ AreInOrder pass =
     × IsInOrder (pass_view pass.b7)
 
 -- one turn, on the bucket with the number that is asked
-abbrev pub Asks : (asked place : ℕ) → List (List ℕ) → NsvReply → NsvPass → NsvPass → Type 0
+abbrev pub Asks : (asked place : ℕ) → Words → NsvReply → NsvPass → NsvPass → Type 0
 Asks asked place words reply before after =
     TurnsAt asked 0 place words reply (pass_view before.b0) (pass_view after.b0)
     × TurnsAt asked 1 place words reply (pass_view before.b1) (pass_view after.b1)

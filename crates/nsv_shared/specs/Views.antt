@@ -1,6 +1,7 @@
 -- What a pass knows of one bucket.
-use Rattle.std.specs.Prelude.{◌≡◌, ◌≢◌, ℕ, ◌-◌, List}
+use Rattle.std.specs.Prelude.{◌≡◌, ◌≢◌, ℕ, ◌-◌}
 use Rattle.std.specs.FinMap as map
+use Rattle.txt_core.specs.Names.{Words}
 use Rattle.turn_cell.specs.declared.view.View.{View}
 use Rattle.turn_cell.specs.History.{after_of, IsHistory}
 use Rattle.turn_cell.specs.Passes.{WHOLE, fresh}
@@ -11,7 +12,7 @@ use Rattle.nsv_bucket.specs.Steps.{Steps}
 
 -- what a pass knows of one bucket
 abbrev pub BucketView : Type 0
-BucketView = View Arrays (List (List ℕ)) NsvReply
+BucketView = View Arrays Words NsvReply
 
 -- a pass with the whole share, which knows of no turn, of a bucket that was put in with no array
 abbrev pub opening : BucketView
@@ -25,7 +26,7 @@ abbrev pub part_of : BucketView → BucketView
 part_of v = fresh 1 v.seen v.opening v.low
 
 -- A turn on the bucket that is asked; any other bucket's pass stays as it is.
-abbrev pub TurnsAt : (asked here place : ℕ) → List (List ℕ) → NsvReply → BucketView → BucketView → Type 0
+abbrev pub TurnsAt : (asked here place : ℕ) → Words → NsvReply → BucketView → BucketView → Type 0
 TurnsAt asked here place words reply v w =
     (asked ≡ here → Turns (λ s. Unit {0}) (λ s t. Unit {0}) Steps v place words reply w) × (asked ≢ here → w ≡ v)
 

@@ -1,10 +1,11 @@
 -- What a net holds.
 use Rattle.std.specs.Prelude.{ℕ, Bool, List, Option}
+use Rattle.txt_core.specs.Names.{Bytes}
 
 -- A connection still to come: all that its peer sends, and the peer's name.
 pub record Guest : Type 0 where
-  pub input : List ℕ
-  pub peer : List ℕ
+  pub input : Bytes
+  pub peer : Bytes
 
 -- A net, as contracts see it.
 pub record NetState : Type 0 where

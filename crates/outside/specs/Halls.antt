@@ -1,5 +1,6 @@
 -- A net in memory.
 use Rattle.std.specs.Prelude.{ℕ, ◌≡◌, Bool, true, false, List, [], ◌∷◌, map, Some}
+use Rattle.txt_core.specs.Names.{Bytes}
 use Rattle.outside.specs.Calls.{Calls, NextFails, counted, after_good, after_fault}
 use Rattle.outside.specs.Guests.{Guest, NetState}
 use Rattle.outside.specs.Supply.{Supply}
@@ -28,7 +29,7 @@ abbrev pub state_of : Hall → NetState
 state_of hall = record { faults = hall.calls.faults; given = hall.given; ended = hall.ended; coming = Some (map guest_of hall.coming) }
 
 -- no call was made yet, and these are to fail
-abbrev pub no_call : List ℕ → Calls
+abbrev pub no_call : Bytes → Calls
 no_call fails = record { fails = fails; made = 0; faults = 0 }
 
 -- the source and the sink of a connection that is given

@@ -1,5 +1,6 @@
 -- What the calls on a net do.
-use Rattle.std.specs.Prelude.{ℕ, ◌≡◌, ◌≤◌, Bool, true, false, List, [], ◌∷◌, Option, Some}
+use Rattle.std.specs.Prelude.{◌≡◌, ◌≤◌, Bool, true, false, List, [], ◌∷◌, Option, Some}
+use Rattle.txt_core.specs.Names.{Bytes}
 use Rattle.outside.specs.Faults.{Rose}
 use Rattle.outside.specs.Calls.{counted}
 use Rattle.outside.specs.Guests.{Guest, NetState}
@@ -24,7 +25,7 @@ pub record Listens (before : NetState) (listens : Bool) (after : NetState) : Typ
 
 -- One connection more was given. Where those still to come are told, it is the first of them, and the others are still
 -- to come; and where its source tells what is left, that is all that its peer sends.
-pub record Gives (before : NetState) (rest : Option (List ℕ)) (peer : List ℕ) (after : NetState) : Type 0 where
+pub record Gives (before : NetState) (rest : Option Bytes) (peer : Bytes) (after : NetState) : Type 0 where
   pub faults : before.faults ≤ after.faults
   pub given : after.given ≡ counted before.given
   pub ended : after.ended ≡ before.ended
@@ -39,7 +40,7 @@ pub record Ends (before after : NetState) : Type 0 where
   pub coming : after.coming ≡ before.coming
   pub none : (coming : List Guest) → before.coming ≡ Some coming → coming ≡ []
 
-module _ {S K : Type 0} (rest : S → Option (List ℕ)) where
+module _ {S K : Type 0} (rest : S → Option Bytes) where
   -- What an accept does; `rest` is what a source has left to give, where it tells that. It fails only where the count of
   -- faults rose.
   abbrev pub Accepts : NetState → Accepted S K → NetState → Type 0

@@ -41,7 +41,9 @@ impl<R> MemNet<R> {
     /// A net that gave no connection yet and hasn't ended. What its connections are sent stands in
     /// `replies`, for which the sinks wait by `rt`. The calls whose numbers are listed are to fail.
     pub fn new(rt: R, replies: Replies, conns: Vec<MemConn>, fails: Vec<u64>) -> MemNet<R>
-        ensures { result ≡ record { coming = conns.items; given = 0; ended = false; calls = record { fails = fails.items; made = 0; faults = 0 } } }
+        ensures { result
+            ≡ record
+            { coming = conns.items; given = 0; ended = false; calls = record { fails = fails.items; made = 0; faults = 0 } } }
     {
         MemNet {
             rt,

@@ -37,7 +37,9 @@ impl Model for MemPages {
 impl MemPages {
     /// No page yet. The calls of `page` whose numbers are listed are to fail.
     pub fn new(alloc: Global, fails: Vec<u64>) -> MemPages
-        ensures { result ≡ record { pages = map.empty; calls = record { fails = fails.items; made = 0; faults = 0 } } }
+        ensures { result
+            ≡ record
+            { pages = map.empty; calls = record { fails = fails.items; made = 0; faults = 0 } } }
     {
         MemPages {
             alloc,
@@ -49,7 +51,9 @@ impl MemPages {
     /// Sets the page at a path, in place of the one that was there. The only error is want of memory,
     /// and the pages are then as they were.
     pub fn set(&mut self, path: Text, page: Text) -> Result<(), NoMemory>
-        ensures ok { OnOk result (self.new ≡ record { pages = map.insert self.old.pages path page; calls = self.old.calls }) }
+        ensures ok { OnOk result
+            (self.new
+            ≡ record { pages = map.insert self.old.pages path page; calls = self.old.calls }) }
         ensures err { OnErr result (self.new ≡ self.old) }
     {
         self.pages.insert(path, page)?;
@@ -94,7 +98,8 @@ impl Pages for MemPages {
 
     fn page(&mut self, path: &Text) -> PageAnswer
         ensures hands { Hands self.old path.now result self.new }
-        ensures asks { Asks (Some self.old.pages) self.old.calls.faults path.now result (Some self.new.pages) self.new.calls.faults }
+        ensures asks { Asks (Some self.old.pages) self.old.calls.faults path.now result
+            (Some self.new.pages) self.new.calls.faults }
     {
         if self.calls.begin() {
             self.calls.fault();
@@ -112,7 +117,10 @@ impl Pages for MemPages {
 
     /// The copy fails at the same calls, of which it counts its own.
     fn copy(&self) -> Result<MemPages, NoMemory>
-        ensures { IfOk result (λ copy. copy ≡ record { pages = self.now.pages; calls = record { fails = self.now.calls.fails; made = 0; faults = 0 } }) }
+        ensures { IfOk result (λ copy.
+            copy
+            ≡ record
+            { pages = self.now.pages; calls = record { fails = self.now.calls.fails; made = 0; faults = 0 } }) }
     {
         let pages = copied(self.alloc, &self.pages)?;
         let calls = self.calls.renewed(self.alloc)?;

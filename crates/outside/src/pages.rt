@@ -34,7 +34,8 @@ pub trait Pages: Sized {
 
     /// The page at a path. `Failed` comes only where the count of faults rose in this call.
     fn page(&mut self, path: &Text) -> PageAnswer
-        ensures { Asks (held self.old) (faults self.old) path.now result (held self.new) (faults self.new) };
+        ensures { Asks (held self.old) (faults self.old) path.now result (held self.new)
+            (faults self.new) };
 
     /// The same pages once more, for another thread. The only error is want of memory.
     fn copy(&self) -> Result<Self, NoMemory>

@@ -45,7 +45,8 @@ impl<R> ReplySink<R> {
         fails: Vec<u64>,
     ) -> ReplySink<R>
         requires { 1 ≤ piece }
-        ensures { result ≡ record { piece = piece; calls = record { fails = fails.items; made = 0; faults = 0 } } }
+        ensures { result
+            ≡ record { piece = piece; calls = record { fails = fails.items; made = 0; faults = 0 } } }
     {
         ReplySink {
             rt,
@@ -69,7 +70,8 @@ impl<R: Wait> Sink for ReplySink<R> {
     fn write(&mut self, piece: &[u8]) -> WriteAnswer
         requires some { 0 < length piece.now }
         ensures passes { Passes self.old piece.now result self.new }
-        ensures writes { Writes None self.old.calls.faults piece.now result None self.new.calls.faults }
+        ensures writes { Writes None self.old.calls.faults piece.now result None
+            self.new.calls.faults }
     {
         if self.calls.begin() {
             self.calls.fault();

@@ -1,5 +1,6 @@
 -- What a text is as a script.
-use Rattle.std.specs.Prelude.{◌≡◌, ℕ, ◌+◌, List, [], length, Result, Ok, Err}
+use Rattle.std.specs.Prelude.{◌≡◌, ℕ, ◌+◌, [], length, Result, Ok, Err}
+use Rattle.txt_core.specs.Names.{Bytes}
 use Rattle.tcl_parse.specs.declared.tree.Script.{Script}
 use Rattle.tcl_parse.specs.declared.fault.ParseFault.{ParseFault}
 use Rattle.tcl_parse.specs.Outcome.{done, fault}
@@ -15,7 +16,7 @@ as_parsed script (Ok shared) = Ok (script shared)
 as_parsed script (Err why) = Err why
 
 -- The text spells this script, or it has this fault at this place.
-abbrev pub IsReading : List ℕ → Reading → Type 0
+abbrev pub IsReading : Bytes → Reading → Type 0
 IsReading t (code.Script script) = reading t ≡ done (script_of script.value) []
 IsReading t (code.Fault place kind) = (left : ℕ) × (place + left ≡ length t) × (reading t ≡ fault kind left)
 
@@ -27,6 +28,6 @@ IsSameReading (code.Fault place kind) (code.Script b) = ⊥
 IsSameReading (code.Fault p k) (code.Fault q l) = (p ≡ q) × (k ≡ l)
 
 -- The cache after a text was read as this: a fault changes nothing.
-abbrev pub after : Reading → List ℕ → Cache → Cache
+abbrev pub after : Reading → Bytes → Cache → Cache
 after (code.Script script) t cache = used t cache
 after (code.Fault place kind) t cache = cache

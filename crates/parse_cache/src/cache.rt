@@ -119,7 +119,10 @@ impl Cache {
 
     /// The script that is kept of a text, where the text is a key. The order stays as it is.
     fn find(&self, text: &Text) -> Result<Option<Rc<Script>>, NoMemory>
-        ensures { IfOk result (λ found. MatchOption found (is_key text.now self.now ≡ false) (λ script. (is_key text.now self.now ≡ true) × (reading text.now ≡ done (script_of script.value) []))) }
+        ensures { IfOk result (λ found.
+            MatchOption found (is_key text.now self.now ≡ false) (λ script.
+            (is_key text.now self.now ≡ true)
+            × (reading text.now ≡ done (script_of script.value) []))) }
     {
         match self.scripts.peek(text.bytes()) {
             None => Ok(None),

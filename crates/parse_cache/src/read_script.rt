@@ -16,11 +16,11 @@ pub struct ReadScript {
 }
 
 impl Model for ReadScript {
-    ghost use Rattle.std.specs.Prelude.{ℕ, List};
     ghost use Rattle.std.specs.Coded.{coded_list, coded_ℕ};
+    ghost use Rattle.txt_core.specs.Names.{Bytes};
     ghost use Rattle.parse_cache.specs.Readings.{IsReading};
 
-    ghost Value = { List ℕ };
+    ghost Value = { Bytes };
 
     ghost coded = { coded_list coded_ℕ };
 

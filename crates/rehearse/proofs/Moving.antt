@@ -23,7 +23,7 @@ use Rattle.rehearse.specs.Lines.{Line}
 use Rattle.rehearse.specs.Objects.{Setting}
 use Rattle.rehearse.specs.Plays.{IsPath, Moves, Turns}
 use Rattle.rehearse.specs.Schedules.{Agenda, ScheduleStep, ScheduleRuns}
-use Rattle.rehearse.specs.Steps.{Place, Step, RunsUntilIdle}
+use Rattle.rehearse.specs.Steps.{Position, Step, RunsUntilIdle}
 use Rattle.rehearse.specs.World.{World, Worker, idle, connected, new_connection, opening, all_idle, with_setting, with_objects, with_workers, as_started, resting}
 use Rattle.rehearse.specs.Playing.{Tells, KeepsOn, setting_of, ShowsTask, ShowsWorker, ShowsWorkers, HasNew, IsTaskReady, IsReady, AreReady, Moved, Turned, IsSchedulerReady, ShowsScheduler, Settled, Shows, IsMachineReady, Did, Played}
 use Rattle.rehearse.proofs.Standing.{keeps_later, scheduler_later, all_later}
@@ -308,7 +308,7 @@ worker_busy natives machine number input listing taken found busy = (
 -- ---- a worker that goes to another place
 
 abbrev Way : Type 1
-Way = ℕ → Setting → Place → List Line → Place → Type 0
+Way = ℕ → Setting → Position → List Line → Position → Type 0
 
 moves : (natives : List (List ℕ)) (Goes : Way) (machine after : Machine) (number : ℕ) (listing listed : Listing) (taken given : code_worker.Worker) → slice_get machine.workers.items number ≡ Some taken
     → Moved Goes (setting_of natives machine.setting) taken machine.objects listing given after.objects listed

@@ -14,7 +14,7 @@ use Rattle.rehearse.specs.Objects.{Setting, Answers, new_objects}
 use Rattle.rehearse.specs.Plays.{Defines, Moves, Turns, StepsActor, RunsActor, Does, Plays, Lists, no_event, one_event, Reached}
 use Rattle.rehearse.specs.Runs.{asking, over}
 use Rattle.rehearse.specs.Schedules.{Agenda, ScheduleStep, ScheduleRuns}
-use Rattle.rehearse.specs.Steps.{Place, Step, RunsUntilIdle}
+use Rattle.rehearse.specs.Steps.{Position, Step, RunsUntilIdle}
 use Rattle.rehearse.specs.World.{World, Worker, opening, as_started, with_objects}
 use Rattle.rehearse.proofs.Answering.{answers_one, answers_keep}
 use Rattle.rehearse.proofs.WorkerSteps as works
@@ -67,10 +67,10 @@ defines_one before a b block l m ok h k =
 -- ---- workers and the scheduler
 
 abbrev Way : Type 1
-Way = ℕ → Setting → Place → List Line → Place → Type 0
+Way = ℕ → Setting → Position → List Line → Position → Type 0
 
 abbrev IsOne : Way → Type 0
-IsOne Goes = (number : ℕ) (setting : Setting) (before a b : Place) (l m : List Line) → Allowed before.objects.schedule
+IsOne Goes = (number : ℕ) (setting : Setting) (before a b : Position) (l m : List Line) → Allowed before.objects.schedule
     → Goes number setting before l a → Goes number setting before m b → (l ≡ m) × (a ≡ b)
 
 some_same : (v w : Worker) → Some v ≡ Some w → v ≡ w
@@ -86,7 +86,7 @@ moves_one Goes unique before a b number l m ok h k =
     unique number before.setting (record { worker = h.mover; objects = before.objects }) h.place k.place l m ok h.goes there in (
       one.0,
       h.after_is
-          ∙ ap (λ (p : Place). let w : World = record before { objects = p.objects; workers = slice_set before.workers number p.worker } in w) one.1 ∙ sym k.after_is,
+          ∙ ap (λ (p : Position). let w : World = record before { objects = p.objects; workers = slice_set before.workers number p.worker } in w) one.1 ∙ sym k.after_is,
     )
 
 abbrev Turn : Type 1

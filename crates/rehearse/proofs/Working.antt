@@ -36,14 +36,14 @@ use Rattle.serving.specs.declared.connection.Behind.TheVariants.{GoesOn, Closing
 use Rattle.rehearse.specs.declared.listing.Listing.{Listing}
 use Rattle.rehearse.specs.declared.objects.Objects.{Objects}
 use Rattle.rehearse.specs.declared.worker.Connection as code_connection
-use Rattle.rehearse.specs.declared.worker.Serving.{Serving}
+use Rattle.rehearse.specs.declared.worker.UnderWay.{UnderWay}
 use Rattle.rehearse.specs.declared.worker.Task.{Task}
 use Rattle.rehearse.specs.declared.worker.Task.TheVariants as tasks
 use Rattle.rehearse.specs.declared.worker.Worker as code_worker
 use Rattle.rehearse.specs.Lines.{Line, response, closed, ended, truncated, refused}
 use Rattle.rehearse.specs.Objects.{Setting, Answers, published_now}
 use Rattle.rehearse.specs.Runs.{behind_response, by_written, request_progress}
-use Rattle.rehearse.specs.Steps.{Place, Step, rests, answers, writes, ends, begins, closes, cuts, refuses, bytes_of, refusal_bytes, end_lines, end_worker, behind, IsBetween, RunsUntilIdle, last, more}
+use Rattle.rehearse.specs.Steps.{Position, Step, rests, answers, writes, ends, begins, closes, cuts, refuses, bytes_of, refusal_bytes, end_lines, end_worker, behind, IsBetween, RunsUntilIdle, last, more}
 use Rattle.rehearse.specs.World.{Open, Connection, Worker, idle, connected, peer, with_request, with_answer, with_written, without_request, begun_request}
 use Rattle.rehearse.specs.Playing.{Tells, BeginsRequest, Resumes, GoesBehind, KeepsOn, IsOn, IsUnderWay, RunsFor, input_of, ShowsConnection, Visits, Serves, ShowsTask, with_task, one_more, HasBegun, last_steps, first_steps, serving_steps, most_steps, IsTaskReady, IsReady, requests_left, task_steps, StepsDown, Went, Moved, Stepped}
 use Rattle.rehearse.proofs.Standing.{unless, stands_asking, stands_ready, stands_over, runs_on, runs_same, on_later, on_same, keeps_later, answers_reach}
@@ -109,7 +109,7 @@ some_left false outcome interp = omega arith
 
 -- ---- a request begins
 
-pub begun_serves : (names : List (List ℕ)) (setting : Setting) (objects : Objects) (request : Request) (serving : Serving) (next : Next) (made : Interp)
+pub begun_serves : (names : List (List ℕ)) (setting : Setting) (objects : Objects) (request : Request) (serving : UnderWay) (next : Next) (made : Interp)
     → made.blueprint.value ≡ published_now objects → BeginsRequest names request setting.moment next serving.interp made
     → serving.moment ≡ setting.moment → serving.asks_close ≡ asks_close request → serving.head_only ≡ is_head_only request → serving.written ≡ false
     → Serves names serving next (begun_request setting objects request)
@@ -150,7 +150,7 @@ begins_went setting worker after objects listing code between request used gets 
       tells_none listing,
     )
 
-pub begins_down : (worker after : code_worker.Worker) (code between : code_connection.Connection) (serving : Serving) (next : Next) → code.requests < most_requests
+pub begins_down : (worker after : code_worker.Worker) (code between : code_connection.Connection) (serving : UnderWay) (next : Next) → code.requests < most_requests
     → between.requests ≡ code.requests → after.task ≡ tasks.Serving (one_more between) serving next
     → StepsDown (with_task worker (tasks.Between code)) after
 begins_down worker after code between serving next few requests is = λ busy.
@@ -174,7 +174,7 @@ begins_stepped setting worker after objects listing code between request used re
 )
 
 -- the worker that began it is ready
-pub begun_ready : (natives : List (List ℕ)) (now : State) (worker : code_worker.Worker) (code : code_connection.Connection) (serving : Serving) (next : Next) (begun request : Open) (made : Interp)
+pub begun_ready : (natives : List (List ℕ)) (now : State) (worker : code_worker.Worker) (code : code_connection.Connection) (serving : UnderWay) (next : Next) (begun request : Open) (made : Interp)
     → now.natives ≡ natives → worker.keeper.interp ≡ None → worker.task ≡ tasks.Serving (one_more code) serving next → code.requests < most_requests
     → BeginsRequest natives begun.request begun.moment next serving.interp made → IsOn natives now made → serving.written ≡ false → Serves natives serving next request
     → IsReady natives now worker
@@ -295,7 +295,7 @@ visits_on : (natives : List (List ℕ)) (request : Open) (written : Bool) (quest
 visits_on natives request true question next new old same v = tt
 visits_on natives request false question next new old same v = unless next (same.visit ∙ v.0, same.moment ∙ v.1)
 
-serves_on : (natives : List (List ℕ)) (serving : Serving) (question : Question) (answer : Answer) (next : Next) (made : Interp) (request : Open)
+serves_on : (natives : List (List ℕ)) (serving : UnderWay) (question : Question) (answer : Answer) (next : Next) (made : Interp) (request : Open)
     → Resumes natives answer next made serving.interp
     → Serves natives serving (Asks question) request
     → Serves natives (record serving { interp = made }) next (record request { answers = request.answers ++ answer ∷ [] })
@@ -317,7 +317,7 @@ counted_on : (code added count bytes : ℕ) → count ≡ min (code + added) las
 counted_on code added count bytes e f = omega (arith, e, f)
 
 pub answers_stepped : (setting : Setting) (worker : code_worker.Worker) (objects objects_after : Objects) (listing : Listing)
-    (code : code_connection.Connection) (serving : Serving) (question : Question) (answer : Answer) (next : Next) (made : Interp) (count : ℕ)
+    (code : code_connection.Connection) (serving : UnderWay) (question : Question) (answer : Answer) (next : Next) (made : Interp) (count : ℕ)
     → Allowed objects.blueprint
     → IsReady setting.natives objects.blueprint (with_task worker (tasks.Serving code serving (Asks question)))
     → Answers setting serving.moment question objects answer objects_after
@@ -396,7 +396,7 @@ written_first one natives true request p reply ending state inside left e =
     absurd (not_silent (behind_response natives request p) reply ending state inside left (behind_silent one natives request p) e)
 
 -- a response that stands ready wasn't written
-pub not_written : OneResponse → (natives : List (List ℕ)) (serving : Serving) (reply : Response) (request : Open) → Serves natives serving (Write reply) request → serving.written ≡ false
+pub not_written : OneResponse → (natives : List (List ℕ)) (serving : UnderWay) (reply : Response) (request : Open) → Serves natives serving (Write reply) request → serving.written ≡ false
 not_written one natives serving reply request s =
     sym s.written
     ∙ written_first one natives request.written request (Main natives request.blueprint request.request request.moment (request.answers ++ [])) reply (ending_of serving.interp.task) (interp_state serving.interp) s.runs.0 []
@@ -437,7 +437,7 @@ visits_first : (natives : List (List ℕ)) (request : Open) (interp : Interp) (w
 visits_first natives request interp false reply is v = v
 visits_first natives request interp true reply is v = absurd (cc)
 
-serves_behind : OneResponse → (natives : List (List ℕ)) (serving : Serving) (reply : Response) (next : Next) (made : Interp) (request : Open)
+serves_behind : OneResponse → (natives : List (List ℕ)) (serving : UnderWay) (reply : Response) (next : Next) (made : Interp) (request : Open)
     → IsSound natives serving.interp → GoesBehind natives next made serving.interp
     → Serves natives serving (Write reply) request
     → Serves natives (record serving { interp = made; written = true }) next (record request { written = true })
@@ -469,7 +469,7 @@ spent_same requests counted bytes is =
     lt_capped (nat_lt connections.most_answered bytes) connections.most_answered bytes (omega arith) refl in
     ap (λ (b : Bool). nat_le most_requests requests || b) (ap (λ (n : ℕ). nat_lt connections.most_answered n) is ∙ same)
 
-same_bytes : (natives : List (List ℕ)) (code : code_connection.Connection) (c : Connection) (serving : Serving) (next : Next) (request : Open) (reply : Response)
+same_bytes : (natives : List (List ℕ)) (code : code_connection.Connection) (c : Connection) (serving : UnderWay) (next : Next) (request : Open) (reply : Response)
     → ShowsConnection code c → Serves natives serving next request
     → response_bytes reply serving.moment serving.head_only (connections.closes serving.asks_close code.requests code.answer_bytes) ≡ bytes_of c request reply
 same_bytes natives code c serving next request reply seen s =
@@ -480,7 +480,7 @@ same_bytes natives code c serving next request reply seen s =
     ∙ ap (λ (b : Bool). response_bytes reply request.moment (is_head_only request.request) (asks_close request.request || b)) (spent_same c.requests code.answer_bytes c.answer_bytes seen.answer_bytes)
 
 pub writes_stepped : OneResponse → (setting : Setting) (worker : code_worker.Worker) (objects : Objects) (listing listed : Listing)
-    (code : code_connection.Connection) (serving : Serving) (reply : Response) (next : Next) (made : Interp) (epoch : ℕ) (bytes : List ℕ)
+    (code : code_connection.Connection) (serving : UnderWay) (reply : Response) (next : Next) (made : Interp) (epoch : ℕ) (bytes : List ℕ)
     → IsReady setting.natives objects.blueprint (with_task worker (tasks.Serving code serving (Write reply)))
     → epoch ≡ serving.interp.blueprint.value.epoch
     → bytes ≡ response_bytes reply serving.moment serving.head_only (connections.closes serving.asks_close code.requests code.answer_bytes)
@@ -539,7 +539,7 @@ writes_stepped one setting worker objects listing listed code serving reply next
 
 -- ---- a request ends
 
-same_behind_it : (natives : List (List ℕ)) (code : code_connection.Connection) (c : Connection) (serving : Serving) (next : Next) (request : Open)
+same_behind_it : (natives : List (List ℕ)) (code : code_connection.Connection) (c : Connection) (serving : UnderWay) (next : Next) (request : Open)
     → ShowsConnection code c → Serves natives serving next request
     → after_request serving.asks_close code.requests code.answer_bytes ≡ behind c request
 same_behind_it natives code c serving next request seen s =
@@ -579,7 +579,7 @@ down_end code Spent left steps is some = inl (omega (arith, is))
 down_end code GoesOn left steps is some = inr (sym is, some)
 
 pub ends_stepped : (setting : Setting) (worker after : code_worker.Worker) (objects : Objects) (listing listed : Listing)
-    (code : code_connection.Connection) (serving : Serving) (outcome : Outcome) (what : Behind)
+    (code : code_connection.Connection) (serving : UnderWay) (outcome : Outcome) (what : Behind)
     → IsReady setting.natives objects.blueprint (with_task worker (tasks.Serving code serving (Ended outcome)))
     → what ≡ after_request serving.asks_close code.requests code.answer_bytes
     → KeepsOn setting.natives objects.blueprint after.keeper
@@ -601,7 +601,7 @@ ends_stepped setting worker after objects listing listed code serving outcome wh
                   (stands_over setting.natives (request_progress setting.natives r) outcome serving.interp r.answers s.runs)
                   way.«at».0
                   (ap (end_lines worker.number) same)
-                  (ap (λ (b : Behind). let p : Place = record { worker = end_worker c b; objects = objects } in p) same),
+                  (ap (λ (b : Behind). let p : Position = record { worker = end_worker c b; objects = objects } in p) same),
               subst (λ (t : Task). ShowsTask setting.natives t (end_worker c what)) (sym task) (shows_end setting.natives code c what seen),
               tells,
             );
@@ -623,19 +623,19 @@ stepped_from setting worker other after objects objects_after listing listed sam
 -- ---- step after step
 
 -- Steps, at least one, of which none was taken by a worker that was idle by an earlier one.
-pub data Chain (number : ℕ) (setting : Setting) (start : Place) : List Line → Place → Type 0 where
-  single : {lines : List Line} {after : Place} → Step number setting start lines after → Chain number setting start lines after
-  further : {lines others : List Line} {between after : Place} → Chain number setting start lines between → ¬ (between.worker ≡ idle)
+pub data Chain (number : ℕ) (setting : Setting) (start : Position) : List Line → Position → Type 0 where
+  single : {lines : List Line} {after : Position} → Step number setting start lines after → Chain number setting start lines after
+  further : {lines others : List Line} {between after : Position} → Chain number setting start lines between → ¬ (between.worker ≡ idle)
       → Step number setting between others after → Chain number setting start (lines ++ others) after
 
-chain_runs : {number : ℕ} {setting : Setting} {start between after : Place} {lines : List Line} (others : List Line) → Chain number setting start lines between → ¬ (between.worker ≡ idle)
+chain_runs : {number : ℕ} {setting : Setting} {start between after : Position} {lines : List Line} (others : List Line) → Chain number setting start lines between → ¬ (between.worker ≡ idle)
     → RunsUntilIdle number setting between others after → RunsUntilIdle number setting start (lines ++ others) after
 chain_runs {lines = lines} others (single step) busy rest = more lines others step busy rest
 chain_runs {number = number} {setting = setting} {start = start} {after = after} others (further {lines = first} {others = second} chain busy step) still rest =
     subst (λ (l : List Line). RunsUntilIdle number setting start l after) (sym (append_assoc first second others))
     (chain_runs (second ++ others) chain busy (more second others step still rest))
 
-pub chain_ends : {number : ℕ} {setting : Setting} {start after : Place} {lines : List Line} → Chain number setting start lines after → after.worker ≡ idle → RunsUntilIdle number setting start lines after
+pub chain_ends : {number : ℕ} {setting : Setting} {start after : Position} {lines : List Line} → Chain number setting start lines after → after.worker ≡ idle → RunsUntilIdle number setting start lines after
 chain_ends (single step) is = last step is
 chain_ends (further {others = second} chain busy step) is = chain_runs second chain busy (last step is)
 

@@ -1,5 +1,6 @@
 -- Definition runs: a block of a rehearsal is run as a start script, and its questions are answered at once.
 use Rattle.std.specs.Prelude.{◌≡◌, ℕ, zero, suc, List, [], ◌∷◌, ◌++◌}
+use Rattle.txt_core.specs.Names.{Bytes, Names, Moment}
 use Rattle.outside.specs.declared.question.Answer.{Answer}
 use Rattle.outside.specs.declared.question.Question.{Question}
 use Rattle.outside.specs.declared.question.Service.{Service}
@@ -16,26 +17,26 @@ use Rattle.rehearse.specs.Runs.{asking, over, stand_of}
 
 -- A run under way.
 pub record Defining : Type 0 where
-  pub block : List ℕ
+  pub block : Bytes
   -- the blueprint and the moment on which it runs: those of its beginning
   pub blueprint : Edition
-  pub moment : ℕ
+  pub moment : Moment
   -- what its questions were answered so far, in order
   pub answers : List Answer
   -- The epoch that is told where it ends well: the one behind its publication, or, where nothing was published, that of the
   -- blueprint on which it runs. A save is no publication.
   pub epoch : ℕ
 
-abbrev pub begun_block : Setting → Objects → List ℕ → Defining
+abbrev pub begun_block : Setting → Objects → Bytes → Defining
 begun_block setting objects block =
     record { block = block; blueprint = published_now objects; moment = setting.moment; answers = []; epoch = objects.blueprint.epoch }
 
 -- how far a run comes with these answers: it is replayed from the start
-abbrev pub define_progress : List (List ℕ) → Defining → List Answer → Progress
+abbrev pub define_progress : Names → Defining → List Answer → Progress
 define_progress natives run answers = Define natives run.blueprint run.block run.moment answers
 
 -- the epoch that is told behind a question to this service, with which the blueprint has that epoch
-abbrev pub epoch_behind : Service → ℕ → ℕ → ℕ
+abbrev pub epoch_behind : Service → ℕ → Moment → ℕ
 epoch_behind Publish before now = now
 epoch_behind Page before now = before
 epoch_behind Nsv before now = before

@@ -1,6 +1,7 @@
 -- The events of a rehearsal, and how a file spells them.
 use Rattle.std.specs.Prelude.{ℕ, List, [], ◌∷◌, ◌++◌, length, decimal, codes, Option, Some, None}
 use Rattle.std.specs.List.{join_with_byte}
+use Rattle.txt_core.specs.Names.{Bytes, Words, Moment}
 use Rattle.txt_core.specs.Limits.{most_bytes}
 
 -- who takes steps: a worker by its number, from 0, or the scheduler
@@ -12,13 +13,13 @@ pub data Event : Type 0 where
   -- says how many workers there are
   workers : (count : ℕ) → Event
   -- sets the moment that the clock shows, in seconds since 1970
-  clock : (moment : ℕ) → Event
+  clock : (moment : Moment) → Event
   -- sets the page of a path
-  page : (path text : List ℕ) → Event
+  page : (path text : Bytes) → Event
   -- runs a block as a start script
-  define : (block : List ℕ) → Event
+  define : (block : Bytes) → Event
   -- gives a worker a connection with this input
-  connect : (number : ℕ) (input : List ℕ) → Event
+  connect : (number : ℕ) (input : Bytes) → Event
   -- lets an actor take one step
   step : (actor : Actor) → Event
   -- lets an actor take steps until it is idle
@@ -26,24 +27,24 @@ pub data Event : Type 0 where
 
 -- ---- spelling
 
-abbrev pub newline : List ℕ
+abbrev pub newline : Bytes
 newline = 10 ∷ []
 
 -- A line is words with one space between, and a newline.
-abbrev pub line_of : List (List ℕ) → List ℕ
+abbrev pub line_of : Words → Bytes
 line_of words = join_with_byte 32 words ++ newline
 
 -- behind a line there may be a block, which is followed by a newline
-abbrev pub block_end : Option (List ℕ) → List ℕ
+abbrev pub block_end : Option Bytes → Bytes
 block_end (Some block) = block ++ newline
 block_end None = []
 
-abbrev pub actor_word : Actor → List ℕ
+abbrev pub actor_word : Actor → Bytes
 actor_word (worker number) = decimal number
 actor_word scheduler = codes "s"
 
 -- The words of an event's line. Numbers are decimal without extra zeros; where there is a block, the last word is its length.
-abbrev pub words_of : Event → List (List ℕ)
+abbrev pub words_of : Event → Words
 words_of (workers count) = codes "workers" ∷ decimal count ∷ []
 words_of (clock moment) = codes "clock" ∷ decimal moment ∷ []
 words_of (page path text) = codes "page" ∷ path ∷ decimal (length text) ∷ []
@@ -52,7 +53,7 @@ words_of (connect number input) = codes "connect" ∷ decimal number ∷ decimal
 words_of (step actor) = codes "step" ∷ actor_word actor ∷ []
 words_of (run actor) = codes "run" ∷ actor_word actor ∷ []
 
-abbrev pub block_of : Event → Option (List ℕ)
+abbrev pub block_of : Event → Option Bytes
 block_of (workers count) = None
 block_of (clock moment) = None
 block_of (page path text) = Some text
@@ -61,11 +62,11 @@ block_of (connect number input) = Some input
 block_of (step actor) = None
 block_of (run actor) = None
 
-abbrev pub spelled : Event → List ℕ
+abbrev pub spelled : Event → Bytes
 spelled e = line_of (words_of e) ++ block_end (block_of e)
 
 -- the file of these events
-abbrev pub file_of : List Event → List ℕ
+abbrev pub file_of : List Event → Bytes
 file_of [] = []
 file_of (e ∷ events) = spelled e ++ file_of events
 

@@ -1,6 +1,7 @@
 -- What workers, scripts and blocks share: the objects that answer their questions, and what a step of theirs doesn't change.
-use Rattle.std.specs.Prelude.{◌≡◌, ◌≢◌, ℕ, List, [], false}
+use Rattle.std.specs.Prelude.{◌≡◌, ◌≢◌, [], false}
 use Rattle.std.specs.FinMap as map
+use Rattle.txt_core.specs.Names.{Words, Names, Moment}
 use Rattle.outside.specs.Paging.{PageMap}
 use Rattle.outside.specs.declared.question.Answer.{Answer}
 use Rattle.outside.specs.declared.question.Answer.TheVariants.{Failed}
@@ -31,17 +32,17 @@ use Rattle.rehearse.specs.declared.objects.Objects.{Objects}
 -- What a step reads and doesn't change: the names of the natives, which stay the same, what the clock shows, in seconds since
 -- 1970, and the pages.
 pub record Setting : Type 0 where
-  pub natives : List (List ℕ)
-  pub moment : ℕ
+  pub natives : Names
+  pub moment : Moment
   pub pages : PageMap
 
 -- before the first event the clock shows 0, and no page is there
-abbrev pub first_setting : List (List ℕ) → Setting
+abbrev pub first_setting : Names → Setting
 first_setting natives = record { natives = natives; moment = 0; pages = map.empty }
 
 -- The declared `Objects` has what was published, the shared arrays, bucket by bucket, and the schedule. New ones: nothing was
 -- published, no array is there, and nothing is scheduled.
-abbrev pub new_objects : List (List ℕ) → Objects
+abbrev pub new_objects : Names → Objects
 new_objects natives = record {
   blueprint = fresh natives;
   arrays = no_arrays;
@@ -55,7 +56,7 @@ published_now objects = edition_of objects.blueprint
 -- ---- how questions are answered
 
 -- The schedule takes a step of its own on the call. Want of memory is no answer.
-pub record ScheduleAnswers (moment : ℕ) (words : List (List ℕ)) (before : Objects) (answer : Answer) (after : Objects) : Type 0 where
+pub record ScheduleAnswers (moment : Moment) (words : Words) (before : Objects) (answer : Answer) (after : Objects) : Type 0 where
   pub reply : SchedReply
   pub schedule : ScheduleState
   pub steps : ScheduleSteps before.schedule (sched_call moment words) reply schedule
@@ -79,16 +80,16 @@ PublishAnswers (Puts call) before answer after = BlueprintAnswers call before an
 PublishAnswers (Refused refusal) before answer after = (answer ≡ refusal) × (after ≡ before)
 
 -- the bucket takes its step on the words
-abbrev pub ArraysAnswer : List (List ℕ) → Objects → Answer → Objects → Type 0
+abbrev pub ArraysAnswer : Words → Objects → Answer → Objects → Type 0
 ArraysAnswer words before answer after =
     (answer ≡ nsv_answer (buckets_step before.arrays words).0) × (after ≡ record before { arrays = (buckets_step before.arrays words).1 })
 
 -- the page of the path, or that there is none; a page is read anew at each question
-abbrev pub PagesAnswer : PageMap → List (List ℕ) → Objects → Answer → Objects → Type 0
+abbrev pub PagesAnswer : PageMap → Words → Objects → Answer → Objects → Type 0
 PagesAnswer pages words before answer after = (answer ≡ page_found (map.get pages (path_asked words))) × (after ≡ before)
 
 -- Whom the question goes to answers it. One for a run inside never comes out of an interpreter; it is refused without a reason.
-abbrev pub AnswersBy : Service → List (List ℕ) → PageMap → ℕ → Objects → Answer → Objects → Type 0
+abbrev pub AnswersBy : Service → Words → PageMap → Moment → Objects → Answer → Objects → Type 0
 AnswersBy Page words pages moment before answer after = PagesAnswer pages words before answer after
 AnswersBy Nsv words pages moment before answer after = ArraysAnswer words before answer after
 AnswersBy Schedule words pages moment before answer after = ScheduleAnswers moment words before answer after
@@ -97,5 +98,5 @@ AnswersBy Save words pages moment before answer after = BlueprintAnswers (save_c
 AnswersBy Inner words pages moment before answer after = (answer ≡ Failed []) × (after ≡ before)
 
 -- A question of a run whose moment is this is answered so, by the objects and the pages as they are now.
-abbrev pub Answers : Setting → ℕ → Question → Objects → Answer → Objects → Type 0
+abbrev pub Answers : Setting → Moment → Question → Objects → Answer → Objects → Type 0
 Answers setting moment question before answer after = AnswersBy question.service question.words setting.pages moment before answer after

@@ -2,10 +2,11 @@
 -- to be believed: no public contract cites it.
 use Rattle.std.specs.Prelude.{◌≡◌, ◌≢◌, ℕ, zero, suc, ◌+◌, ◌-◌, ◌<◌, ◌≤◌, ◌⊎◌, List, [], ◌∷◌, ◌++◌, length, drop, min, Bool, true, false, IsTrue, Option, Some, None, MatchOption}
 use Rattle.std.specs.List.{list_all}
+use Rattle.txt_core.specs.Names.{Bytes, Names, Moment}
 use Rattle.outside.specs.Faults.{Rose, last_count}
 use Rattle.outside.specs.Reading.{Gives}
 use Rattle.outside.specs.declared.source.ReadAnswer.{ReadAnswer}
-use Rattle.outside.specs.declared.source.ReadAnswer.TheVariants.{Bytes, Failed}
+use Rattle.outside.specs.declared.source.ReadAnswer.TheVariants.{Bytes as Gave, Failed}
 use Rattle.blueprint.specs.Objects.{Reaches}
 use Rattle.blueprint.specs.States.{State, Allowed}
 use Rattle.blueprint.specs.declared.reply.BlueCall.{BlueCall}
@@ -42,7 +43,7 @@ use Rattle.rehearse.specs.declared.scheduler.Scheduler as code_scheduler
 use Rattle.rehearse.specs.declared.setting.Setting as code_setting
 use Rattle.rehearse.specs.declared.tally.Tally.{Tally}
 use Rattle.rehearse.specs.declared.worker.Connection as code_connection
-use Rattle.rehearse.specs.declared.worker.Serving.{Serving}
+use Rattle.rehearse.specs.declared.worker.UnderWay.{UnderWay}
 use Rattle.rehearse.specs.declared.worker.Task.{Task}
 use Rattle.rehearse.specs.declared.worker.Task.TheVariants as tasks
 use Rattle.rehearse.specs.declared.worker.Worker as code_worker
@@ -55,7 +56,7 @@ use Rattle.rehearse.specs.Plays.{MayCome, Does, Plays}
 use Rattle.rehearse.specs.Runs.{request_progress, script_progress}
 use Rattle.rehearse.specs.Rehearsing.{Outside, KeepsCounts, Ends}
 use Rattle.rehearse.specs.Schedules.{Agenda, ScheduleStep}
-use Rattle.rehearse.specs.Steps.{Place, Step, IsBetween, IsServing}
+use Rattle.rehearse.specs.Steps.{Position, Step, IsBetween, IsServing}
 use Rattle.rehearse.specs.Intakes.{IntakeState}
 use Rattle.rehearse.specs.Reading.{is_other}
 use Rattle.rehearse.specs.Summary.{tally_of, with_lines}
@@ -64,7 +65,7 @@ use Rattle.rehearse.specs.World.{Open, Connection, Worker, idle, new_connection,
 -- ---- what the program shows
 
 -- what is around, with natives of these names
-abbrev pub setting_of : List (List ℕ) → code_setting.Setting → Setting
+abbrev pub setting_of : Names → code_setting.Setting → Setting
 setting_of natives setting = record { natives = natives; moment = setting.moment; pages = setting.pages }
 
 abbrev pub closing_of : code_closing.Closing → Closing
@@ -88,7 +89,7 @@ IsPut (calls.Save script) = Unit {0}
 -- ---- interpreters
 
 -- An interpreter was made from the blueprint as it stood once, of which the one now has come.
-pub record IsOn (natives : List (List ℕ)) (now : State) (interp : Interp) : Type 0 where
+pub record IsOn (natives : Names) (now : State) (interp : Interp) : Type 0 where
   pub earlier : State
   pub allowed : Allowed earlier
   pub names : earlier.natives ≡ natives
@@ -96,22 +97,22 @@ pub record IsOn (natives : List (List ℕ)) (now : State) (interp : Interp) : Ty
   pub blueprint : interp.blueprint.value ≡ edition_of earlier
 
 -- One that is kept is as newly made. The blueprint has built-in names beside the natives of these names.
-abbrev pub KeepsOn : List (List ℕ) → State → Keeper → Type 0
+abbrev pub KeepsOn : Names → State → Keeper → Type 0
 KeepsOn natives now keeper =
     (now.natives ≡ natives) × MatchOption keeper.interp (Unit {0}) (λ interp. IsNew natives interp × IsOn natives now interp)
 
 -- One that is under way can be made as newly made, and stands at what it answered.
-pub record IsUnderWay (natives : List (List ℕ)) (now : State) (next : Next) (interp : Interp) : Type 0 where
+pub record IsUnderWay (natives : Names) (now : State) (next : Next) (interp : Interp) : Type 0 where
   pub sound : IsSound natives interp
   pub on : IsOn natives now interp
   pub «at» : StandsAt next interp
 
 -- An interpreter that answered this, and was given these answers, stands for a run, where the runs inside wrote something.
-abbrev pub RunsFor : List (List ℕ) → (List Answer → Progress) → Next → Interp → List Answer → Type 0
+abbrev pub RunsFor : Names → (List Answer → Progress) → Next → Interp → List Answer → Type 0
 RunsFor natives run next interp given = (inside : ℕ) × Stands natives run next inside interp given
 
 -- The run of a request began in an interpreter, which came to this.
-pub record BeginsRequest (natives : List (List ℕ)) (request : Request) (moment : ℕ) (next : Next) (made old : Interp) : Type 0 where
+pub record BeginsRequest (natives : Names) (request : Request) (moment : Moment) (next : Next) (made old : Interp) : Type 0 where
   pub runs : (took : ℕ) × Stands natives (Main natives old.blueprint.value request moment) next took made []
   pub visit : UnlessNoMemory next ((made.visit ≡ visit_of natives old.blueprint.value request) × (made.moment ≡ moment))
   pub blueprint : made.blueprint.value ≡ old.blueprint.value
@@ -120,7 +121,7 @@ pub record BeginsRequest (natives : List (List ℕ)) (request : Request) (moment
   pub falls : Falls next made first_number
 
 -- The same of a scheduled script.
-pub record BeginsScript (natives : List (List ℕ)) (script : List ℕ) (moment : ℕ) (next : Next) (made old : Interp) : Type 0 where
+pub record BeginsScript (natives : Names) (script : Bytes) (moment : Moment) (next : Next) (made old : Interp) : Type 0 where
   pub runs : (took : ℕ) × Stands natives (runs_of.Script natives old.blueprint.value script moment) next took made []
   pub blueprint : made.blueprint.value ≡ old.blueprint.value
   pub sound : IsSound natives made
@@ -128,7 +129,7 @@ pub record BeginsScript (natives : List (List ℕ)) (script : List ℕ) (moment 
   pub falls : Falls next made first_number
 
 -- The same of a definition run.
-pub record BeginsDefine (natives : List (List ℕ)) (block : List ℕ) (moment : ℕ) (next : Next) (made old : Interp) : Type 0 where
+pub record BeginsDefine (natives : Names) (block : Bytes) (moment : Moment) (next : Next) (made old : Interp) : Type 0 where
   pub runs : (took : ℕ) × Stands natives (Define natives old.blueprint.value block moment) next took made []
   pub blueprint : made.blueprint.value ≡ old.blueprint.value
   pub sound : IsSound natives made
@@ -136,7 +137,7 @@ pub record BeginsDefine (natives : List (List ℕ)) (block : List ℕ) (moment :
   pub falls : Falls next made first_number
 
 -- An interpreter went on from its question with this answer, and came to this.
-pub record Resumes (natives : List (List ℕ)) (answer : Answer) (next : Next) (made old : Interp) : Type 0 where
+pub record Resumes (natives : Names) (answer : Answer) (next : Next) (made old : Interp) : Type 0 where
   pub runs : (took : ℕ) × StandsOn natives next took made old answer
   pub same : IsSameRun made old
   pub blueprint : made.blueprint.value ≡ old.blueprint.value
@@ -145,7 +146,7 @@ pub record Resumes (natives : List (List ℕ)) (answer : Answer) (next : Next) (
   pub falls : Falls next made (number_of old)
 
 -- An interpreter went on behind its response, which was written whole, and came to this.
-pub record GoesBehind (natives : List (List ℕ)) (next : Next) (made old : Interp) : Type 0 where
+pub record GoesBehind (natives : Names) (next : Next) (made old : Interp) : Type 0 where
   pub runs : (request : Request) → IsSound natives old → old.visit ≡ visit_of natives old.blueprint.value request
       → (took : ℕ) × ((inside : ℕ) → Stands natives (behind natives old.blueprint.value old.moment true request (interps.ending_of old.task) (interp_state old) inside) next (inside + took) made [])
   pub blueprint : made.blueprint.value ≡ old.blueprint.value
@@ -156,7 +157,7 @@ pub record GoesBehind (natives : List (List ℕ)) (next : Next) (made old : Inte
 -- ---- workers
 
 -- the input that no request took
-abbrev pub input_of : code_connection.Connection → List ℕ
+abbrev pub input_of : code_connection.Connection → Bytes
 input_of connection = connection.carry ++ connection.source
 
 -- The program's connection shows this one. Its count of the bytes of answers stands still where counters stop.
@@ -167,13 +168,13 @@ pub record ShowsConnection (code : code_connection.Connection) (connection : Con
 
 -- Until the response of the request is written, what the interpreter goes through is what the request does. Where memory wants, nothing
 -- is said.
-abbrev pub Visits : List (List ℕ) → Open → Interp → Bool → Next → Type 0
+abbrev pub Visits : Names → Open → Interp → Bool → Next → Type 0
 Visits natives request interp true next = Unit {0}
 Visits natives request interp false next =
     UnlessNoMemory next ((interp.visit ≡ visit_of natives request.blueprint request.request) × (interp.moment ≡ request.moment))
 
 -- The program serves this request.
-pub record Serves (natives : List (List ℕ)) (serving : Serving) (next : Next) (request : Open) : Type 0 where
+pub record Serves (natives : Names) (serving : UnderWay) (next : Next) (request : Open) : Type 0 where
   pub blueprint : request.blueprint ≡ serving.interp.blueprint.value
   pub moment : request.moment ≡ serving.moment
   pub asks_close : asks_close request.request ≡ serving.asks_close
@@ -182,7 +183,7 @@ pub record Serves (natives : List (List ℕ)) (serving : Serving) (next : Next) 
   pub visits : Visits natives request serving.interp serving.written next
   pub runs : RunsFor natives (request_progress natives request) next serving.interp request.answers
 
-abbrev pub ShowsTask : List (List ℕ) → Task → Worker → Type 0
+abbrev pub ShowsTask : Names → Task → Worker → Type 0
 ShowsTask natives tasks.Idle worker = worker ≡ idle
 ShowsTask natives (tasks.Between code) worker =
     (connection : Connection) × IsBetween worker connection × ShowsConnection code connection
@@ -191,18 +192,18 @@ ShowsTask natives (tasks.Serving code serving next) worker =
     × Serves natives serving next request
 
 -- A worker of the program shows this one.
-abbrev pub ShowsWorker : List (List ℕ) → code_worker.Worker → Worker → Type 0
+abbrev pub ShowsWorker : Names → code_worker.Worker → Worker → Type 0
 ShowsWorker natives code worker = ShowsTask natives code.task worker
 
 -- the same of all workers, whose numbers rise by one from this one on
-abbrev pub ShowsWorkers : List (List ℕ) → ℕ → List code_worker.Worker → List Worker → Type 0
+abbrev pub ShowsWorkers : Names → ℕ → List code_worker.Worker → List Worker → Type 0
 ShowsWorkers natives number [] [] = Unit {0}
 ShowsWorkers natives number [] (y ∷ ys) = ⊥
 ShowsWorkers natives number (x ∷ xs) [] = ⊥
 ShowsWorkers natives number (x ∷ xs) (y ∷ ys) = (x.number ≡ number) × ShowsWorker natives x y × ShowsWorkers natives (number + 1) xs ys
 
 -- The worker has a connection with this input, of which nothing was used.
-abbrev pub HasNew : code_worker.Worker → List ℕ → Type 0
+abbrev pub HasNew : code_worker.Worker → Bytes → Type 0
 HasNew worker input =
     (connection : code_connection.Connection) × (worker.task ≡ tasks.Between connection)
     × ShowsConnection connection (new_connection input)
@@ -216,9 +217,9 @@ abbrev pub one_more : code_connection.Connection → code_connection.Connection
 one_more connection = record connection { requests = connection.requests + 1 }
 
 -- The worker serves this request of the connection, which began now.
-abbrev pub HasBegun : List (List ℕ) → Setting → Objects → code_connection.Connection → Request → code_worker.Worker → Type 0
+abbrev pub HasBegun : Names → Setting → Objects → code_connection.Connection → Request → code_worker.Worker → Type 0
 HasBegun natives setting objects connection request worker =
-    (serving : Serving) × (next : Next) × (worker.task ≡ tasks.Serving (one_more connection) serving next)
+    (serving : UnderWay) × (next : Next) × (worker.task ≡ tasks.Serving (one_more connection) serving next)
     × Serves natives serving next (begun_request setting objects request)
 
 -- ---- a worker's steps
@@ -247,7 +248,7 @@ most_steps = first_number + first_number + 4
 
 -- Where a request is under way its interpreter can go on and stands for some request, and few steps are left to it; and one more may
 -- begin only where the connection may have one.
-abbrev pub IsTaskReady : List (List ℕ) → State → Task → Type 0
+abbrev pub IsTaskReady : Names → State → Task → Type 0
 IsTaskReady natives now tasks.Idle = Unit {0}
 IsTaskReady natives now (tasks.Between connection) = connection.requests < most_requests
 IsTaskReady natives now (tasks.Serving connection serving next) =
@@ -256,7 +257,7 @@ IsTaskReady natives now (tasks.Serving connection serving next) =
     × (serving_steps serving.written next serving.interp ≤ most_steps)
 
 -- A worker is ready, where the blueprint is this now.
-abbrev pub IsReady : List (List ℕ) → State → code_worker.Worker → Type 0
+abbrev pub IsReady : Names → State → code_worker.Worker → Type 0
 IsReady natives now worker = KeepsOn natives now worker.keeper × IsTaskReady natives now worker.task
 
 -- One goes with each step of a worker that isn't idle: how many requests its connection may have still, and then how many steps the
@@ -279,7 +280,7 @@ StepsDown before after =
     ⊎ ((requests_left after.task ≡ requests_left before.task) × (task_steps after.task < task_steps before.task))
 
 -- A worker went from its place to another by Goes, whatever worker it shows, and this was told.
-abbrev pub Went : (ℕ → Setting → Place → List Line → Place → Type 0) → Setting
+abbrev pub Went : (ℕ → Setting → Position → List Line → Position → Type 0) → Setting
     → code_worker.Worker → Objects → Listing → code_worker.Worker → Objects → Listing → Type 0
 Went Goes setting worker objects listing worker_after objects_after listed =
     (before : Worker) → ShowsWorker setting.natives worker before
@@ -289,7 +290,7 @@ Went Goes setting worker objects listing worker_after objects_after listed =
     × Tells listing lines listed
 
 -- The same, and the worker is ready again; the blueprint now is one of which that before could come to be this.
-pub record Moved (Goes : ℕ → Setting → Place → List Line → Place → Type 0) (setting : Setting)
+pub record Moved (Goes : ℕ → Setting → Position → List Line → Position → Type 0) (setting : Setting)
     (worker : code_worker.Worker) (objects : Objects) (listing : Listing)
     (worker_after : code_worker.Worker) (objects_after : Objects) (listed : Listing) : Type 0 where
   pub went : Went Goes setting worker objects listing worker_after objects_after listed
@@ -307,30 +308,30 @@ Stepped setting worker objects listing worker_after objects_after listed =
 abbrev pub IsResting : code_scheduler.Scheduler → Type 0
 IsResting scheduler = (scheduler.running ≡ None) × (length scheduler.due ≤ scheduler.begun)
 
-pub record ShowsScript (natives : List (List ℕ)) (running : Running) (next : Next) (script : Script) : Type 0 where
+pub record ShowsScript (natives : Names) (running : Running) (next : Next) (script : Script) : Type 0 where
   pub id : script.id ≡ running.id
   pub blueprint : script.blueprint ≡ running.interp.blueprint.value
   pub moment : script.moment ≡ running.moment
   pub runs : RunsFor natives (script_progress natives script) next running.interp script.answers
 
-abbrev pub ShowsRunning : List (List ℕ) → Option (Running × Next) → Option Script → Type 0
+abbrev pub ShowsRunning : Names → Option (Running × Next) → Option Script → Type 0
 ShowsRunning natives None None = Unit {0}
 ShowsRunning natives None (Some script) = ⊥
 ShowsRunning natives (Some running) None = ⊥
 ShowsRunning natives (Some running) (Some script) = ShowsScript natives running.0 running.1 script
 
-pub record ShowsScheduler (natives : List (List ℕ)) (code : code_scheduler.Scheduler) (scheduler : Scheduler) : Type 0 where
+pub record ShowsScheduler (natives : Names) (code : code_scheduler.Scheduler) (scheduler : Scheduler) : Type 0 where
   pub waiting : scheduler.waiting ≡ drop code.begun code.due
   pub running : ShowsRunning natives code.running scheduler.running
 
 -- The interpreter of a script can go on and stands for some scheduled script, and few steps are left to it.
-abbrev pub IsScriptReady : List (List ℕ) → State → Running × Next → Type 0
+abbrev pub IsScriptReady : Names → State → Running × Next → Type 0
 IsScriptReady natives now running =
     IsUnderWay natives now running.1 running.0.interp
     × ((script : Script) × ShowsScript natives running.0 running.1 script)
     × (last_steps running.1 running.0.interp ≤ most_steps)
 
-abbrev pub IsSchedulerReady : List (List ℕ) → State → code_scheduler.Scheduler → Type 0
+abbrev pub IsSchedulerReady : Names → State → code_scheduler.Scheduler → Type 0
 IsSchedulerReady natives now scheduler =
     KeepsOn natives now scheduler.keeper × MatchOption scheduler.running (Unit {0}) (IsScriptReady natives now)
 
@@ -368,7 +369,7 @@ ScheduleStepped setting code objects listing code_after objects_after listed =
 -- ---- definition runs
 
 -- A run of the program stands for this one and the answers that it has had.
-pub record DefinesAs (natives : List (List ℕ)) (next : Next) (run : Run) (seen : Defining) : Type 0 where
+pub record DefinesAs (natives : Names) (next : Next) (run : Run) (seen : Defining) : Type 0 where
   pub blueprint : seen.blueprint ≡ run.interp.blueprint.value
   pub moment : seen.moment ≡ run.moment
   pub epoch : seen.epoch ≡ run.epoch
@@ -403,26 +404,26 @@ Settled setting run before listing after listed =
 -- ---- events
 
 -- The machine shows this world, with natives of these names.
-pub record Shows (natives : List (List ℕ)) (machine : Machine) (world : World) : Type 0 where
+pub record Shows (natives : Names) (machine : Machine) (world : World) : Type 0 where
   pub started : world.started ≡ machine.started
   pub setting : world.setting ≡ setting_of natives machine.setting
   pub objects : world.objects ≡ machine.objects
   pub scheduler : ShowsScheduler natives machine.scheduler world.scheduler
   pub workers : ShowsWorkers natives 0 machine.workers.items world.workers
 
-abbrev pub AreReady : List (List ℕ) → State → List code_worker.Worker → Type 0
+abbrev pub AreReady : Names → State → List code_worker.Worker → Type 0
 AreReady natives now [] = Unit {0}
 AreReady natives now (x ∷ xs) = IsReady natives now x × AreReady natives now xs
 
 -- All that takes steps is ready, with natives of these names.
-pub record IsMachineReady (natives : List (List ℕ)) (machine : Machine) : Type 0 where
+pub record IsMachineReady (natives : Names) (machine : Machine) : Type 0 where
   pub definer : KeepsOn natives machine.objects.blueprint machine.definer.keeper
   pub scheduler : IsSchedulerReady natives machine.objects.blueprint machine.scheduler
   pub workers : AreReady natives machine.objects.blueprint machine.workers.items
   pub few : length machine.workers.items ≤ most_workers
 
 -- The machine did what an event says and told it, whatever world it shows; or the event may not come, and nothing changed.
-abbrev pub Did : List (List ℕ) → Bool → Event → Machine → Listing → Machine → Listing → Type 0
+abbrev pub Did : Names → Bool → Event → Machine → Listing → Machine → Listing → Type 0
 Did natives true e before listing after listed =
     (world : World) → Shows natives before world
     → MayCome world e
@@ -431,7 +432,7 @@ Did natives false e before listing after listed =
     ((world : World) → Shows natives before world → ¬ (MayCome world e)) × (after ≡ before) × (listed ≡ listing)
 
 -- An event was played so, whatever world the machine shows; or it may not come, and nothing changed.
-abbrev pub Played : List (List ℕ) → Bool → Event → Machine → Listing → Machine → Listing → Type 0
+abbrev pub Played : Names → Bool → Event → Machine → Listing → Machine → Listing → Type 0
 Played natives true e before listing after listed =
     (world : World) → Shows natives before world
     → (lines : List Line) × (next : World) × Plays world e lines next × Shows natives after next × Tells listing lines listed
@@ -440,36 +441,36 @@ Played natives false e before listing after listed = Did natives false e before 
 -- ---- reading in pieces
 
 -- how a rehearsal ends of which the event of this number didn't come
-abbrev pub by_left : List ℕ → ℕ → Rehearsal
+abbrev pub by_left : Bytes → ℕ → Rehearsal
 by_left [] event = answers.Done
 by_left (byte ∷ left) event = answers.BadEvent event
 
-abbrev pub ending_of : Option Stopped → List ℕ → ℕ → Rehearsal
+abbrev pub ending_of : Option Stopped → Bytes → ℕ → Rehearsal
 ending_of None left event = answers.BadEvent event
 ending_of (Some stops.AtEnd) left event = by_left left event
 ending_of (Some stops.AtFault) left event = answers.ReadFault
 
 -- why a read is the last one
 abbrev pub stop_of : ReadAnswer → Option Stopped
-stop_of (Bytes zero) = Some stops.AtEnd
-stop_of (Bytes (suc count)) = None
+stop_of (Gave zero) = Some stops.AtEnd
+stop_of (Gave (suc count)) = None
 stop_of Failed = Some stops.AtFault
 
 -- Why reading stopped: nothing is left to give, where the source told at first what it had; or its count rose since it was this.
-abbrev pub StopsAt : Option Stopped → Option (List ℕ) → Option (List ℕ) → ℕ → ℕ → Type 0
+abbrev pub StopsAt : Option Stopped → Option Bytes → Option Bytes → ℕ → ℕ → Type 0
 StopsAt None told rest first faults = Unit {0}
-StopsAt (Some stops.AtEnd) told rest first faults = (input : List ℕ) → told ≡ Some input → rest ≡ Some []
+StopsAt (Some stops.AtEnd) told rest first faults = (input : Bytes) → told ≡ Some input → rest ≡ Some []
 StopsAt (Some stops.AtFault) told rest first faults = Rose first faults
 
 -- Nothing of what was read and not played is lost, and more may have come. Where reading has stopped, the cause is one since any
 -- earlier moment from which on the source gave what it gave.
-pub record Fetches (before : IntakeState) (rest : Option (List ℕ)) (faults : ℕ) (after : IntakeState) (rest_after : Option (List ℕ)) (faults_after : ℕ) : Type 0 where
-  pub given : List ℕ
+pub record Fetches (before : IntakeState) (rest : Option Bytes) (faults : ℕ) (after : IntakeState) (rest_after : Option Bytes) (faults_after : ℕ) : Type 0 where
+  pub given : Bytes
   pub gives : Gives rest given rest_after
   pub left : after.left ≡ before.left ++ given
   pub place : after.place ≡ before.place
   pub counts : faults ≤ faults_after
-  pub stops : (told : Option (List ℕ)) (all : List ℕ) (first : ℕ) → Gives told all rest → first ≤ faults
+  pub stops : (told : Option Bytes) (all : Bytes) (first : ℕ) → Gives told all rest → first ≤ faults
       → StopsAt before.stopped told rest first faults → StopsAt after.stopped told rest_after first faults_after
 
 -- a piece came, or reading has stopped
@@ -478,14 +479,14 @@ Took true before after = (length (before.left) < length (after.left)) × (after.
 Took false before after = (after.left ≡ before.left) × (after.stopped ≢ None)
 
 -- none of these bytes is a newline
-abbrev pub HasNoNewline : List ℕ → Type 0
+abbrev pub HasNoNewline : Bytes → Type 0
 HasNoNewline bytes = IsTrue (list_all (is_other 10) bytes)
 
 -- A line of so many bytes stands in front, with its newline; or no newline is there, and reading has stopped, or a line that ends
 -- behind what is there goes past the last byte.
 abbrev pub FindsLine : Option ℕ → IntakeState → Type 0
 FindsLine (Some size) after =
-    (line : List ℕ) × (rest : List ℕ) × (after.left ≡ line ++ 10 ∷ rest) × HasNoNewline line × (length line ≡ size)
+    (line : Bytes) × (rest : Bytes) × (after.left ≡ line ++ 10 ∷ rest) × HasNoNewline line × (length line ≡ size)
 FindsLine None after = HasNoNewline (after.left) × ((after.stopped ≢ None) ⊎ ((most_file - after.place) < length (after.left)))
 
 -- so many bytes are there, or fewer, and reading has stopped
@@ -498,7 +499,7 @@ abbrev pub HasFew : World → Type 0
 HasFew world = length world.workers ≤ most_workers
 
 -- no event comes next in what is left and these further bytes, in any world of few workers
-abbrev pub IsNoEvent : IntakeState → List ℕ → Type 0
+abbrev pub IsNoEvent : IntakeState → Bytes → Type 0
 IsNoEvent after more = (world : World) (e : Event) → HasFew world → ¬ (ComesNext world after.place (after.left ++ more) e)
 
 -- The front of what is left may be an event of so many bytes, at least one, and is none of another length, whatever follows. Or no event
@@ -506,21 +507,21 @@ IsNoEvent after more = (world : World) (e : Event) → HasFew world → ¬ (Come
 abbrev pub FindsEvent : Option ℕ → IntakeState → Type 0
 FindsEvent (Some size) after =
     (0 < size) × (size ≤ length (after.left)) × (after.place + size ≤ most_file)
-    × ((more : List ℕ) (world : World) (e : Event) → HasFew world → ComesNext world after.place (after.left ++ more) e → length (spelled e) ≡ size)
+    × ((more : Bytes) (world : World) (e : Event) → HasFew world → ComesNext world after.place (after.left ++ more) e → length (spelled e) ≡ size)
 FindsEvent None after =
     IsNoEvent after []
-    × ((after.stopped ≢ None) ⊎ ((¬ (after.left ≡ [])) × ((more : List ℕ) → IsNoEvent after more)))
+    × ((after.stopped ≢ None) ⊎ ((¬ (after.left ≡ [])) × ((more : Bytes) → IsNoEvent after more)))
 
 -- ---- files
 
 -- A rehearsal under way: the bytes that were given begin with the events that were played, which lead to a world that the machine
 -- shows; of their listing this was passed on, and the rest stands ready.
-pub record SoFar (natives : List (List ℕ)) (before now : Outside) (play : Play) : Type 0 where
-  pub given : List ℕ
+pub record SoFar (natives : Names) (before now : Outside) (play : Play) : Type 0 where
+  pub given : Bytes
   pub events : List Event
   pub lines : List Line
   pub world : World
-  pub passed : List ℕ
+  pub passed : Bytes
   pub read : Gives before.input given now.input
   pub counts : KeepsCounts before now
   pub stops : StopsAt play.intake.stopped before.input now.input before.read_faults now.read_faults
@@ -535,15 +536,15 @@ pub record SoFar (natives : List (List ℕ)) (before now : Outside) (play : Play
   pub gained : Gains before.output passed now.output
 
 -- The event of so many bytes in front came and stands told; or it may not come, and all is as it was.
-abbrev pub PlaysOne : List (List ℕ) → Bool → ℕ → Play → Play → Type 0
+abbrev pub PlaysOne : Names → Bool → ℕ → Play → Play → Type 0
 PlaysOne natives true size before after = (outside now : Outside) → SoFar natives outside now before → SoFar natives outside now after
 PlaysOne natives false size before after =
     (after ≡ before)
-    × ((more : List ℕ) (world : World) → Shows natives before.machine world
+    × ((more : Bytes) (world : World) → Shows natives before.machine world
     → (e : Event) → length (spelled e) ≡ size → ¬ (ComesNext world before.intake.place (before.intake.left ++ more) e))
 
 -- What stood ready was passed on; or the sink failed, when it had taken so many bytes of the whole listing.
-abbrev pub PassesOn : List (List ℕ) → Option Rehearsal → Outside → Outside → Play → Play → Outside → Type 0
+abbrev pub PassesOn : Names → Option Rehearsal → Outside → Outside → Play → Play → Outside → Type 0
 PassesOn natives None outside now before after then = SoFar natives outside now before → SoFar natives outside then after × (after.listing.text ≡ [])
 PassesOn natives (Some answer) outside now before after then = SoFar natives outside now before → Ends natives outside answer then
 
@@ -557,14 +558,14 @@ IsOfSink (Some (answers.WriteFault sent)) = Unit {0}
 IsOfSink (Some answers.NoMemory) = ⊥
 
 -- what a source and a sink tell of themselves
-abbrev pub outside_of : Option (List ℕ) → ℕ → Option (List ℕ) → ℕ → Outside
+abbrev pub outside_of : Option Bytes → ℕ → Option Bytes → ℕ → Outside
 outside_of input read_faults output write_faults =
     record { input = input; read_faults = read_faults; output = output; write_faults = write_faults }
 
 -- what was counted of the whole input, where that is told
-abbrev pub IsCounted : List (List ℕ) → Option (List ℕ) → Rehearsal → Tally → Type 0
+abbrev pub IsCounted : Names → Option Bytes → Rehearsal → Tally → Type 0
 IsCounted natives told answers.Done tally =
-    (input : List ℕ) → told ≡ Some input → (events : List Event) × (lines : List Line) × Holds natives input events lines whole × (tally ≡ tally_of lines)
+    (input : Bytes) → told ≡ Some input → (events : List Event) × (lines : List Line) × Holds natives input events lines whole × (tally ≡ tally_of lines)
 IsCounted natives told (answers.BadEvent event) tally = Unit {0}
 IsCounted natives told answers.ReadFault tally = Unit {0}
 IsCounted natives told (answers.WriteFault sent) tally = Unit {0}

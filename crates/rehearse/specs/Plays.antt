@@ -2,6 +2,7 @@
 use Rattle.std.specs.Prelude.{◌≡◌, ℕ, ◌<◌, ◌≤◌, List, [], ◌∷◌, ◌++◌, length, false, slice_get, slice_set, ◌||◌, ◌==◌, Bool, Some}
 use Rattle.std.specs.FinMap as map
 use Rattle.std.specs.List.{list_any}
+use Rattle.txt_core.specs.Names.{Bytes, Names, Moment}
 use Rattle.txt_core.specs.Limits.{last_moment}
 use Rattle.rehearse.specs.Events.{Actor, worker, scheduler, Event, workers, clock, page, define, connect, step, run, most_page, most_block, most_input, most_workers}
 use Rattle.rehearse.specs.Lines.{Line}
@@ -9,7 +10,7 @@ use Rattle.rehearse.specs.Objects.{Setting}
 use Rattle.rehearse.specs.declared.objects.Objects.{Objects}
 use Rattle.rehearse.specs.Defining.{begun_block, Settles}
 use Rattle.rehearse.specs.Schedules.{Agenda, ScheduleStep, ScheduleRuns}
-use Rattle.rehearse.specs.Steps.{Place, Step, RunsUntilIdle}
+use Rattle.rehearse.specs.Steps.{Position, Step, RunsUntilIdle}
 use Rattle.rehearse.specs.World.{World, Worker, idle, connected, new_connection, all_idle, opening, with_setting, with_objects, with_workers, as_started}
 
 -- ---- which events may come
@@ -19,8 +20,8 @@ abbrev pub is_break : ℕ → Bool
 is_break byte = byte == 32 || byte == 10
 
 -- a path is a word that begins with a slash
-abbrev pub IsPath : List ℕ → Type 0
-IsPath path = (rest : List ℕ) × (path ≡ 47 ∷ rest) × (list_any is_break rest ≡ false)
+abbrev pub IsPath : Bytes → Type 0
+IsPath path = (rest : Bytes) × (path ≡ 47 ∷ rest) × (list_any is_break rest ≡ false)
 
 -- the scheduler is always there, and a worker where its number is below that of the workers
 abbrev pub IsThere : World → Actor → Type 0
@@ -54,23 +55,23 @@ abbrev pub SetsWorkers : World → ℕ → List Line → World → Type 0
 SetsWorkers before count lines after = Quietly (with_workers before (all_idle count)) lines after
 
 -- the clock shows this moment
-abbrev pub SetsClock : World → ℕ → List Line → World → Type 0
+abbrev pub SetsClock : World → Moment → List Line → World → Type 0
 SetsClock before moment lines after = Quietly (with_setting before (record before.setting { moment = moment })) lines after
 
 -- the page of a path is this text, whatever it was
-abbrev pub SetsPage : World → List ℕ → List ℕ → List Line → World → Type 0
+abbrev pub SetsPage : World → Bytes → Bytes → List Line → World → Type 0
 SetsPage before path text lines after =
     Quietly (with_setting before (record before.setting { pages = map.insert before.setting.pages path text })) lines after
 
 -- the worker of this number has a connection with this input
-abbrev pub Connects : World → ℕ → List ℕ → List Line → World → Type 0
+abbrev pub Connects : World → ℕ → Bytes → List Line → World → Type 0
 Connects before number input lines after =
     Quietly (with_workers before (slice_set before.workers number (connected (new_connection input)))) lines after
 
 -- ---- what runs
 
 -- A block is run on the blueprint and at the moment as they are, to its end, which is told.
-pub record Defines (before : World) (block : List ℕ) (lines : List Line) (after : World) : Type 0 where
+pub record Defines (before : World) (block : Bytes) (lines : List Line) (after : World) : Type 0 where
   pub objects : Objects
   pub line : Line
   pub settles : Settles before.setting (begun_block before.setting before.objects block) before.objects line objects
@@ -78,9 +79,9 @@ pub record Defines (before : World) (block : List ℕ) (lines : List Line) (afte
   pub after_is : after ≡ with_objects before objects
 
 -- The worker of this number goes from its place to another, and so do the objects; the others stay.
-pub record Moves (Goes : ℕ → Setting → Place → List Line → Place → Type 0) (before : World) (number : ℕ) (lines : List Line) (after : World) : Type 0 where
+pub record Moves (Goes : ℕ → Setting → Position → List Line → Position → Type 0) (before : World) (number : ℕ) (lines : List Line) (after : World) : Type 0 where
   pub mover : Worker
-  pub place : Place
+  pub place : Position
   pub there : slice_get before.workers number ≡ Some mover
   pub goes : Goes number before.setting (record { worker = mover; objects = before.objects }) lines place
   pub after_is : after ≡ record before { objects = place.objects; workers = slice_set before.workers number place.worker }
@@ -127,7 +128,7 @@ pub data Lists : World → List Event → List Line → World → Type 0 where
       → Lists before (e ∷ events) (lines ++ others) after
 
 -- A world that some events lead to, from the one before the first event on.
-pub record Reached (natives : List (List ℕ)) (world : World) : Type 0 where
+pub record Reached (natives : Names) (world : World) : Type 0 where
   pub events : List Event
   pub lines : List Line
   pub lists : Lists (opening natives) events lines world

@@ -1,6 +1,7 @@
 -- What the readers of the program find.
-use Rattle.std.specs.Prelude.{◌≡◌, ℕ, ◌+◌, ◌≤◌, List, [], ◌∷◌, ◌++◌, length, Bool, not, ◌==◌, IsTrue, Option, Some, None, decimal, codes}
+use Rattle.std.specs.Prelude.{◌≡◌, ℕ, ◌+◌, ◌≤◌, [], ◌∷◌, ◌++◌, length, Bool, not, ◌==◌, IsTrue, Option, Some, None, decimal, codes}
 use Rattle.std.specs.List.{list_all, join_with_byte}
+use Rattle.txt_core.specs.Names.{Bytes, Words}
 use Rattle.rehearse.specs.declared.event.Event as code_event
 use Rattle.rehearse.specs.declared.event.Event.TheVariants as code_events
 use Rattle.rehearse.specs.declared.head.Actor as code_actor
@@ -18,13 +19,13 @@ abbrev pub is_other : ℕ → ℕ → Bool
 is_other byte b = not (b == byte)
 
 -- A text is cut at the first of these bytes: the first part has none, and the second is behind it.
-abbrev pub CutAt : ℕ → List ℕ → List ℕ × List ℕ → Type 0
+abbrev pub CutAt : ℕ → Bytes → Bytes × Bytes → Type 0
 CutAt byte text x = IsTrue (list_all (is_other byte) x.0) × (text ≡ x.0 ++ byte ∷ x.1)
 
 -- ---- lines
 
 -- the first word of each event
-abbrev pub name_of : Keyword → List ℕ
+abbrev pub name_of : Keyword → Bytes
 name_of keywords.Workers = codes "workers"
 name_of keywords.Clock = codes "clock"
 name_of keywords.Page = codes "page"
@@ -42,15 +43,15 @@ IsShortActor (worker number) = IsSmall number
 IsShortActor scheduler = Unit {0}
 
 -- the word of an actor, whose number is small
-abbrev pub IsActor : code_actor.Actor → List ℕ → Type 0
+abbrev pub IsActor : code_actor.Actor → Bytes → Type 0
 IsActor actor word = IsShortActor (actor_of actor) × (word ≡ actor_word (actor_of actor))
 
 -- a slash stands in front, and no space behind it
-abbrev pub IsPathWord : List ℕ → Type 0
-IsPathWord path = (rest : List ℕ) × (path ≡ 47 ∷ rest) × IsTrue (list_all (is_other 32) rest)
+abbrev pub IsPathWord : Bytes → Type 0
+IsPathWord path = (rest : Bytes) × (path ≡ 47 ∷ rest) × IsTrue (list_all (is_other 32) rest)
 
 -- the words of the line
-abbrev pub head_words : Head → List (List ℕ)
+abbrev pub head_words : Head → Words
 head_words (heads.Workers count) = codes "workers" ∷ decimal count ∷ []
 head_words (heads.Clock moment) = codes "clock" ∷ decimal moment ∷ []
 head_words (heads.Page path size) = codes "page" ∷ path.now ∷ decimal size ∷ []
@@ -79,14 +80,14 @@ IsShortHead (heads.Connect number size) = IsSmall number × (size ≤ most_input
 IsShortHead (heads.Step actor) = IsShortActor (actor_of actor)
 IsShortHead (heads.Run actor) = IsShortActor (actor_of actor)
 
-abbrev pub IsHead : Head → List ℕ → Type 0
+abbrev pub IsHead : Head → Bytes → Type 0
 IsHead head line = IsShortHead head × (line ≡ join_with_byte 32 (head_words head))
 
 -- the words behind `page`, and those behind `connect`
-abbrev pub PageAt : Head → List ℕ → Type 0
+abbrev pub PageAt : Head → Bytes → Type 0
 PageAt head words = IsHead head (codes "page " ++ words)
 
-abbrev pub ConnectAt : Head → List ℕ → Type 0
+abbrev pub ConnectAt : Head → Bytes → Type 0
 ConnectAt head words = IsHead head (codes "connect " ++ words)
 
 -- how many bytes stand behind the line
@@ -95,7 +96,7 @@ behind_line None = 0
 behind_line (Some size) = size + 1
 
 -- the event of the line has so many bytes
-abbrev pub SizeOf : List ℕ → ℕ → Type 0
+abbrev pub SizeOf : Bytes → ℕ → Type 0
 SizeOf line size = (head : Head) × IsHead head line × (size ≡ length line + 1 + behind_line (head_block head))
 
 -- ---- events
@@ -124,8 +125,8 @@ IsShort (run actor) = IsShortActor actor
 abbrev pub HasHead : Head → Event → Type 0
 HasHead (heads.Workers count) e = e ≡ workers count
 HasHead (heads.Clock moment) e = e ≡ clock moment
-HasHead (heads.Page path size) e = (text : List ℕ) × (length text ≡ size) × (e ≡ page path.now text)
-HasHead (heads.Define size) e = (block : List ℕ) × (length block ≡ size) × (e ≡ define block)
-HasHead (heads.Connect number size) e = (input : List ℕ) × (length input ≡ size) × (e ≡ connect number input)
+HasHead (heads.Page path size) e = (text : Bytes) × (length text ≡ size) × (e ≡ page path.now text)
+HasHead (heads.Define size) e = (block : Bytes) × (length block ≡ size) × (e ≡ define block)
+HasHead (heads.Connect number size) e = (input : Bytes) × (length input ≡ size) × (e ≡ connect number input)
 HasHead (heads.Step actor) e = e ≡ step (actor_of actor)
 HasHead (heads.Run actor) e = e ≡ run (actor_of actor)

@@ -1,5 +1,6 @@
 -- Where a run stands: it is replayed from a fresh state, with all answers that it has had.
-use Rattle.std.specs.Prelude.{ℕ, List, Bool, true, false}
+use Rattle.std.specs.Prelude.{List, Bool, true, false}
+use Rattle.txt_core.specs.Names.{Names}
 use Rattle.outside.specs.declared.question.Answer.{Answer}
 use Rattle.outside.specs.declared.question.Question.{Question}
 use Rattle.http_resp.specs.declared.response.Response.{Response}
@@ -25,30 +26,30 @@ stand_of (ends outcome state inside left) = over outcome
 -- ---- requests
 
 -- where its response was written, whole, it goes on with what comes behind it, on the answers that are left
-abbrev pub behind_response : List (List ℕ) → Open → Progress → Progress
+abbrev pub behind_response : Names → Open → Progress → Progress
 behind_response natives request (asks question state inside) = asks question state inside
 behind_response natives request (writes response ending state inside left) =
     behind natives request.blueprint request.moment true request.request ending state inside left
 behind_response natives request (ends outcome state inside left) = ends outcome state inside left
 
-abbrev pub by_written : List (List ℕ) → Bool → Open → Progress → Progress
+abbrev pub by_written : Names → Bool → Open → Progress → Progress
 by_written natives true request progress = behind_response natives request progress
 by_written natives false request progress = progress
 
 -- How far a request comes with these answers, on natives of these names: its run begins in the fresh state of the blueprint and the
 -- moment at which the request began.
-abbrev pub request_progress : List (List ℕ) → Open → List Answer → Progress
+abbrev pub request_progress : Names → Open → List Answer → Progress
 request_progress natives request answers =
     by_written natives request.written request (Main natives request.blueprint request.request request.moment answers)
 
-abbrev pub request_stand : List (List ℕ) → Open → Stand
+abbrev pub request_stand : Names → Open → Stand
 request_stand natives request = stand_of (request_progress natives request request.answers)
 
 -- ---- scheduled scripts
 
 -- the same of a scheduled script, which has no response
-abbrev pub script_progress : List (List ℕ) → Script → List Answer → Progress
+abbrev pub script_progress : Names → Script → List Answer → Progress
 script_progress natives script answers = runs.Script natives script.blueprint script.script script.moment answers
 
-abbrev pub script_stand : List (List ℕ) → Script → Stand
+abbrev pub script_stand : Names → Script → Stand
 script_stand natives script = stand_of (script_progress natives script script.answers)

@@ -1,5 +1,6 @@
 -- The steps of the scheduler.
 use Rattle.std.specs.Prelude.{◌≡◌, ◌≢◌, ℕ, List, [], ◌∷◌, ◌++◌, Some, None}
+use Rattle.txt_core.specs.Names.{Moment}
 use Rattle.outside.specs.declared.question.Answer.{Answer}
 use Rattle.outside.specs.declared.question.Question.{Question}
 use Rattle.sched_core.specs.Allowed.{Allowed}
@@ -35,7 +36,7 @@ due_scripts replies.NoMemory = []
 
 -- The scripts that are due at this moment are taken, by a step of the schedule itself: those that are due first stand first, and of
 -- several that are due at once those with the lower ids.
-pub record TakesDue (moment : ℕ) (before after : Agenda) : Type 0 where
+pub record TakesDue (moment : Moment) (before after : Agenda) : Type 0 where
   pub reply : SchedReply
   pub schedule : State
   pub steps : Steps before.objects.schedule (calls.Due moment) reply schedule

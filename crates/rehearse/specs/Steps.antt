@@ -1,5 +1,6 @@
 -- The steps of a worker.
 use Rattle.std.specs.Prelude.{◌≡◌, ℕ, List, [], ◌∷◌, ◌++◌, true, false, Some, None}
+use Rattle.txt_core.specs.Names.{Bytes}
 use Rattle.outside.specs.declared.question.Answer.{Answer}
 use Rattle.outside.specs.declared.question.Question.{Question}
 use Rattle.http_req.specs.Outcomes.{Gets, Whole, End, Truncated, Refused}
@@ -19,17 +20,17 @@ use Rattle.rehearse.specs.Runs.{asking, ready, over, request_stand}
 use Rattle.rehearse.specs.World.{Open, Connection, Worker, idle, connected, peer, with_request, with_answer, with_written, without_request}
 
 -- A worker, and the objects.
-pub record Place : Type 0 where
+pub record Position : Type 0 where
   pub worker : Worker
   pub objects : Objects
 
 -- the worker is this one now, and the objects are as they were
-abbrev pub with_worker : Place → Worker → Place
+abbrev pub with_worker : Position → Worker → Position
 with_worker place worker = record { worker = worker; objects = place.objects }
 
 -- The bytes of a response of the request under way. It says that the connection closes where the request asked so, where it is the
 -- last that a connection may have, and where the answers have passed what a connection may have.
-abbrev pub bytes_of : Connection → Open → Response → List ℕ
+abbrev pub bytes_of : Connection → Open → Response → Bytes
 bytes_of connection request reply =
     response_bytes reply request.moment (connections.is_head_only request.request)
     (connections.closes (connections.asks_close request.request) connection.requests connection.answer_bytes)
@@ -58,7 +59,7 @@ abbrev pub IsBetween : Worker → Connection → Type 0
 IsBetween worker connection = (worker ≡ connected connection) × (connection.request ≡ None)
 
 -- A step of the worker of this number, and what it tells. What fits a worker is one of these.
-pub data Step (number : ℕ) (setting : Setting) (before : Place) (lines : List Line) (after : Place) : Type 0 where
+pub data Step (number : ℕ) (setting : Setting) (before : Position) (lines : List Line) (after : Position) : Type 0 where
   -- an idle worker does nothing
   rests : before.worker ≡ idle → lines ≡ [] → after ≡ before → Step number setting before lines after
   -- it answers the open question, from the objects and the pages as they are now
@@ -114,9 +115,9 @@ pub data Step (number : ℕ) (setting : Setting) (before : Place) (lines : List 
       → Step number setting before lines after
 
 -- Steps, at least one, until the worker is idle.
-pub data RunsUntilIdle (number : ℕ) (setting : Setting) : Place → List Line → Place → Type 0 where
-  last : {before after : Place} {lines : List Line}
+pub data RunsUntilIdle (number : ℕ) (setting : Setting) : Position → List Line → Position → Type 0 where
+  last : {before after : Position} {lines : List Line}
       → Step number setting before lines after → after.worker ≡ idle → RunsUntilIdle number setting before lines after
-  more : {before between after : Place} (lines others : List Line)
+  more : {before between after : Position} (lines others : List Line)
       → Step number setting before lines between → ¬ (between.worker ≡ idle)
       → RunsUntilIdle number setting between others after → RunsUntilIdle number setting before (lines ++ others) after

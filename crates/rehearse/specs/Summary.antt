@@ -1,5 +1,6 @@
 -- What is counted of a listing.
 use Rattle.std.specs.Prelude.{◌≡◌, ℕ, ◌+◌, min, ◌==◌, Bool, List, [], ◌∷◌, ◌++◌, length, decimal, codes, if◌then◌else◌}
+use Rattle.txt_core.specs.Names.{Bytes, Names}
 use Rattle.outside.specs.Faults.{last_count}
 use Rattle.rehearse.specs.declared.tally.Tally.{Tally}
 use Rattle.rehearse.specs.declared.playback.Counted.{Counted}
@@ -20,7 +21,7 @@ capped count more = min (count + more) last_count
 abbrev pub one_if : Bool → ℕ → ℕ
 one_if test count = if test then capped count 1 else count
 
-abbrev pub with_response : Tally → ℕ → List ℕ → Tally
+abbrev pub with_response : Tally → ℕ → Bytes → Tally
 with_response tally status bytes = record {
   found = one_if (status == 200) tally.found;
   missing = one_if (status == 404) tally.missing;
@@ -47,7 +48,7 @@ abbrev pub tally_of : List Line → Tally
 tally_of lines = with_lines nothing lines
 
 -- The four lines that tell of so many requests and what was counted.
-abbrev pub summary : ℕ → Tally → List ℕ
+abbrev pub summary : ℕ → Tally → Bytes
 summary requests tally =
     line_of (codes "requests" ∷ decimal requests ∷ [])
     ++ line_of (codes "status" ∷ codes "200" ∷ decimal tally.found ∷ [])
@@ -56,7 +57,7 @@ summary requests tally =
 
 -- What was counted of a file: of the listing of the events that it holds, where it holds nothing else; or the event of this number is
 -- none. Nothing is said where the source failed or memory ran out.
-abbrev pub Counts : List (List ℕ) → List ℕ → Counted → Type 0
+abbrev pub Counts : Names → Bytes → Counted → Type 0
 Counts natives file (counts.Done tally) =
     (events : List Event) × (lines : List Line) × Holds natives file events lines whole × (tally ≡ tally_of lines)
 Counts natives file (counts.BadEvent event) =

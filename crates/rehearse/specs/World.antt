@@ -1,5 +1,6 @@
 -- The machine of one thread: its workers, its scheduler, and what they share.
 use Rattle.std.specs.Prelude.{ℕ, ◌+◌, List, [], ◌∷◌, ◌++◌, drop, replicate, Bool, true, false, codes, Option, Some, None}
+use Rattle.txt_core.specs.Names.{Bytes, Names, Moment}
 use Rattle.outside.specs.declared.question.Answer.{Answer}
 use Rattle.http_req.specs.declared.request.Request.{Request}
 use Rattle.sched_core.specs.declared.call.DueScript.{DueScript}
@@ -15,7 +16,7 @@ pub record Open : Type 0 where
   pub request : Request
   -- the blueprint and the moment at which it began, by which the whole of it is served
   pub blueprint : Edition
-  pub moment : ℕ
+  pub moment : Moment
   -- what its questions were answered so far, in order
   pub answers : List Answer
   -- its response was written
@@ -23,7 +24,7 @@ pub record Open : Type 0 where
 
 pub record Connection : Type 0 where
   -- the input that no request took yet
-  pub input : List ℕ
+  pub input : Bytes
   -- how many requests began
   pub requests : ℕ
   -- how many bytes of answers they have had, together
@@ -37,11 +38,11 @@ pub data Worker : Type 0 where
   connected : (connection : Connection) → Worker
 
 -- where all connections come from
-abbrev pub peer : List ℕ
+abbrev pub peer : Bytes
 peer = codes "127.0.0.1"
 
 -- a connection with this input, of which nothing was used
-abbrev pub new_connection : List ℕ → Connection
+abbrev pub new_connection : Bytes → Connection
 new_connection input = record { input = input; requests = 0; answer_bytes = 0; request = None }
 
 -- a request begins, on the blueprint and at the moment as they are now
@@ -78,10 +79,10 @@ without_request connection = record connection { request = None }
 -- A scheduled script under way.
 pub record Script : Type 0 where
   pub id : ℕ
-  pub script : List ℕ
+  pub script : Bytes
   -- the blueprint and the moment at which it began
   pub blueprint : Edition
-  pub moment : ℕ
+  pub moment : Moment
   -- what its questions were answered so far, in order
   pub answers : List Answer
 
@@ -119,7 +120,7 @@ abbrev pub all_idle : ℕ → List Worker
 all_idle count = replicate count idle
 
 -- the world before the first event, with natives of these names; there is one worker
-abbrev pub opening : List (List ℕ) → World
+abbrev pub opening : Names → World
 opening natives = record {
   started = false;
   setting = first_setting natives;

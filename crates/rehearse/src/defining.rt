@@ -57,8 +57,11 @@ impl Run {
         question: Question,
         steps: &mut Steps<L>,
     ) -> Result<Next, NoMemory>
-        requires { IsUnderWay (names_of natives.now) objects.old.blueprint (nexts.Asks question) self.old.interp }
-        ensures { IfOk result (λ next. WentOn (setting_of (names_of natives.now) setting.now) question self.old objects.old next self.new objects.new) }
+        requires { IsUnderWay (names_of natives.now) objects.old.blueprint (nexts.Asks question)
+            self.old.interp }
+        ensures { IfOk result (λ next.
+            WentOn (setting_of (names_of natives.now) setting.now) question self.old objects.old
+            next self.new objects.new) }
     {
         objects.blueprint.shown();
         let service = question.service;
@@ -77,9 +80,12 @@ impl Run {
         first: Next,
         steps: &mut Steps<L>,
     ) -> Result<Outcome, NoMemory>
-        requires ready { IsUnderWay (names_of natives.now) objects.old.blueprint first self.old.interp }
+        requires ready { IsUnderWay (names_of natives.now) objects.old.blueprint first
+            self.old.interp }
         requires stands { (seen : Seen) × DefinesAs (names_of natives.now) first self.old seen }
-        ensures { IfOk result (λ outcome. Finished (setting_of (names_of natives.now) setting.now) first self.old objects.old outcome self.new objects.new) }
+        ensures { IfOk result (λ outcome.
+            Finished (setting_of (names_of natives.now) setting.now) first self.old objects.old
+            outcome self.new objects.new) }
     {
         let mut next = first;
         'questions: loop {
@@ -121,8 +127,12 @@ impl Definer {
         steps: &mut Steps<L>,
     ) -> Result<(), NoMemory>
         requires { KeepsOn (names_of natives.now) objects.old.blueprint self.old.keeper }
-        ensures settled { let setting = setting_of (names_of natives.now) setting.now in OnOk result (Settled setting (begun_block setting objects.old block.now) objects.old listing.old objects.new listing.new) }
-        ensures keeps { OnOk result (KeepsOn (names_of natives.now) objects.new.blueprint self.new.keeper) }
+        ensures settled { let setting = setting_of (names_of natives.now) setting.now in
+            OnOk result
+            (Settled setting (begun_block setting objects.old block.now) objects.old listing.old
+            objects.new listing.new) }
+        ensures keeps { OnOk result
+            (KeepsOn (names_of natives.now) objects.new.blueprint self.new.keeper) }
     {
         let mut interp = self
             .keeper

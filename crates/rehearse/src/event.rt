@@ -33,7 +33,8 @@ pub enum Event<'a> {
 
 /// The block behind a line, where it has so many bytes and a newline follows, and nothing else.
 fn read_block(bytes: &[u8], size: usize) -> Option<&[u8]>
-    ensures { Finds (λ block. (length block ≡ size) × (bytes.now ≡ block_end (Some block))) (option_copied result) }
+    ensures { Finds (λ block. (length block ≡ size) × (bytes.now ≡ block_end (Some block)))
+        (option_copied result) }
 {
     let block = bytes.strip_suffix(b"\n")?;
     if block.len() == size {
@@ -45,7 +46,8 @@ fn read_block(bytes: &[u8], size: usize) -> Option<&[u8]>
 
 /// The event that stands behind a line; `None` where the block isn't as long as the line says.
 fn with_block<'a>(head: Head<'a>, behind: &'a [u8]) -> Option<Event<'a>>
-    ensures { Finds (λ e. HasHead head.entry e × (behind.entry.now ≡ block_end (block_of e))) (option_map event_of result) }
+    ensures { Finds (λ e. HasHead head.entry e × (behind.entry.now ≡ block_end (block_of e)))
+        (option_map event_of result) }
 {
     match head {
         Head::Page(path, size) => Some(Event::Page(path, read_block(behind, size)?)),

@@ -97,7 +97,8 @@ impl Intake {
 
     /// Reads one piece more, and tells whether any byte came.
     fn fetch<S: Source>(&mut self, source: &mut S) -> Result<bool, NoMemory>
-        ensures fetches { Fetches self.old (S.rest source.old) (S.faults source.old) self.new (S.rest source.new) (S.faults source.new) }
+        ensures fetches { Fetches self.old (S.rest source.old) (S.faults source.old) self.new
+            (S.rest source.new) (S.faults source.new) }
         ensures took { IfOk result (λ came. Took came self.old self.new) }
     {
         if self.stopped.is_some() {
@@ -121,7 +122,8 @@ impl Intake {
     /// that ends in time.
     fn fetch_line<S: Source>(&mut self, source: &mut S) -> Result<Option<usize>, NoMemory>
         ensures finds { IfOk result (λ found. FindsLine found self.new) }
-        ensures fetches { Fetches self.old (S.rest source.old) (S.faults source.old) self.new (S.rest source.new) (S.faults source.new) }
+        ensures fetches { Fetches self.old (S.rest source.old) (S.faults source.old) self.new
+            (S.rest source.new) (S.faults source.new) }
     {
         let mut seen = 0;
         'pieces: loop {
@@ -141,7 +143,8 @@ impl Intake {
     /// Reads until so many bytes are there, and tells whether they are.
     fn fetch_bytes<S: Source>(&mut self, source: &mut S, size: usize) -> Result<bool, NoMemory>
         ensures has { IfOk result (λ there. HasBytes there size self.new) }
-        ensures fetches { Fetches self.old (S.rest source.old) (S.faults source.old) self.new (S.rest source.new) (S.faults source.new) }
+        ensures fetches { Fetches self.old (S.rest source.old) (S.faults source.old) self.new
+            (S.rest source.new) (S.faults source.new) }
     {
         'pieces: while self.left().len() < size {
             if !self.fetch(source)? {
@@ -154,7 +157,8 @@ impl Intake {
     /// Reads until the line of an event and its block are there, and gives the length of both; `None`
     /// where none comes that ends in time, whatever follows what was read, or the source stopped first.
     pub fn fetch_event<S: Source>(&mut self, source: &mut S) -> Result<Option<usize>, NoMemory>
-        ensures fetches { Fetches self.old (S.rest source.old) (S.faults source.old) self.new (S.rest source.new) (S.faults source.new) }
+        ensures fetches { Fetches self.old (S.rest source.old) (S.faults source.old) self.new
+            (S.rest source.new) (S.faults source.new) }
         ensures finds { IfOk result (λ found. FindsEvent found self.new) }
     {
         let Some(line) = self.fetch_line(source)? else {
@@ -174,7 +178,9 @@ impl Intake {
     pub fn use_up(&mut self, size: usize)
         requires there { size ≤ length self.old.left }
         requires in_time { self.old.place + size ≤ most_file }
-        ensures { self.new ≡ record { left = drop size self.old.left; place = self.old.place + size; stopped = self.old.stopped } }
+        ensures { self.new
+            ≡ record
+            { left = drop size self.old.left; place = self.old.place + size; stopped = self.old.stopped } }
     {
         self.used += size;
         self.place += size;

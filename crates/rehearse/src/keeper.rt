@@ -1,6 +1,7 @@
 //! Interpreters that are kept between runs.
 
-ghost use Rattle.std.specs.Prelude.{◌≡◌, ℕ, List, IfOk, None};
+ghost use Rattle.std.specs.Prelude.{◌≡◌, IfOk, None};
+ghost use Rattle.txt_core.specs.Names.{Names};
 ghost use Rattle.blueprint.specs.States.{State};
 ghost use Rattle.natives.specs.Names.{names_of};
 ghost use Rattle.ictl.specs.Interps.{IsNew, IsSound};
@@ -32,7 +33,10 @@ fn build<L: Ledger>(
     steps: &mut Steps<L>,
 ) -> Result<Interp, NoMemory>
     requires { blueprint.now.natives ≡ names_of natives.now }
-    ensures { let names = names_of natives.now in IfOk result (λ interp. IsNew names interp × (interp.blueprint.value ≡ edition_of blueprint.now) × IsOn names blueprint.now interp) }
+    ensures { let names = names_of natives.now in
+        IfOk result (λ interp.
+        IsNew names interp × (interp.blueprint.value ≡ edition_of blueprint.now)
+        × IsOn names blueprint.now interp) }
 {
     let defs = blueprint.definitions()?;
     Interp::build(alloc, natives, blueprint.epoch(), &defs, steps)
@@ -47,8 +51,12 @@ fn renew<L: Ledger>(
     blueprint: &Blueprint,
     steps: &mut Steps<L>,
 ) -> Result<Interp, NoMemory>
-    requires { IsOn (names_of natives.now) blueprint.now interp × IsNew (names_of natives.now) interp }
-    ensures { let names = names_of natives.now in IfOk result (λ interp. IsNew names interp × (interp.blueprint.value ≡ edition_of blueprint.now) × IsOn names blueprint.now interp) }
+    requires { IsOn (names_of natives.now) blueprint.now interp
+        × IsNew (names_of natives.now) interp }
+    ensures { let names = names_of natives.now in
+        IfOk result (λ interp.
+        IsNew names interp × (interp.blueprint.value ≡ edition_of blueprint.now)
+        × IsOn names blueprint.now interp) }
 {
     match blueprint.look(interp.epoch()) {
         Look::Same => {
@@ -96,7 +104,10 @@ impl Keeper {
         steps: &mut Steps<L>,
     ) -> Result<Interp, NoMemory>
         requires { KeepsOn (names_of natives.now) blueprint.now self.old }
-        ensures is_new { let names = names_of natives.now in IfOk result (λ interp. IsNew names interp × (interp.blueprint.value ≡ edition_of blueprint.now) × IsOn names blueprint.now interp) }
+        ensures is_new { let names = names_of natives.now in
+            IfOk result (λ interp.
+            IsNew names interp × (interp.blueprint.value ≡ edition_of blueprint.now)
+            × IsOn names blueprint.now interp) }
         ensures none { self.new.interp ≡ None }
     {
         let Some(interp) = self.interp.take() else {
@@ -111,7 +122,9 @@ impl Keeper {
 
     /// Takes the interpreter of a run that has ended, and makes it as newly made.
     pub fn keep<L: Ledger>(&mut self, mut interp: Interp, steps: &mut Steps<L>)
-        ensures { (names : List (List ℕ)) (now : State) → now.natives ≡ names → IsSound names interp → IsOn names now interp → KeepsOn names now self.new }
+        ensures { (names : Names) (now : State) → now.natives ≡ names
+            → IsSound names interp → IsOn names now interp
+            → KeepsOn names now self.new }
     {
         interp.reset(steps);
         drop(mem::replace(&mut self.interp, Some(interp)));

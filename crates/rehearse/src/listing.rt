@@ -51,7 +51,9 @@ impl Listing {
 
     /// Appends a number and what stands behind it.
     fn push_number(&mut self, number: u64, behind: &[u8]) -> Result<(), NoMemory>
-        ensures { OnOk result ((self.new.text ≡ self.old.text ++ decimal number ++ behind.now) × (self.new.tally ≡ self.old.tally)) }
+        ensures { OnOk result
+            ((self.new.text ≡ self.old.text ++ decimal number ++ behind.now)
+            × (self.new.tally ≡ self.old.tally)) }
     {
         let digits = write_natural(self.alloc, number)?;
         self.text.append(digits.bytes())?;
@@ -60,7 +62,10 @@ impl Listing {
 
     /// Appends the length of a block as the last word of a line, and the block.
     fn push_block(&mut self, block: &[u8]) -> Result<(), NoMemory>
-        ensures { OnOk result ((self.new.text ≡ self.old.text ++ decimal (length block.now) ++ newline ++ block.now ++ newline) × (self.new.tally ≡ self.old.tally)) }
+        ensures { OnOk result
+            ((self.new.text
+            ≡ self.old.text ++ decimal (length block.now) ++ newline ++ block.now ++ newline)
+            × (self.new.tally ≡ self.old.tally)) }
     {
         self.push_number(block.len() as u64, b"\n")?;
         self.text.append(block)?;
@@ -69,7 +74,9 @@ impl Listing {
 
     /// Appends an epoch as a word with a space behind it; no epoch is a dash.
     fn push_epoch(&mut self, epoch: Option<u64>) -> Result<(), NoMemory>
-        ensures { OnOk result ((self.new.text ≡ self.old.text ++ epoch_word epoch ++ codes " ") × (self.new.tally ≡ self.old.tally)) }
+        ensures { OnOk result
+            ((self.new.text ≡ self.old.text ++ epoch_word epoch ++ codes " ")
+            × (self.new.tally ≡ self.old.tally)) }
     {
         match epoch {
             Some(epoch) => self.push_number(epoch, b" "),
@@ -125,7 +132,8 @@ impl Listing {
         status: u16,
         bytes: &[u8],
     ) -> Result<(), NoMemory>
-        ensures { OnOk result (Tells self.old (response number epoch status bytes.now ∷ []) self.new) }
+        ensures { OnOk result
+            (Tells self.old (response number epoch status bytes.now ∷ []) self.new) }
     {
         self.text.append(b"response ")?;
         self.push_number(number, b" ")?;

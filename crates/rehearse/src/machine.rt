@@ -1,6 +1,7 @@
 //! The machine of one thread.
 
-ghost use Rattle.std.specs.Prelude.{◌≡◌, ◌≤◌, ℕ, List, length, IfOk, OnOk};
+ghost use Rattle.std.specs.Prelude.{◌≡◌, ◌≤◌, length, IfOk, OnOk};
+ghost use Rattle.txt_core.specs.Names.{Names};
 ghost use Rattle.blueprint.specs.States.{State};
 ghost use Rattle.natives.specs.Names.{names_of};
 ghost use Rattle.rehearse.specs.Events.{workers, clock, page as spelled_page, define, connect, step, run, most_block, most_input};
@@ -43,8 +44,10 @@ pub struct Machine {
 
 /// So many workers without connections, whose numbers count from 0.
 fn idle_workers(alloc: Global, count: u64) -> Result<Vec<Worker>, NoMemory>
-    ensures shows { (names : List (List ℕ)) → IfOk result (λ made. ShowsWorkers names 0 made.items (all_idle count)) }
-    ensures ready { (names : List (List ℕ)) (now : State) → now.natives ≡ names → IfOk result (λ made. AreReady names now made.items) }
+    ensures shows { (names : Names)
+        → IfOk result (λ made. ShowsWorkers names 0 made.items (all_idle count)) }
+    ensures ready { (names : Names) (now : State) → now.natives ≡ names
+        → IfOk result (λ made. AreReady names now made.items) }
 {
     let mut made = Vec::new(alloc);
     for number in 0..count {
@@ -56,7 +59,8 @@ fn idle_workers(alloc: Global, count: u64) -> Result<Vec<Worker>, NoMemory>
 impl Machine {
     /// The machine before the first event.
     pub fn new(alloc: Global, natives: &Natives) -> Result<Machine, NoMemory>
-        ensures shows { let names = names_of natives.now in IfOk result (λ machine. Shows names machine (opening names)) }
+        ensures shows { let names = names_of natives.now in
+            IfOk result (λ machine. Shows names machine (opening names)) }
         ensures ready { IfOk result (λ machine. IsMachineReady (names_of natives.now) machine) }
     {
         let objects = Objects::new(alloc, natives)?;
@@ -84,8 +88,11 @@ impl Machine {
 
     /// Makes so many workers, where no event came yet and the number is from 1 to 16.
     fn set_workers(&mut self, count: u64) -> Result<bool, NoMemory>
-        ensures did { (names : List (List ℕ)) (listing : Told) → IfOk result (λ came. Did names came (workers count) self.old listing self.new listing) }
-        ensures ready { (names : List (List ℕ)) → IsMachineReady names self.old → OnOk result (IsMachineReady names self.new) }
+        ensures did { (names : Names) (listing : Told)
+            → IfOk result (λ came.
+            Did names came (workers count) self.old listing self.new listing) }
+        ensures ready { (names : Names) → IsMachineReady names self.old
+            → OnOk result (IsMachineReady names self.new) }
     {
         if self.started || count == 0 || count > MOST_WORKERS {
             return Ok(false);
@@ -97,8 +104,10 @@ impl Machine {
 
     /// Sets the clock, where it can show the moment.
     fn set_clock(&mut self, moment: u64) -> bool
-        ensures did { (names : List (List ℕ)) (listing : Told) → Did names result (clock moment) self.old listing self.new listing }
-        ensures ready { (names : List (List ℕ)) → IsMachineReady names self.old → IsMachineReady names self.new }
+        ensures did { (names : Names) (listing : Told)
+            → Did names result (clock moment) self.old listing self.new listing }
+        ensures ready { (names : Names) → IsMachineReady names self.old
+            → IsMachineReady names self.new }
     {
         if moment > LAST_MOMENT {
             return false;
@@ -110,8 +119,11 @@ impl Machine {
     /// Sets the page of a path.
     fn set_page(&mut self, path: &[u8], page: &[u8]) -> Result<bool, NoMemory>
         requires { IsShort (spelled_page path.now page.now) }
-        ensures did { (names : List (List ℕ)) (listing : Told) → IfOk result (λ came. Did names came (spelled_page path.now page.now) self.old listing self.new listing) }
-        ensures ready { (names : List (List ℕ)) → IsMachineReady names self.old → OnOk result (IsMachineReady names self.new) }
+        ensures did { (names : Names) (listing : Told)
+            → IfOk result (λ came.
+            Did names came (spelled_page path.now page.now) self.old listing self.new listing) }
+        ensures ready { (names : Names) → IsMachineReady names self.old
+            → OnOk result (IsMachineReady names self.new) }
     {
         let path = Text::new(self.alloc, path)?;
         let page = Text::new(self.alloc, page)?;
@@ -129,7 +141,9 @@ impl Machine {
     ) -> Result<bool, NoMemory>
         requires short { length block.now ≤ most_block }
         requires ready { IsMachineReady (names_of natives.now) self.old }
-        ensures did { IfOk result (λ came. Did (names_of natives.now) came (define block.now) self.old listing.old self.new listing.new) }
+        ensures did { IfOk result (λ came.
+            Did (names_of natives.now) came (define block.now) self.old listing.old self.new
+            listing.new) }
         ensures ready { OnOk result (IsMachineReady (names_of natives.now) self.new) }
     {
         let block = Text::new(self.alloc, block)?;
@@ -143,8 +157,11 @@ impl Machine {
     /// Gives a worker a connection, where there is a worker of this number and it is idle.
     fn connect(&mut self, number: u64, input: &[u8]) -> Result<bool, NoMemory>
         requires { length input.now ≤ most_input }
-        ensures did { (names : List (List ℕ)) (listing : Told) → IfOk result (λ came. Did names came (connect number input.now) self.old listing self.new listing) }
-        ensures ready { (names : List (List ℕ)) → IsMachineReady names self.old → OnOk result (IsMachineReady names self.new) }
+        ensures did { (names : Names) (listing : Told)
+            → IfOk result (λ came.
+            Did names came (connect number input.now) self.old listing self.new listing) }
+        ensures ready { (names : Names) → IsMachineReady names self.old
+            → OnOk result (IsMachineReady names self.new) }
     {
         if number >= self.workers.len() as u64 {
             return Ok(false);
@@ -167,7 +184,9 @@ impl Machine {
         steps: &mut Steps<L>,
     ) -> Result<bool, NoMemory>
         requires ready { IsMachineReady (names_of natives.now) self.old }
-        ensures did { IfOk result (λ came. Did (names_of natives.now) came (step (actor_of actor)) self.old listing.old self.new listing.new) }
+        ensures did { IfOk result (λ came.
+            Did (names_of natives.now) came (step (actor_of actor)) self.old listing.old self.new
+            listing.new) }
         ensures ready { OnOk result (IsMachineReady (names_of natives.now) self.new) }
     {
         let setting = &self.setting;
@@ -197,7 +216,9 @@ impl Machine {
         steps: &mut Steps<L>,
     ) -> Result<bool, NoMemory>
         requires ready { IsMachineReady (names_of natives.now) self.old }
-        ensures did { IfOk result (λ came. Did (names_of natives.now) came (run (actor_of actor)) self.old listing.old self.new listing.new) }
+        ensures did { IfOk result (λ came.
+            Did (names_of natives.now) came (run (actor_of actor)) self.old listing.old self.new
+            listing.new) }
         ensures ready { OnOk result (IsMachineReady (names_of natives.now) self.new) }
     {
         let setting = &self.setting;
@@ -228,7 +249,9 @@ impl Machine {
     ) -> Result<bool, NoMemory>
         requires short { IsShort (event_of event) }
         requires ready { IsMachineReady (names_of natives.now) self.old }
-        ensures did { IfOk result (λ came. Did (names_of natives.now) came (event_of event.entry) self.old listing.old self.new listing.new) }
+        ensures did { IfOk result (λ came.
+            Did (names_of natives.now) came (event_of event.entry) self.old listing.old self.new
+            listing.new) }
         ensures ready { OnOk result (IsMachineReady (names_of natives.now) self.new) }
     {
         match event {
@@ -252,7 +275,9 @@ impl Machine {
     ) -> Result<bool, NoMemory>
         requires short { IsShort (event_of event) }
         requires ready { IsMachineReady (names_of natives.now) self.old }
-        ensures played { IfOk result (λ came. Played (names_of natives.now) came (event_of event.entry) self.old listing.old self.new listing.new) }
+        ensures played { IfOk result (λ came.
+            Played (names_of natives.now) came (event_of event.entry) self.old listing.old self.new
+            listing.new) }
         ensures ready { OnOk result (IsMachineReady (names_of natives.now) self.new) }
     {
         let came = self.act(natives, event, listing, steps)?;

@@ -1,6 +1,7 @@
 //! The objects that answer questions.
 
-ghost use Rattle.std.specs.Prelude.{◌≡◌, ℕ, List, IfOk};
+ghost use Rattle.std.specs.Prelude.{◌≡◌, IfOk};
+ghost use Rattle.txt_core.specs.Names.{Names};
 ghost use Rattle.natives.specs.Names.{names_of};
 ghost use Rattle.rehearse.specs.Objects.{new_objects, Answers, BlueprintAnswers, ScheduleAnswers};
 ghost use Rattle.rehearse.specs.Playing.{setting_of, IsPut};
@@ -51,7 +52,8 @@ impl Objects {
 
     /// Puts the words of a run at this moment to the schedule.
     fn schedule(&mut self, alloc: Global, words: &Words, moment: u64) -> Result<Answer, NoMemory>
-        ensures { IfOk result (λ answer. ScheduleAnswers moment words.now self.old answer self.new) }
+        ensures { IfOk result (λ answer.
+            ScheduleAnswers moment words.now self.old answer self.new) }
     {
         let call = sched_call(alloc, words, moment)?;
         let reply = self.schedule.act(call);
@@ -67,7 +69,9 @@ impl Objects {
         moment: u64,
         question: Question,
     ) -> Result<Answer, NoMemory>
-        ensures { (names : List (List ℕ)) → IfOk result (λ answer. Answers (setting_of names setting.now) moment question self.old answer self.new) }
+        ensures { (names : Names)
+            → IfOk result (λ answer.
+            Answers (setting_of names setting.now) moment question self.old answer self.new) }
     {
         let Question { service, words } = question;
         match service {

@@ -1,6 +1,7 @@
 //! The rehearsal of a file.
 
-ghost use Rattle.std.specs.Prelude.{◌≡◌, ◌≤◌, ◌+◌, [], ℕ, List, length, true, Some, IfOk, OnOk, OnErr};
+ghost use Rattle.std.specs.Prelude.{◌≡◌, ◌≤◌, ◌+◌, [], length, true, Some, IfOk, OnOk, OnErr};
+ghost use Rattle.txt_core.specs.Names.{Bytes, Names};
 ghost use Rattle.natives.specs.Names.{names_of};
 ghost use Rattle.rehearse.specs.Events.{most_file};
 ghost use Rattle.rehearse.specs.Rehearsing.{Outside, Rehearses};
@@ -37,7 +38,8 @@ struct Play {
 impl Play {
     /// A rehearsal before the first event.
     fn new(alloc: Global, natives: &Natives) -> Result<Play, NoMemory>
-        ensures so_far { (outside : Outside) → IfOk result (λ play. SoFar (names_of natives.now) outside outside play) }
+        ensures so_far { (outside : Outside)
+            → IfOk result (λ play. SoFar (names_of natives.now) outside outside play) }
         ensures nothing { IfOk result (λ play. play.listing.text ≡ []) }
     {
         Ok(Play {
@@ -56,13 +58,16 @@ impl Play {
         size: usize,
         steps: &mut Steps<L>,
     ) -> Result<bool, NoMemory>
-        requires there { (size ≤ length self.old.intake.left) × (self.old.intake.place + size ≤ most_file) }
+        requires there { (size ≤ length self.old.intake.left)
+            × (self.old.intake.place + size ≤ most_file) }
         requires ready { IsMachineReady (names_of natives.now) self.old.machine }
         requires few { self.old.events ≤ self.old.intake.place }
-        ensures plays { IfOk result (λ came. PlaysOne (names_of natives.now) came size self.old self.new) }
+        ensures plays { IfOk result (λ came.
+            PlaysOne (names_of natives.now) came size self.old self.new) }
         ensures ready { OnOk result (IsMachineReady (names_of natives.now) self.new.machine) }
         ensures few { self.new.events ≤ self.new.intake.place }
-        ensures further { IfOk result (λ came. came ≡ true → self.new.intake.place ≡ self.old.intake.place + size) }
+        ensures further { IfOk result (λ came.
+            came ≡ true → self.new.intake.place ≡ self.old.intake.place + size) }
     {
         let Some(event) = read_event(&self.intake.left()[..size]) else {
             return Ok(false);
@@ -78,9 +83,15 @@ impl Play {
     /// Writes what was told of the last event; the sink's fault ends the rehearsal. A listing of 2^64
     /// bytes counts as want of memory.
     fn pass_on<K: Sink>(&mut self, sink: &mut K) -> Result<Option<Rehearsal>, NoMemory>
-        ensures passes { (names : List (List ℕ)) (outside now : Outside) → now.output ≡ K.taken sink.old → now.write_faults ≡ K.faults sink.old → IfOk result (λ fault. PassesOn names fault outside now self.old self.new (record now { output = K.taken sink.new; write_faults = K.faults sink.new })) }
-        ensures rest { self.new ≡ record self.old { listing = self.new.listing; written = self.new.written } }
-        ensures unwritten { OnErr result ((K.taken sink.new ≡ K.taken sink.old) × (K.faults sink.new ≡ K.faults sink.old)) }
+        ensures passes { (names : Names) (outside now : Outside) → now.output ≡ K.taken sink.old
+            → now.write_faults ≡ K.faults sink.old
+            → IfOk result (λ fault.
+            PassesOn names fault outside now self.old self.new
+            (record now { output = K.taken sink.new; write_faults = K.faults sink.new })) }
+        ensures rest { self.new
+            ≡ record self.old { listing = self.new.listing; written = self.new.written } }
+        ensures unwritten { OnErr result
+            ((K.taken sink.new ≡ K.taken sink.old) × (K.faults sink.new ≡ K.faults sink.old)) }
         ensures of_sink { IfOk result IsOfSink }
         ensures counts { K.faults sink.old ≤ K.faults sink.new }
     {
@@ -108,11 +119,29 @@ impl Play {
         sink: &mut K,
         steps: &mut Steps<L>,
     ) -> Result<Rehearsal, NoMemory>
-        requires so_far { SoFar (names_of natives.now) (outside_of (S.rest source.old) (S.faults source.old) (K.taken sink.old) (K.faults sink.old)) (outside_of (S.rest source.old) (S.faults source.old) (K.taken sink.old) (K.faults sink.old)) self.old }
+        requires so_far { SoFar (names_of natives.now)
+            (outside_of (S.rest source.old) (S.faults source.old) (K.taken sink.old)
+            (K.faults sink.old))
+            (outside_of (S.rest source.old) (S.faults source.old) (K.taken sink.old)
+            (K.faults sink.old))
+            self.old }
         requires nothing { self.old.listing.text ≡ [] }
-        ensures ends { IfOk result (λ answer. Rehearses (names_of natives.now) (outside_of (S.rest source.old) (S.faults source.old) (K.taken sink.old) (K.faults sink.old)) answer (outside_of (S.rest source.new) (S.faults source.new) (K.taken sink.new) (K.faults sink.new))) }
-        ensures ran_out { OnErr result (Rehearses (names_of natives.now) (outside_of (S.rest source.old) (S.faults source.old) (K.taken sink.old) (K.faults sink.old)) Rehearsal.NoMemory (outside_of (S.rest source.new) (S.faults source.new) (K.taken sink.new) (K.faults sink.new))) }
-        ensures counted { IfOk result (λ answer. IsCounted (names_of natives.now) (S.rest source.old) answer self.new.listing.tally) }
+        ensures ends { IfOk result (λ answer.
+            Rehearses (names_of natives.now)
+            (outside_of (S.rest source.old) (S.faults source.old) (K.taken sink.old)
+            (K.faults sink.old))
+            answer
+            (outside_of (S.rest source.new) (S.faults source.new) (K.taken sink.new)
+            (K.faults sink.new))) }
+        ensures ran_out { OnErr result
+            (Rehearses (names_of natives.now)
+            (outside_of (S.rest source.old) (S.faults source.old) (K.taken sink.old)
+            (K.faults sink.old))
+            Rehearsal.NoMemory
+            (outside_of (S.rest source.new) (S.faults source.new) (K.taken sink.new)
+            (K.faults sink.new))) }
+        ensures counted { IfOk result (λ answer.
+            IsCounted (names_of natives.now) (S.rest source.old) answer self.new.listing.tally) }
     {
         'events: while let Some(size) = self.intake.fetch_event(source)? {
             if !self.play(natives, size, steps)? {
@@ -195,7 +224,8 @@ pub fn count_listing<S: Source, L: Ledger>(
     source: &mut S,
     steps: &mut Steps<L>,
 ) -> Counted
-    ensures counts { (file : List ℕ) → S.rest source.old ≡ Some file → Counts (names_of natives.now) file result }
+    ensures counts { (file : Bytes) → S.rest source.old ≡ Some file
+        → Counts (names_of natives.now) file result }
     ensures fault { result ≡ counted.ReadFault → Rose (S.faults source.old) (S.faults source.new) }
 {
     let Ok(mut play) = Play::new(alloc, natives) else {

@@ -88,7 +88,10 @@ impl Scheduler {
     /// Takes the scripts that are due now.
     fn take_due(&mut self, moment: u64, objects: &mut Objects) -> Result<(), NoMemory>
         requires { IsResting self.old }
-        ensures { (setting : SeenSetting) (listing : Told) → setting.moment ≡ moment → IsSchedulerReady setting.natives objects.old.blueprint self.old → OnOk result (ScheduleStepped setting self.old objects.old listing self.new objects.new listing) }
+        ensures { (setting : SeenSetting) (listing : Told) → setting.moment ≡ moment
+            → IsSchedulerReady setting.natives objects.old.blueprint self.old
+            → OnOk result
+            (ScheduleStepped setting self.old objects.old listing self.new objects.new listing) }
     {
         let reply = objects.schedule.act(SchedCall::Due(moment));
         self.due = listed(self.alloc, reply)?;
@@ -114,7 +117,10 @@ impl Scheduler {
     ) -> Result<(), NoMemory>
         requires none { self.old.running ≡ None }
         requires ready { IsSchedulerReady (names_of natives.now) objects.old.blueprint self.old }
-        ensures { (listing : Told) → OnOk result (ScheduleStepped (setting_of (names_of natives.now) setting.now) self.old objects.old listing self.new objects.new listing) }
+        ensures { (listing : Told)
+            → OnOk result
+            (ScheduleStepped (setting_of (names_of natives.now) setting.now) self.old objects.old
+            listing self.new objects.new listing) }
     {
         let moment = setting.moment;
         if self.begun >= self.due.len() {
@@ -147,8 +153,13 @@ impl Scheduler {
         question: Question,
         steps: &mut Steps<L>,
     ) -> Result<(), NoMemory>
-        requires { IsSchedulerReady (names_of natives.now) objects.old.blueprint (with_running self.old (Some (running, nexts.Asks question))) }
-        ensures { (listing : Told) → OnOk result (ScheduleStepped (setting_of (names_of natives.now) setting.now) (with_running self.old (Some (running, nexts.Asks question))) objects.old listing self.new objects.new listing) }
+        requires { IsSchedulerReady (names_of natives.now) objects.old.blueprint
+            (with_running self.old (Some (running, nexts.Asks question))) }
+        ensures { (listing : Told)
+            → OnOk result
+            (ScheduleStepped (setting_of (names_of natives.now) setting.now)
+            (with_running self.old (Some (running, nexts.Asks question))) objects.old listing
+            self.new objects.new listing) }
     {
         let Running {
             id,
@@ -180,7 +191,12 @@ impl Scheduler {
     ) -> Result<(), NoMemory>
         requires none { self.old.running ≡ None }
         requires is_end { IsEnd outcome }
-        ensures { (setting : SeenSetting) (objects : SeenObjects) → IsSchedulerReady setting.natives objects.blueprint (with_running self.old (Some (running, nexts.Ended outcome))) → OnOk result (ScheduleStepped setting (with_running self.old (Some (running, nexts.Ended outcome))) objects listing.old self.new objects listing.new) }
+        ensures { (setting : SeenSetting) (objects : SeenObjects)
+            → IsSchedulerReady setting.natives objects.blueprint
+            (with_running self.old (Some (running, nexts.Ended outcome)))
+            → OnOk result
+            (ScheduleStepped setting (with_running self.old (Some (running, nexts.Ended outcome)))
+            objects listing.old self.new objects listing.new) }
     {
         let Running { id, interp, .. } = running;
         let epoch = interp.epoch();
@@ -200,8 +216,12 @@ impl Scheduler {
         steps: &mut Steps<L>,
     ) -> Result<(), NoMemory>
         requires none { self.old.running ≡ None }
-        requires ready { IsSchedulerReady (names_of natives.now) objects.old.blueprint (with_running self.old (Some (running, next))) }
-        ensures { OnOk result (ScheduleStepped (setting_of (names_of natives.now) setting.now) (with_running self.old (Some (running, next))) objects.old listing.old self.new objects.new listing.new) }
+        requires ready { IsSchedulerReady (names_of natives.now) objects.old.blueprint
+            (with_running self.old (Some (running, next))) }
+        ensures { OnOk result
+            (ScheduleStepped (setting_of (names_of natives.now) setting.now)
+            (with_running self.old (Some (running, next))) objects.old listing.old self.new
+            objects.new listing.new) }
     {
         match next {
             Next::Asks(question) => {
@@ -229,7 +249,9 @@ impl Scheduler {
         steps: &mut Steps<L>,
     ) -> Result<(), NoMemory>
         requires { IsSchedulerReady (names_of natives.now) objects.old.blueprint self.old }
-        ensures { OnOk result (ScheduleStepped (setting_of (names_of natives.now) setting.now) self.old objects.old listing.old self.new objects.new listing.new) }
+        ensures { OnOk result
+            (ScheduleStepped (setting_of (names_of natives.now) setting.now) self.old objects.old
+            listing.old self.new objects.new listing.new) }
     {
         match self.running.take() {
             Some((running, next)) => self.go_on(
@@ -249,7 +271,9 @@ impl Scheduler {
         steps: &mut Steps<L>,
     ) -> Result<(), NoMemory>
         requires { IsSchedulerReady (names_of natives.now) objects.old.blueprint self.old }
-        ensures { OnOk result (Turned ScheduleRuns (setting_of (names_of natives.now) setting.now) self.old objects.old listing.old self.new objects.new listing.new) }
+        ensures { OnOk result
+            (Turned ScheduleRuns (setting_of (names_of natives.now) setting.now) self.old
+            objects.old listing.old self.new objects.new listing.new) }
     {
         self.step(natives, setting, objects, listing, steps)?;
         'steps: while !self.is_idle() {

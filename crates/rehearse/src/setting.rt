@@ -68,7 +68,8 @@ impl Shelf {
 
     /// Answers a question for a page: a copy of it, or that there is none.
     pub fn answer(&self, alloc: Global, words: &Words) -> Result<Answer, NoMemory>
-        ensures { IfOk result (λ answer. answer ≡ page_found (map.get self.now (path_asked words.now))) }
+        ensures { IfOk result (λ answer.
+            answer ≡ page_found (map.get self.now (path_asked words.now))) }
     {
         match words.get(0) {
             Some(path) => self.answer_of(alloc, path),

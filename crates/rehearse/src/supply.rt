@@ -14,10 +14,11 @@ pub struct Supply {
 }
 
 impl Model for Supply {
-    ghost use Rattle.std.specs.Prelude.{ℕ, List, ◌≤◌, drop, length};
+    ghost use Rattle.std.specs.Prelude.{◌≤◌, drop, length};
     ghost use Rattle.std.specs.Coded.{coded_list, coded_ℕ};
+    ghost use Rattle.txt_core.specs.Names.{Bytes};
 
-    ghost Value = { List ℕ };
+    ghost Value = { Bytes };
 
     ghost coded = { coded_list coded_ℕ };
 

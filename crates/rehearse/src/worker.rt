@@ -50,7 +50,7 @@ pub struct Connection {
 /// A request under way: the interpreter that serves it, the moment at which it began, and what it asks of
 /// its connection and of its response.
 #[derive(Drop)]
-pub struct Serving {
+pub struct UnderWay {
     interp: Interp,
     moment: u64,
     asks_close: bool,
@@ -67,7 +67,7 @@ pub enum Task {
     /// It has a connection, and no request is under way.
     Between(Connection),
     /// It serves a request, whose interpreter came to this.
-    Serving(Connection, Serving, Next),
+    Serving(Connection, UnderWay, Next),
 }
 
 /// A worker of a number, with the interpreter that it keeps.
@@ -90,7 +90,8 @@ fn refusal(alloc: Global, status: u16, moment: u64) -> Result<Text, NoMemory>
 impl Worker {
     /// A worker of this number without a connection, which has made no interpreter yet.
     pub fn new(alloc: Global, number: u64) -> Worker
-        ensures { (result.task ≡ tasks.Idle) × (result.keeper.interp ≡ None) × (result.number ≡ number) }
+        ensures { (result.task ≡ tasks.Idle) × (result.keeper.interp ≡ None)
+            × (result.number ≡ number) }
     {
         Worker {
             alloc,
@@ -143,9 +144,13 @@ impl Worker {
         request: Request,
         steps: &mut Steps<L>,
     ) -> Result<(), NoMemory>
-        requires ready { IsReady (names_of natives.now) objects.now.blueprint (with_task self.old (tasks.Between connection)) }
-        ensures begun { OnOk result (HasBegun (names_of natives.now) (setting_of (names_of natives.now) setting.now) objects.now connection request self.new) }
-        ensures ready { OnOk result (IsReady (names_of natives.now) objects.now.blueprint self.new) }
+        requires ready { IsReady (names_of natives.now) objects.now.blueprint
+            (with_task self.old (tasks.Between connection)) }
+        ensures begun { OnOk result
+            (HasBegun (names_of natives.now) (setting_of (names_of natives.now) setting.now)
+            objects.now connection request self.new) }
+        ensures ready { OnOk result
+            (IsReady (names_of natives.now) objects.now.blueprint self.new) }
         ensures number { self.new.number ≡ self.old.number }
     {
         let mut interp = self
@@ -156,7 +161,7 @@ impl Worker {
         let moment = setting.moment;
         let next = begin_request(&mut interp, natives, request, moment, steps);
         connection.requests += 1;
-        let serving = Serving {
+        let serving = UnderWay {
             interp,
             moment,
             asks_close,
@@ -178,8 +183,12 @@ impl Worker {
         steps: &mut Steps<L>,
     ) -> Result<(), NoMemory>
         requires idle { self.old.task ≡ tasks.Idle }
-        requires ready { IsReady (names_of natives.now) objects.now.blueprint (with_task self.old (tasks.Between connection)) }
-        ensures { OnOk result (Stepped (setting_of (names_of natives.now) setting.now) (with_task self.old (tasks.Between connection)) objects.now listing.old self.new objects.now listing.new) }
+        requires ready { IsReady (names_of natives.now) objects.now.blueprint
+            (with_task self.old (tasks.Between connection)) }
+        ensures { OnOk result
+            (Stepped (setting_of (names_of natives.now) setting.now)
+            (with_task self.old (tasks.Between connection)) objects.now listing.old self.new
+            objects.now listing.new) }
     {
         let peer = Text::new(self.alloc, PEER)?;
         let source = &mut connection.source;
@@ -197,7 +206,11 @@ impl Worker {
 
     /// Writes the reply of a refusal, and closes the connection.
     fn refuse(&self, status: u16, moment: u64, listing: &mut Listing) -> Result<(), NoMemory>
-        ensures { OnOk result (Tells listing.old (response self.now.number None status (refusal_bytes status moment) ∷ closed self.now.number (refused status) ∷ []) listing.new) }
+        ensures { OnOk result
+            (Tells listing.old
+            (response self.now.number None status (refusal_bytes status moment) ∷ closed
+            self.now.number (refused status) ∷ [])
+            listing.new) }
     {
         let reply = refusal(self.alloc, status, moment)?;
         listing.push_response(self.number, None, status, reply.bytes())?;
@@ -211,12 +224,17 @@ impl Worker {
         setting: &Setting,
         objects: &mut Objects,
         mut connection: Connection,
-        mut serving: Serving,
+        mut serving: UnderWay,
         question: Question,
         steps: &mut Steps<L>,
     ) -> Result<(), NoMemory>
-        requires ready { IsReady (names_of natives.now) objects.old.blueprint (with_task self.old (tasks.Serving connection serving (nexts.Asks question))) }
-        ensures { (listing : Told) → OnOk result (Stepped (setting_of (names_of natives.now) setting.now) (with_task self.old (tasks.Serving connection serving (nexts.Asks question))) objects.old listing self.new objects.new listing) }
+        requires ready { IsReady (names_of natives.now) objects.old.blueprint
+            (with_task self.old (tasks.Serving connection serving (nexts.Asks question))) }
+        ensures { (listing : Told)
+            → OnOk result
+            (Stepped (setting_of (names_of natives.now) setting.now)
+            (with_task self.old (tasks.Serving connection serving (nexts.Asks question)))
+            objects.old listing self.new objects.new listing) }
     {
         objects.blueprint.shown();
         let answer = objects.answer(self.alloc, setting, serving.moment, question)?;
@@ -230,11 +248,18 @@ impl Worker {
     fn tell(
         &self,
         connection: &Connection,
-        serving: &Serving,
+        serving: &UnderWay,
         reply: &Response,
         listing: &mut Listing,
     ) -> Result<(), NoMemory>
-        ensures { OnOk result (Tells listing.old (response self.now.number (Some serving.now.interp.blueprint.value.epoch) reply.now.status (response_bytes reply.now serving.now.moment serving.now.head_only (closes serving.now.asks_close connection.now.requests connection.now.answer_bytes)) ∷ []) listing.new) }
+        ensures { OnOk result
+            (Tells listing.old
+            (response self.now.number (Some serving.now.interp.blueprint.value.epoch)
+            reply.now.status
+            (response_bytes reply.now serving.now.moment serving.now.head_only
+            (closes serving.now.asks_close connection.now.requests connection.now.answer_bytes))
+            ∷ [])
+            listing.new) }
     {
         let (requests, answer_bytes) = (connection.requests, connection.answer_bytes);
         let closes = closes(serving.asks_close, requests, answer_bytes);
@@ -248,13 +273,20 @@ impl Worker {
         &mut self,
         natives: &Natives,
         connection: Connection,
-        mut serving: Serving,
+        mut serving: UnderWay,
         response: Response,
         listing: &mut Listing,
         steps: &mut Steps<L>,
     ) -> Result<(), NoMemory>
         requires writing { IsWriting serving.interp }
-        ensures { (setting : SeenSetting) (objects : SeenObjects) → setting.natives ≡ names_of natives.now → IsReady setting.natives objects.blueprint (with_task self.old (tasks.Serving connection serving (nexts.Write response))) → OnOk result (Stepped setting (with_task self.old (tasks.Serving connection serving (nexts.Write response))) objects listing.old self.new objects listing.new) }
+        ensures { (setting : SeenSetting) (objects : SeenObjects)
+            → setting.natives ≡ names_of natives.now
+            → IsReady setting.natives objects.blueprint
+            (with_task self.old (tasks.Serving connection serving (nexts.Write response)))
+            → OnOk result
+            (Stepped setting
+            (with_task self.old (tasks.Serving connection serving (nexts.Write response))) objects
+            listing.old self.new objects listing.new) }
     {
         one_response();
         self.tell(&connection, &serving, &response, listing)?;
@@ -268,14 +300,20 @@ impl Worker {
     fn end<L: Ledger>(
         &mut self,
         connection: Connection,
-        serving: Serving,
+        serving: UnderWay,
         listing: &mut Listing,
         steps: &mut Steps<L>,
     ) -> Result<(), NoMemory>
         requires { self.old.task ≡ tasks.Idle }
-        ensures { (setting : SeenSetting) (objects : SeenObjects) (outcome : Outcome) → IsReady setting.natives objects.blueprint (with_task self.old (tasks.Serving connection serving (nexts.Ended outcome))) → OnOk result (Stepped setting (with_task self.old (tasks.Serving connection serving (nexts.Ended outcome))) objects listing.old self.new objects listing.new) }
+        ensures { (setting : SeenSetting) (objects : SeenObjects) (outcome : Outcome)
+            → IsReady setting.natives objects.blueprint
+            (with_task self.old (tasks.Serving connection serving (nexts.Ended outcome)))
+            → OnOk result
+            (Stepped setting
+            (with_task self.old (tasks.Serving connection serving (nexts.Ended outcome))) objects
+            listing.old self.new objects listing.new) }
     {
-        let Serving {
+        let UnderWay {
             interp,
             asks_close,
             ..
@@ -300,14 +338,18 @@ impl Worker {
         setting: &Setting,
         objects: &mut Objects,
         connection: Connection,
-        serving: Serving,
+        serving: UnderWay,
         next: Next,
         listing: &mut Listing,
         steps: &mut Steps<L>,
     ) -> Result<(), NoMemory>
         requires idle { self.old.task ≡ tasks.Idle }
-        requires ready { IsReady (names_of natives.now) objects.old.blueprint (with_task self.old (tasks.Serving connection serving next)) }
-        ensures { OnOk result (Stepped (setting_of (names_of natives.now) setting.now) (with_task self.old (tasks.Serving connection serving next)) objects.old listing.old self.new objects.new listing.new) }
+        requires ready { IsReady (names_of natives.now) objects.old.blueprint
+            (with_task self.old (tasks.Serving connection serving next)) }
+        ensures { OnOk result
+            (Stepped (setting_of (names_of natives.now) setting.now)
+            (with_task self.old (tasks.Serving connection serving next)) objects.old listing.old
+            self.new objects.new listing.new) }
     {
         match next {
             Next::Asks(question) => self.answer(
@@ -334,7 +376,9 @@ impl Worker {
         steps: &mut Steps<L>,
     ) -> Result<(), NoMemory>
         requires { IsReady (names_of natives.now) objects.old.blueprint self.old }
-        ensures { OnOk result (Stepped (setting_of (names_of natives.now) setting.now) self.old objects.old listing.old self.new objects.new listing.new) }
+        ensures { OnOk result
+            (Stepped (setting_of (names_of natives.now) setting.now) self.old objects.old
+            listing.old self.new objects.new listing.new) }
     {
         match mem::replace(&mut self.task, Task::Idle) {
             Task::Idle => Ok(()),
@@ -357,7 +401,9 @@ impl Worker {
         steps: &mut Steps<L>,
     ) -> Result<(), NoMemory>
         requires { IsReady (names_of natives.now) objects.old.blueprint self.old }
-        ensures { OnOk result (Moved RunsUntilIdle (setting_of (names_of natives.now) setting.now) self.old objects.old listing.old self.new objects.new listing.new) }
+        ensures { OnOk result
+            (Moved RunsUntilIdle (setting_of (names_of natives.now) setting.now) self.old
+            objects.old listing.old self.new objects.new listing.new) }
     {
         self.step(natives, setting, objects, listing, steps)?;
         'steps: while !self.is_idle() {

@@ -4,6 +4,7 @@ use Rattle.std.specs.declared.cmp.Ordering.{Ordering}
 use Rattle.std.specs.Ordering.{nat_cmp, ordering_then}
 use Rattle.std.specs.List.Sorted.{IsStrictlySortedBy}
 use Rattle.std.specs.Map.{keys_of}
+use Rattle.txt_core.specs.Names.{Moment}
 use Rattle.sched_core.specs.declared.plan.Plan.{Plan}
 
 -- an entry: when it is due and its id, and what it does
@@ -15,7 +16,7 @@ abbrev pub most_seconds : ℕ
 most_seconds = 31536000
 
 -- the moment at which an entry is due
-abbrev pub due_of : Entry → ℕ
+abbrev pub due_of : Entry → Moment
 due_of e = e.0.0
 
 -- an entry's id

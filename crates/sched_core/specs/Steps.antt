@@ -1,5 +1,6 @@
 -- What each call does: the reply, and the schedule after it.
-use Rattle.std.specs.Prelude.{◌≡◌, ◌≢◌, ◌⊎◌, ◌↔◌, ℕ, ◌+◌, min, max, Bool, true, false, List, map, filter, length, Contains}
+use Rattle.std.specs.Prelude.{◌≡◌, ◌≢◌, ◌⊎◌, ◌↔◌, ℕ, ◌+◌, min, max, Bool, true, false, map, filter, length, Contains}
+use Rattle.txt_core.specs.Names.{Bytes, Moment}
 use Rattle.txt_core.specs.Limits.{moment_of}
 use Rattle.sched_core.specs.declared.call.SchedCall.{SchedCall}
 use Rattle.sched_core.specs.declared.call.SchedCall.TheVariants.{Add, Cancel, Due, Stop}
@@ -14,7 +15,7 @@ abbrev pub seconds_of : ℕ → ℕ
 seconds_of seconds = min (max seconds 1) most_seconds
 
 -- the entry that `Add` makes: due so many seconds after its moment
-abbrev pub entry_of : ℕ → ℕ → ℕ → Bool → List ℕ → Entry
+abbrev pub entry_of : ℕ → Moment → ℕ → Bool → Bytes → Entry
 entry_of id moment seconds once script = ((moment_of moment + seconds_of seconds, id), record { seconds = seconds_of seconds; once = once; script = script })
 
 -- 10,000 entries, or no id left: the id 2^64 - 1 is never given
@@ -35,7 +36,7 @@ Cancels s id replies.NoId t = ((e : Entry) → Contains s.entries e → id_of e 
 Cancels s id _ t = ⊥
 
 -- `Due` lists the entries that are due, in their order, and moves on or takes out each of them. After a stop it lists nothing
-abbrev pub Runs : State → ℕ → SchedReply → State → Type 0
+abbrev pub Runs : State → Moment → SchedReply → State → Type 0
 Runs s now (replies.Due list) t = (s.stopped ≡ false) × (list ≡ map listed (filter (is_due now) s.entries)) × (t.next ≡ s.next) × (t.stopped ≡ s.stopped) × IsAfterDue now s.entries t.entries
 Runs s now replies.Stopped t = (s.stopped ≡ true) × (t ≡ s)
 Runs s now replies.NoMemory t = (s.stopped ≡ false) × (t ≡ s)

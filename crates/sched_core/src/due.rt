@@ -46,7 +46,8 @@ fn moved(alloc: Global, plans: &Plans, now: u64) -> Result<Plans, NoMemory>
     requires ordered { AreInOrder plans.now.entries }
     requires sound { AreSound plans.now.entries }
     requires ids { HaveOwnIds plans.now.entries }
-    ensures { IfOk result (λ later. (e : Entry) → Contains later.entries e ↔ IsMoved now plans.now.entries e) }
+    ensures { IfOk result (λ later.
+        (e : Entry) → Contains later.entries e ↔ IsMoved now plans.now.entries e) }
 {
     let mut later = BTreeMap::new(alloc);
     for (key, plan) in plans.range(..(now + 1, 0)) {
@@ -74,7 +75,9 @@ fn all_keys(alloc: Global, plans: &Plans) -> Result<Vec<Key>, NoMemory>
 /// Takes the entries of these keys out.
 fn remove_all(plans: &mut Plans, keys: &[Key])
     requires { AreInOrder plans.old.entries }
-    ensures found { (q : ℕ × ℕ) → get key_cmp plans.new q ≡ cond (list_any (λ k. eq_by_cmp key_cmp k q) keys.now) None (get key_cmp plans.old q) }
+    ensures found { (q : ℕ × ℕ)
+        → get key_cmp plans.new q
+        ≡ cond (list_any (λ k. eq_by_cmp key_cmp k q) keys.now) None (get key_cmp plans.old q) }
     ensures ordered { AreInOrder plans.new.entries }
 {
     for key in keys {
@@ -85,8 +88,12 @@ fn remove_all(plans: &mut Plans, keys: &[Key])
 /// Puts more entries in. Where memory wants, the entries are as they were.
 fn take_in(alloc: Global, plans: &mut Plans, mut later: Plans) -> Result<(), NoMemory>
     requires ordered { AreInOrder plans.old.entries }
-    requires apart { (e f : Entry) → Contains plans.old.entries e → Contains later.entries f → e.0 ≢ f.0 }
-    ensures ok { OnOk result ((e : Entry) → Contains plans.new.entries e ↔ (Contains plans.old.entries e ⊎ Contains later.entries e)) }
+    requires apart { (e f : Entry) → Contains plans.old.entries e
+        → Contains later.entries f → e.0 ≢ f.0 }
+    ensures ok { OnOk result
+        ((e : Entry)
+        → Contains plans.new.entries e
+        ↔ (Contains plans.old.entries e ⊎ Contains later.entries e)) }
     ensures err { OnErr result (plans.new.entries ≡ plans.old.entries) }
     ensures ordered { AreInOrder plans.new.entries }
 {
@@ -102,7 +109,9 @@ fn take_in(alloc: Global, plans: &mut Plans, mut later: Plans) -> Result<(), NoM
 
 /// Whether the first entry is due.
 fn starts_due(plans: &Plans, now: u64) -> bool
-    ensures { MatchBool result ((e : Entry) × (es : List Entry) × (plans.now.entries ≡ e ∷ es) × (due_of e ≤ now)) ((e : Entry) → Contains plans.now.entries e → now < due_of e) }
+    ensures { MatchBool result
+        ((e : Entry) × (es : List Entry) × (plans.now.entries ≡ e ∷ es) × (due_of e ≤ now))
+        ((e : Entry) → Contains plans.now.entries e → now < due_of e) }
 {
     match plans.first_key_value() {
         Some((key, _)) => key.0 <= now,

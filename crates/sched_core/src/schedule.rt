@@ -101,7 +101,8 @@ impl Schedule {
 
 /// The key of the entry with this id; `None` exactly where no entry has it.
 fn key_of(plans: &Plans, id: u64) -> Option<Key>
-    ensures some { IfSome result (λ key. (e : Entry) × Contains plans.now.entries e × (e.0 ≡ key) × (id_of e ≡ id)) }
+    ensures some { IfSome result (λ key.
+        (e : Entry) × Contains plans.now.entries e × (e.0 ≡ key) × (id_of e ≡ id)) }
     ensures none { IfNone result ((e : Entry) → Contains plans.now.entries e → id_of e ≢ id) }
 {
     for key in plans.keys() {

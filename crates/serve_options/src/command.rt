@@ -79,7 +79,8 @@ fn bare_command<'a>(alloc: Global) -> Command<'a>
 /// The command with one option more.
 fn with_option<'a>(command: Command<'a>, option: Arg<'a>) -> Result<Command<'a>, AllocError>
     requires { IsLocal option }
-    ensures { IfOk result (λ c. app_of c ≡ with_rule (app_of command.entry) (rule_of option.entry)) }
+    ensures { IfOk result (λ c.
+        app_of c ≡ with_rule (app_of command.entry) (rule_of option.entry)) }
 {
     let more = command.arg(option)?;
     Ok(more)

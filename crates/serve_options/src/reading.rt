@@ -49,7 +49,9 @@ fn fault_in<'a>(alloc: Global, words: &'a [&'a str]) -> Option<Error>
 
 // The error where it is the help or the version.
 fn shown(error: Error) -> Option<Error>
-    ensures { IfSome result (λ e. (e ≡ error) × ((kind_of e ≡ ErrorKind.DisplayHelp) ⊎ (kind_of e ≡ ErrorKind.DisplayVersion))) }
+    ensures { IfSome result (λ e.
+        (e ≡ error)
+        × ((kind_of e ≡ ErrorKind.DisplayHelp) ⊎ (kind_of e ≡ ErrorKind.DisplayVersion))) }
 {
     match error.kind() {
         ErrorKind::DisplayHelp | ErrorKind::DisplayVersion => Some(error),
@@ -81,7 +83,8 @@ fn as_texts<'a>(alloc: Global, words: &'a Words) -> Result<Vec<&'a str>, Refused
 fn matched<'a>(alloc: Global, words: &'a [&'a str]) -> Result<Options, Refused>
     ensures taken { IfOk result (λ options. fault_of serve_app (map (λ s. s.now) words.now) ≡ []) }
     ensures read { IfOk result (AreIn (matches_of serve_app (map (λ s. s.now) words.now))) }
-    ensures refused { IfErr result (λ e. e ≡ BadWords → fault_of serve_app (map (λ s. s.now) words.now) ≢ []) }
+    ensures refused { IfErr result (λ e.
+        e ≡ BadWords → fault_of serve_app (map (λ s. s.now) words.now) ≢ []) }
 {
     let matches = parsed(alloc, words)?;
     let options = options_in(alloc, &matches)?;
@@ -90,9 +93,11 @@ fn matched<'a>(alloc: Global, words: &'a [&'a str]) -> Result<Options, Refused>
 
 // What `clap` finds in the words.
 fn parsed<'a>(alloc: Global, words: &'a [&'a str]) -> Result<ArgMatches<'a>, Refused>
-    ensures matches { IfOk result (λ m. rows_of (found_of m) ≡ matches_of serve_app (map (λ s. s.now) words.now)) }
+    ensures matches { IfOk result (λ m.
+        rows_of (found_of m) ≡ matches_of serve_app (map (λ s. s.now) words.now)) }
     ensures taken { IfOk result (λ m. fault_of serve_app (map (λ s. s.now) words.now) ≡ []) }
-    ensures refused { IfErr result (λ e. e ≡ BadWords → fault_of serve_app (map (λ s. s.now) words.now) ≢ []) }
+    ensures refused { IfErr result (λ e.
+        e ≡ BadWords → fault_of serve_app (map (λ s. s.now) words.now) ≢ []) }
 {
     let command = serve_command(alloc)?;
     match command.try_get_matches_from(words) {
@@ -147,7 +152,8 @@ fn number_in(matches: &ArgMatches<'_>, id: &str) -> Result<u16, NoMemory>
 
 // The number of connections.
 fn connections_in(matches: &ArgMatches<'_>) -> Result<u32, NoMemory>
-    ensures { IfOk result (λ n. n ≡ number_of (codes "connections") (rows_of (found_of matches.now))) }
+    ensures { IfOk result (λ n.
+        n ≡ number_of (codes "connections") (rows_of (found_of matches.now))) }
 {
     matches.get_one::<u32>("connections").ok_or(NoMemory)
 }

@@ -1,6 +1,7 @@
 -- What a run of the server does, by the status with which it ends.
-use Rattle.std.specs.Prelude.{◌≡◌, ◌≢◌, ◌≤◌, ◌⊎◌, ℕ, true, codes, List, Option, Some}
+use Rattle.std.specs.Prelude.{◌≡◌, ◌≢◌, ◌≤◌, ◌⊎◌, ℕ, true, codes, Option, Some}
 use Rattle.clap.specs.Words.{first_of, matches_of}
+use Rattle.txt_core.specs.Names.{Bytes, Words, Names}
 use Rattle.outside.specs.Clocks.{Dial}
 use Rattle.outside.specs.Faults.{Rose}
 use Rattle.outside.specs.Guests.{NetState}
@@ -23,21 +24,21 @@ pub record Around : Type 0 where
   pub clock : Option Dial
 
 -- this is the path of the start page that the words give
-abbrev pub IsStart : List (List ℕ) → List ℕ → Type 0
+abbrev pub IsStart : Words → Bytes → Type 0
 IsStart words path = first_of (codes "start") (matches_of serve_app words) ≡ Some path
 
 -- the net has ended, or as many connections were given as the words ask for, where that number isn't 0
-abbrev pub HasServed : List (List ℕ) → NetState → Type 0
+abbrev pub HasServed : Words → NetState → Type 0
 HasServed words net = (net.ended ≡ true) ⊎ ((connections_of words ≢ 0) × (net.given ≡ connections_of words))
 
 -- the words are taken, and their start script, from around before to the count of the pages after, ended well
-abbrev pub HasStarted : List (List ℕ) → List (List ℕ) → Around → Around → Type 0
+abbrev pub HasStarted : Names → Words → Around → Around → Type 0
 HasStarted names words before after =
     AreTaken words
-    × ((path : List ℕ) × IsStart words path × StartsWell names path before.pages before.page_faults before.clock after.page_faults)
+    × ((path : Bytes) × IsStart words path × StartsWell names path before.pages before.page_faults before.clock after.page_faults)
 
 -- What each status says. It names a start script only where the words do. All but two come only where the words are taken.
-abbrev pub Says : List (List ℕ) → List (List ℕ) → Around → Ended → Around → Type 0
+abbrev pub Says : Names → Words → Around → Ended → Around → Type 0
 -- the net closed or the number was reached, and the start script had ended well
 Says names words before Done after = HasServed words after.net × HasStarted names words before after
 -- `clap` finds a fault in the words, or one isn't UTF-8; nothing was done
@@ -50,7 +51,7 @@ Says names words before NetFault after = AreTaken words × Rose before.net.fault
 -- A run of the server, where the natives have these names, ends so: its status says what it says; whatever it is, a connection was given
 -- only where the start script had ended well, no more were given than the words ask for, the net's count of faults didn't fall, and the
 -- pages that are told stay.
-pub record Ends (names words : List (List ℕ)) (before : Around) (ended : Ended) (after : Around) : Type 0 where
+pub record Ends (names : Names) (words : Words) (before : Around) (ended : Ended) (after : Around) : Type 0 where
   pub says : Says names words before ended after
   pub started : after.net.given ≢ 0 → HasStarted names words before after
   pub most : connections_of words ≢ 0 → after.net.given ≤ connections_of words
@@ -59,8 +60,8 @@ pub record Ends (names words : List (List ℕ)) (before : Around) (ended : Ended
 
 -- What a run of the server does and tells: it ends with the number of a status, did what that says, and sent its line to errors, which
 -- took it whole, or failed, so that their count rose, and took a front of it. No fault of errors changes the status.
-pub record Serves (names words : List (List ℕ)) (before : Around) (answer : ℕ) (after : Around)
-    (taken : Option (List ℕ)) (error_faults : ℕ) (taken_after : Option (List ℕ)) (error_faults_after : ℕ) : Type 0 where
+pub record Serves (names : Names) (words : Words) (before : Around) (answer : ℕ) (after : Around)
+    (taken : Option Bytes) (error_faults : ℕ) (taken_after : Option Bytes) (error_faults_after : ℕ) : Type 0 where
   pub ended : Ended
   pub answer_is : answer ≡ number_of ended
   pub ends : Ends names words before ended after

@@ -1,5 +1,6 @@
 -- What the parts of a run of the server do.
-use Rattle.std.specs.Prelude.{◌≡◌, ◌≤◌, ◌⊎◌, ℕ, List, Option, Result, Ok, Err}
+use Rattle.std.specs.Prelude.{◌≡◌, ◌≤◌, ◌⊎◌, ℕ, Option, Result, Ok, Err}
+use Rattle.txt_core.specs.Names.{Bytes, Names, Moment}
 use Rattle.outside.specs.Clocks.{Dial}
 use Rattle.outside.specs.Paging.{PageMap}
 use Rattle.tcl_eval.specs.declared.outcome.Outcome.{Outcome}
@@ -17,12 +18,12 @@ use Rattle.serve_run.specs.declared.start.NotStarted.{NotStarted}
 use Rattle.serve_run.specs.declared.start.NotStarted.TheVariants.{Fault, NoMemory}
 
 -- what was wrong with the start script; of want of memory nothing is said
-abbrev pub Misses : List (List ℕ) → List ℕ → Option PageMap → ℕ → Option Dial → ℕ → NotStarted → Type 0
+abbrev pub Misses : Names → Bytes → Option PageMap → ℕ → Option Dial → ℕ → NotStarted → Type 0
 Misses names path held faults clock after (Fault fault) = StartsBadly names path held faults clock after fault
 Misses names path held faults clock after NoMemory = Unit {0}
 
 -- the script's definition run on the opening objects, alone, ended so; of want of memory nothing is said
-abbrev pub EndsRun : List (List ℕ) → Option PageMap → List ℕ → ℕ → ℕ → ℕ → EvalEnd → Type 0
+abbrev pub EndsRun : Names → Option PageMap → Bytes → Moment → ℕ → ℕ → EvalEnd → Type 0
 EndsRun names held script moment faults after (evals.Done epoch) =
     (outcome : Outcome) × DefinesAlone names held script moment faults after outcome × IsWell outcome
 EndsRun names held script moment faults after (evals.Error text) =
@@ -49,7 +50,7 @@ pub record IsEarlier (before now : Around) : Type 0 where
   pub clock : now.clock ≡ before.clock
 
 -- the run ends so where the start script had no good end; or memory ran out
-abbrev pub EndsUnstarted : List ℕ → NotStarted → Ended → Type 0
+abbrev pub EndsUnstarted : Bytes → NotStarted → Ended → Type 0
 EndsUnstarted path (Fault fault) ended = (ended ≡ ways.BadStart path fault) ⊎ (ended ≡ ways.NoMemory)
 EndsUnstarted path NoMemory ended = ended ≡ ways.NoMemory
 

@@ -1,6 +1,7 @@
 -- The start script: a definition run on the opening objects, which nobody else uses yet.
 use Rattle.std.specs.Prelude.{◌≡◌, ◌<◌, ◌≤◌, ℕ, zero, suc, List, [], ◌∷◌, length, Option, None, Some}
 use Rattle.std.specs.FinMap as map
+use Rattle.txt_core.specs.Names.{Bytes, Names, Moment}
 use Rattle.txt_core.specs.Limits.{most_bytes}
 use Rattle.outside.specs.Clocks.{Dial}
 use Rattle.outside.specs.Faults.{Rose}
@@ -34,7 +35,7 @@ IsBucketAlone = IsHistory (λ s. Unit {0}) array_steps.Steps 0 map.empty
 -- A look at the blueprint, and then these turns, are all that was ever done with the objects: on each, the first turn finds the opening
 -- (nothing was published on natives of these names, no array is there, nothing is scheduled), each next one what the one before it
 -- left, and each is a legal step.
-pub record AreAlone (names : List (List ℕ)) (look : BlueEntry) (turns : List Turn) : Type 0 where
+pub record AreAlone (names : Names) (look : BlueEntry) (turns : List Turn) : Type 0 where
   pub blueprint : IsHistory blueprints.Allowed blueprint_steps.Steps 0 (blueprints.fresh names) (look ∷ blueprint_turns turns)
   pub b0 : IsBucketAlone (array_turns 0 turns)
   pub b1 : IsBucketAlone (array_turns 1 turns)
@@ -49,7 +50,7 @@ pub record AreAlone (names : List (List ℕ)) (look : BlueEntry) (turns : List T
 -- The definition run of a script at a moment, on the opening objects, alone, ends so. Its questions are answered by turns on the
 -- objects and by the pages; a page's answer is the one that is held, where that is told, or that it couldn't be read, and the count of
 -- faults rose by at least as many as of these there are.
-pub record DefinesAlone (names : List (List ℕ)) (held : Option PageMap) (script : List ℕ) (moment faults faults_after : ℕ) (outcome : Outcome)
+pub record DefinesAlone (names : Names) (held : Option PageMap) (script : Bytes) (moment : Moment) (faults faults_after : ℕ) (outcome : Outcome)
     : Type 0 where
   pub look : BlueEntry
   pub turns : List Turn
@@ -66,40 +67,40 @@ pub record DefinesAlone (names : List (List ℕ)) (held : Option PageMap) (scrip
 -- ---- the start page
 
 -- where the pages are told, this is the one at the path; none is there
-abbrev pub IsPage : Option PageMap → List ℕ → Option (List ℕ) → Type 0
+abbrev pub IsPage : Option PageMap → Bytes → Option Bytes → Type 0
 IsPage held path page = (pages : PageMap) → held ≡ Some pages → map.get pages path ≡ page
 
 -- where the clock is told, this is its next reading
-abbrev pub IsReading : Option Dial → ℕ → Type 0
+abbrev pub IsReading : Option Dial → Moment → Type 0
 IsReading clock moment = (dial : Dial) → clock ≡ Some dial → moment ≡ dial.moment
 
 -- The page at the path is a script that isn't over the limit, whose definition run ended so.
-pub record Starts (names : List (List ℕ)) (path : List ℕ) (held : Option PageMap) (faults : ℕ) (clock : Option Dial) (faults_after : ℕ)
+pub record Starts (names : Names) (path : Bytes) (held : Option PageMap) (faults : ℕ) (clock : Option Dial) (faults_after : ℕ)
     (outcome : Outcome) : Type 0 where
-  pub page : List ℕ
+  pub page : Bytes
   pub is_page : IsPage held path (Some page)
   pub fits : length page ≤ most_bytes
-  pub moment : ℕ
+  pub moment : Moment
   pub is_reading : IsReading clock moment
   pub defines : DefinesAlone names held page moment faults faults_after outcome
 
 -- the run ended well; in an error with this text
 abbrev pub IsWell : Outcome → Type 0
-IsWell outcome = (result : List ℕ) × (outcome ≡ outcomes.Done zero result)
+IsWell outcome = (result : Bytes) × (outcome ≡ outcomes.Done zero result)
 
-abbrev pub IsError : List ℕ → Outcome → Type 0
+abbrev pub IsError : Bytes → Outcome → Type 0
 IsError text outcome = (code : ℕ) × (outcome ≡ outcomes.Done (suc code) text)
 
 -- What each fault of the start script says: no page is there; the count of faults rose; the page is over the limit; or its definition
 -- run ended in this error, was spent, or went too deep.
-abbrev pub StartsBadly : List (List ℕ) → List ℕ → Option PageMap → ℕ → Option Dial → ℕ → StartFault → Type 0
+abbrev pub StartsBadly : Names → Bytes → Option PageMap → ℕ → Option Dial → ℕ → StartFault → Type 0
 StartsBadly names path held faults clock after start.NoPage = IsPage held path None
 StartsBadly names path held faults clock after start.Unreadable = Rose faults after
-StartsBadly names path held faults clock after start.TooLong = (page : List ℕ) × IsPage held path (Some page) × (most_bytes < length page)
+StartsBadly names path held faults clock after start.TooLong = (page : Bytes) × IsPage held path (Some page) × (most_bytes < length page)
 StartsBadly names path held faults clock after (start.Error text) = (outcome : Outcome) × Starts names path held faults clock after outcome × IsError text outcome
 StartsBadly names path held faults clock after start.Spent = Starts names path held faults clock after outcomes.Spent
 StartsBadly names path held faults clock after start.TooDeep = Starts names path held faults clock after outcomes.TooDeep
 
 -- the start script ended well
-abbrev pub StartsWell : List (List ℕ) → List ℕ → Option PageMap → ℕ → Option Dial → ℕ → Type 0
+abbrev pub StartsWell : Names → Bytes → Option PageMap → ℕ → Option Dial → ℕ → Type 0
 StartsWell names path held faults clock after = (outcome : Outcome) × Starts names path held faults clock after outcome × IsWell outcome

@@ -3,7 +3,7 @@
 ghost use Rattle.std.specs.Prelude.{◌≡◌, ◌++◌, IfOk, codes};
 ghost use Rattle.outside.specs.Sending.{Sends};
 ghost use Rattle.outside.specs.declared.sending.Sent.{Sent};
-ghost use Rattle.serve_run.specs.Statuses.{number_of, fault_text, line_of, IsTold};
+ghost use Rattle.serve_run.specs.Statuses.{number_of, start_text, line_of, IsTold};
 
 use outside::{Sink, write_all};
 use std::alloc::Global;
@@ -45,7 +45,7 @@ pub enum Ended {
 impl StartFault {
     /// What is said of it on errors, where the start script stands at this path.
     fn text(&self, alloc: Global, path: &Text) -> Result<Text, NoMemory>
-        ensures { IfOk result (λ text. text ≡ fault_text path.now self.now) }
+        ensures { IfOk result (λ text. text ≡ start_text path.now self.now) }
     {
         match self {
             StartFault::NoPage => no_page(alloc, path.bytes()),
@@ -91,7 +91,8 @@ const OUT_OF_MEMORY: &[u8] = b"out of memory\n";
 
 /// The line for what kept the start script at this path from its good end.
 fn start_line(alloc: Global, path: &Text, fault: &StartFault) -> Result<Text, NoMemory>
-    ensures { IfOk result (λ line. line ≡ codes "start: " ++ fault_text path.now fault.now ++ codes "\n") }
+    ensures { IfOk result (λ line.
+        line ≡ codes "start: " ++ start_text path.now fault.now ++ codes "\n") }
 {
     let text = fault.text(alloc, path)?;
     let mut line = Text::new(alloc, b"start: ")?;
@@ -103,7 +104,10 @@ fn start_line(alloc: Global, path: &Text, fault: &StartFault) -> Result<Text, No
 /// Writes the line of an end on errors, and gives the number of its status. Where there is no memory for
 /// the line, the end is want of memory. A fault of errors changes no status.
 pub(crate) fn report<E: Sink>(alloc: Global, ended: &Ended, errors: &mut E) -> u8
-    ensures { (told : Ended) × IsTold ended.now told × (result ≡ number_of told) × (sent : Sent) × Sends (E.taken errors.old) (E.faults errors.old) (line_of told) sent (E.taken errors.new) (E.faults errors.new) }
+    ensures { (told : Ended) × IsTold ended.now told × (result ≡ number_of told)
+        × (sent : Sent)
+        × Sends (E.taken errors.old) (E.faults errors.old) (line_of told) sent (E.taken errors.new)
+        (E.faults errors.new) }
 {
     match ended.line(alloc) {
         Ok(line) => {

@@ -1,7 +1,8 @@
 //! A run of the server.
 
-ghost use Rattle.std.specs.Prelude.{◌≡◌, ◌≤◌, ◌⊎◌, ℕ, List, vec_len, IfOk, OnErr, MatchResult};
+ghost use Rattle.std.specs.Prelude.{◌≡◌, ◌≤◌, ◌⊎◌, vec_len, IfOk, OnErr, MatchResult};
 ghost use Rattle.std.specs.List.{All};
+ghost use Rattle.txt_core.specs.Names.{Words};
 ghost use Rattle.natives.specs.Names.{names_of};
 ghost use Rattle.outside.specs.Nets.{IsNew};
 ghost use Rattle.shared_state.specs.Cells.{Serve, AreWhole, HaveUnits, Leave};
@@ -64,7 +65,8 @@ fn owns_of<P: Pages + Drop, C: Clock + Drop>(
     requires whole { AreWhole passes.old }
     requires few { threads ≤ 17 }
     ensures cells { Serve (names_of natives.now) shared.now passes.new }
-    ensures owns { IfOk result (λ owns. All (λ own. Serve (names_of natives.now) shared.now own.passes) owns.items) }
+    ensures owns { IfOk result (λ owns.
+        All (λ own. Serve (names_of natives.now) shared.now own.passes) owns.items) }
     ensures few { IfOk result (λ owns. vec_len owns ≤ 17) }
 {
     let mut owns = Vec::new(alloc);
@@ -99,7 +101,8 @@ fn serve_net<
     requires cells { Serve (names_of crew.now.natives.now) crew.now.shared.now passes }
     requires whole { AreWhole passes }
     requires new { IsNew (N.state net.old) }
-    ensures stops { IfOk result (λ stop. Stops options.now.connections (N.state net.old) stop (N.state net.new)) }
+    ensures stops { IfOk result (λ stop.
+        Stops options.now.connections (N.state net.old) stop (N.state net.new)) }
     ensures none { OnErr result (N.state net.new ≡ N.state net.old) }
 {
     // One keeps the time, and the others serve.
@@ -143,7 +146,8 @@ fn unstarted(alloc: Global, path: &Text, why: NotStarted) -> Ended
 
 /// How a run ends whose acceptor stopped so.
 fn ended(served: Result<Stop, NoMemory>) -> Ended
-    ensures { MatchResult served (λ stop. result ≡ ended_by stop) (λ error. result ≡ ways.NoMemory) }
+    ensures { MatchResult served (λ stop. result ≡ ended_by stop) (λ error.
+        result ≡ ways.NoMemory) }
 {
     match served {
         Ok(Stop::Closed | Stop::Reached) => Ended::Done,
@@ -174,7 +178,7 @@ fn begin<
     gate: &G,
 ) -> Ended
     requires new { IsNew (N.state net.old) }
-    ensures { (words : List (List ℕ)) (before : Around) → AreReadFrom words options.now
+    ensures { (words : Words) (before : Around) → AreReadFrom words options.now
         → IsEarlier before (record { net = N.state net.old; pages = P.held pages.old; page_faults = P.faults pages.old; clock = C.held clock.old })
         → Ends (names_of natives.now) words before result (record { net = N.state net.new; pages = P.held pages.new; page_faults = P.faults pages.new; clock = C.held clock.new }) }
 {

@@ -1,6 +1,7 @@
 //! The start script.
 
-ghost use Rattle.std.specs.Prelude.{◌≡◌, ◌<◌, ◌≤◌, ℕ, List, Option, Some, length, IfOk, IfErr, OnOk};
+ghost use Rattle.std.specs.Prelude.{◌≡◌, ◌<◌, ◌≤◌, Option, Some, length, IfOk, IfErr, OnOk};
+ghost use Rattle.txt_core.specs.Names.{Names};
 ghost use Rattle.natives.specs.Names.{names_of};
 ghost use Rattle.txt_core.specs.Limits.{most_bytes};
 ghost use Rattle.outside.specs.Clocks.{Dial};
@@ -34,8 +35,11 @@ pub(crate) enum NotStarted {
 
 /// The page of the start script.
 fn start_page<P: Pages>(pages: &mut P, path: &Text) -> Result<Text, NotStarted>
-    ensures page { IfOk result (λ page. IsPage (P.held pages.old) path.now (Some page) × (length page ≤ most_bytes)) }
-    ensures fault { (names : List (List ℕ)) (clock : Option Dial) → IfErr result (Misses names path.now (P.held pages.old) (P.faults pages.old) clock (P.faults pages.new)) }
+    ensures page { IfOk result (λ page.
+        IsPage (P.held pages.old) path.now (Some page) × (length page ≤ most_bytes)) }
+    ensures fault { (names : Names) (clock : Option Dial)
+        → IfErr result
+        (Misses names path.now (P.held pages.old) (P.faults pages.old) clock (P.faults pages.new)) }
     ensures held { P.held pages.new ≡ P.held pages.old }
     ensures faults { P.faults pages.old ≤ P.faults pages.new }
 {
@@ -72,7 +76,8 @@ fn define_first<L: Ledger, P: Pages, R: Wait>(
     requires opening { AreOpening (names_of natives.now) passes.old }
     ensures cells { Serve (names_of natives.now) shared.now passes.new }
     ensures units { KeepUnits passes.old passes.new }
-    ensures ran { EndsRun (names_of natives.now) (P.held pages.old) script.now moment (P.faults pages.old) (P.faults pages.new) result }
+    ensures ran { EndsRun (names_of natives.now) (P.held pages.old) script.now moment
+        (P.faults pages.old) (P.faults pages.new) result }
     ensures held { P.held pages.new ≡ P.held pages.old }
 {
     let mut worker = Worker::new(STARTER);
@@ -121,8 +126,12 @@ pub(crate) fn start<P: Pages, C: Clock, R: Wait>(
     requires opening { AreOpening (names_of natives.now) passes.old }
     ensures cells { Serve (names_of natives.now) shared.now passes.new }
     ensures units { KeepUnits passes.old passes.new }
-    ensures well { OnOk result (StartsWell (names_of natives.now) path.now (P.held pages.old) (P.faults pages.old) (C.held clock.old) (P.faults pages.new)) }
-    ensures fault { IfErr result (Misses (names_of natives.now) path.now (P.held pages.old) (P.faults pages.old) (C.held clock.old) (P.faults pages.new)) }
+    ensures well { OnOk result
+        (StartsWell (names_of natives.now) path.now (P.held pages.old) (P.faults pages.old)
+        (C.held clock.old) (P.faults pages.new)) }
+    ensures fault { IfErr result
+        (Misses (names_of natives.now) path.now (P.held pages.old) (P.faults pages.old)
+        (C.held clock.old) (P.faults pages.new)) }
     ensures held { P.held pages.new ≡ P.held pages.old }
 {
     let page = start_page(pages, path)?;

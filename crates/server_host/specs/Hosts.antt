@@ -1,5 +1,6 @@
 -- What the host of a run knows.
 use Rattle.std.specs.Prelude.{ℕ, Bool, false, List, [], ◌++◌, Option, Some, None}
+use Rattle.txt_core.specs.Names.{Words, Moment}
 use Rattle.cmd_table.specs.declared.definition.Def.{Def}
 use Rattle.http_req.specs.declared.request.Request.{Request}
 use Rattle.conn_host.specs.Conns.{ConnState}
@@ -19,7 +20,7 @@ pub record HostState : Type 0 where
   -- what is known of the pages
   pub pages : PageState
   -- the answers that an `nsv_names` under way has had
-  pub gathered : List (List ℕ)
+  pub gathered : Words
   -- the blueprint that the run is on
   pub blueprint : Edition
   -- The mark: the run, or the last one where there is none, asked that its interpreter be built anew. It stands beside the state
@@ -32,7 +33,7 @@ with_conn host conn = record host { conn = conn }
 abbrev pub with_pages : HostState → PageState → HostState
 with_pages host pages = record host { pages = pages }
 
-abbrev pub with_gathered : HostState → List (List ℕ) → HostState
+abbrev pub with_gathered : HostState → Words → HostState
 with_gathered host gathered = record host { gathered = gathered }
 
 abbrev pub with_mark : HostState → Bool → HostState
@@ -84,13 +85,13 @@ begun kind conn blueprint = record {
 }
 
 -- a request that came at this moment is served
-abbrev pub serving : Request → ℕ → Edition → HostState
+abbrev pub serving : Request → Moment → Edition → HostState
 serving request moment blueprint = begun kinds.Serving (conns.serving request moment) blueprint
 
 -- a scheduled script begins at this moment, without a connection
-abbrev pub scripting : ℕ → Edition → HostState
+abbrev pub scripting : Moment → Edition → HostState
 scripting moment blueprint = begun kinds.Scripting (conns.without_connection moment) blueprint
 
 -- a script that makes definitions begins at this moment, without a connection
-abbrev pub defining : ℕ → Edition → HostState
+abbrev pub defining : Moment → Edition → HostState
 defining moment blueprint = begun kinds.Defining (conns.without_connection moment) blueprint

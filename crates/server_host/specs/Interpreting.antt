@@ -1,5 +1,6 @@
 -- The commands on interpreters and their blueprint.
-use Rattle.std.specs.Prelude.{ℕ, true, not, ◌==◌, List, [], ◌∷◌, decimal, length, if◌then◌else◌, bytes_eq, codes, Option, Some, None}
+use Rattle.std.specs.Prelude.{ℕ, true, not, ◌==◌, [], ◌∷◌, decimal, length, if◌then◌else◌, bytes_eq, codes, Option, Some, None}
+use Rattle.txt_core.specs.Names.{Bytes, Words}
 use Rattle.cmd_table.specs.declared.definition.Def.TheVariants.{Cleanup, Set}
 use Rattle.tcl_frame.specs.Names.{named, is_element}
 use Rattle.outside.specs.declared.question.Service.TheVariants as service
@@ -14,7 +15,7 @@ use Rattle.server_host.specs.declared.ictl_verb.IctlVerb.TheVariants as verbs
 -- ---- `ns_ictl`
 
 -- the subcommand of a name
-abbrev pub ictl_verb_of : List ℕ → Option IctlVerb
+abbrev pub ictl_verb_of : Bytes → Option IctlVerb
 ictl_verb_of name =
     if bytes_eq name (codes "oncleanup") then Some verbs.Oncleanup
     else if bytes_eq name (codes "global") then Some verbs.Global
@@ -34,11 +35,11 @@ ictl_count verbs.Save = 3
 ictl_count verbs.Markfordelete = 2
 
 -- `oncleanup SCRIPT` is the definition of a script that runs at the end of each request
-abbrev pub cleans_up : List (List ℕ) → HostState → Leaf HostState
+abbrev pub cleans_up : Words → HostState → Leaf HostState
 cleans_up words host = in_definition_run (defines (Cleanup (arg words 2))) host
 
 -- `global NAME VALUE` is the definition of a global variable, whose name hasn't the form of an array's element
-abbrev pub sets_global : List (List ℕ) → HostState → Leaf HostState
+abbrev pub sets_global : Words → HostState → Leaf HostState
 sets_global words host =
     in_definition_run (fitting (not (is_element (named (arg words 2)))) words 2 (defines (Set (arg words 2) (arg words 3)))) host
 
@@ -51,14 +52,14 @@ abbrev pub gives_epoch : HostState → Leaf HostState
 gives_epoch host = gives (decimal host.blueprint.epoch) host
 
 -- `save SCRIPT` asks that the script become the blueprint
-abbrev pub saves : List (List ℕ) → HostState → Leaf HostState
+abbrev pub saves : Words → HostState → Leaf HostState
 saves words host = wants (record { service = service.Save; words = arg words 2 ∷ [] }) host
 
 -- `markfordelete` marks the run
 abbrev pub marks : HostState → Leaf HostState
 marks host = gives [] (with_mark host true)
 
-abbrev pub ictl_does : IctlVerb → List (List ℕ) → HostState → Leaf HostState
+abbrev pub ictl_does : IctlVerb → Words → HostState → Leaf HostState
 ictl_does verbs.Oncleanup words host = cleans_up words host
 ictl_does verbs.Global words host = sets_global words host
 ictl_does verbs.Get words host = gives_script host
@@ -67,25 +68,25 @@ ictl_does verbs.Save words host = saves words host
 ictl_does verbs.Markfordelete words host = marks host
 
 -- the subcommand goes before its own number of words
-abbrev pub ictl_by_verb : Option IctlVerb → List (List ℕ) → HostState → Leaf HostState
+abbrev pub ictl_by_verb : Option IctlVerb → Words → HostState → Leaf HostState
 ictl_by_verb None words host = no_subcommand words host
 ictl_by_verb (Some verb) words host = shaped (length words == ictl_count verb) words (ictl_does verb words) host
 
 -- `ns_ictl oncleanup SCRIPT`, `global NAME VALUE`, `get`, `epoch`, `save SCRIPT` and `markfordelete`
-abbrev pub ns_ictl : List (List ℕ) → HostState → Leaf HostState
+abbrev pub ns_ictl : Words → HostState → Leaf HostState
 ns_ictl words host = shaped (is_counted 2 4 words) words (ictl_by_verb (ictl_verb_of (arg words 1)) words) host
 
 -- ---- `ns_eval`
 
 -- the error of a definition run that is to begin inside another one
-abbrev pub inside_itself : List ℕ
+abbrev pub inside_itself : Bytes
 inside_itself = codes "ns_eval inside ns_eval"
 
 -- a run inside this one is asked for, by its script
-abbrev pub asks_inner : List (List ℕ) → HostState → Leaf HostState
+abbrev pub asks_inner : Words → HostState → Leaf HostState
 asks_inner words host = wants (record { service = service.Inner; words = arg words 1 ∷ [] }) host
 
 -- `ns_eval SCRIPT` asks for a definition run of the script, unless this run is one
-abbrev pub ns_eval : List (List ℕ) → HostState → Leaf HostState
+abbrev pub ns_eval : Words → HostState → Leaf HostState
 ns_eval words host =
     shaped (is_counted 2 2 words) words (passing (not (is_defining host.kind)) inside_itself (asks_inner words)) host

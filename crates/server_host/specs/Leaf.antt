@@ -1,5 +1,6 @@
 -- What the host of a run says of each command, of an answer, and of its pages.
-use Rattle.std.specs.Prelude.{ℕ, List, [], bytes_eq, codes, if◌then◌else◌, Option, Some, None}
+use Rattle.std.specs.Prelude.{ℕ, [], bytes_eq, codes, if◌then◌else◌, Option, Some, None}
+use Rattle.txt_core.specs.Names.{Bytes, Words}
 use Rattle.outside.specs.declared.question.Answer.{Answer}
 use Rattle.outside.specs.declared.question.Answer.TheVariants.{Said, Failed, Page, NoPage, PageFault}
 use Rattle.tcl_host.specs.Leaf.{Leaf, says, wants, defines, stores, not_mine, Onward, goes, TextEnd, LeafTable}
@@ -21,7 +22,7 @@ use Rattle.server_host.specs.declared.verb.Verb.TheVariants as verbs
 -- ---- commands
 
 -- the command of a name, among those that are neither of the connection nor of pages
-abbrev pub verb_of : List ℕ → Option Verb
+abbrev pub verb_of : Bytes → Option Verb
 verb_of name =
     if bytes_eq name (codes "ns_register_proc") then Some verbs.RegisterProc
     else if bytes_eq name (codes "ns_register_filter") then Some verbs.RegisterFilter
@@ -41,7 +42,7 @@ verb_of name =
     else None
 
 -- what each command does
-abbrev pub does : Verb → List (List ℕ) → HostState → Leaf HostState
+abbrev pub does : Verb → Words → HostState → Leaf HostState
 does verbs.RegisterProc words host = ns_register_proc words host
 does verbs.RegisterFilter words host = ns_register_filter words host
 does verbs.NsIctl words host = ns_ictl words host
@@ -52,29 +53,29 @@ does verbs.NsvNames words host = nsv_names words host
 does verbs.Nsv words host = nsv words host
 
 -- a command of the connection, and one of pages
-abbrev pub of_conn : List (List ℕ) → HostState → Leaf HostState
+abbrev pub of_conn : Words → HostState → Leaf HostState
 of_conn words host = in_whole (with_conn host) (conn_call words host.conn)
 
-abbrev pub of_pages : List (List ℕ) → HostState → Leaf HostState
+abbrev pub of_pages : Words → HostState → Leaf HostState
 of_pages words host = in_whole (with_pages host) (page_call words host.pages)
 
 -- what is none of the connection's commands is one of pages, or of no one
-abbrev pub or_of_pages : List (List ℕ) → Leaf HostState → Leaf HostState
+abbrev pub or_of_pages : Words → Leaf HostState → Leaf HostState
 or_of_pages words (not_mine host) = of_pages words host
 or_of_pages words (says code result host) = says code result host
 or_of_pages words (wants question host) = wants question host
 or_of_pages words (defines def host) = defines def host
 or_of_pages words (stores name value result host) = stores name value result host
 
-abbrev pub of_parts : List (List ℕ) → HostState → Leaf HostState
+abbrev pub of_parts : Words → HostState → Leaf HostState
 of_parts words host = or_of_pages words (of_conn words host)
 
-abbrev pub by_verb : Option Verb → List (List ℕ) → HostState → Leaf HostState
+abbrev pub by_verb : Option Verb → Words → HostState → Leaf HostState
 by_verb (Some verb) words host = does verb words host
 by_verb None words host = of_parts words host
 
 -- the first word names the command
-abbrev pub host_call : List (List ℕ) → HostState → Leaf HostState
+abbrev pub host_call : Words → HostState → Leaf HostState
 host_call words host = by_verb (verb_of (arg words 0)) words host
 
 -- ---- answers
@@ -89,14 +90,14 @@ said NoPage host = fails [] host
 said PageFault host = fails [] host
 
 -- an answer to `open`, and one to `ns_adp_include`
-abbrev pub conn_answered : List (List ℕ) → Answer → HostState → Onward HostState
+abbrev pub conn_answered : Words → Answer → HostState → Onward HostState
 conn_answered words answer host = goes (in_whole (with_conn host) (conn_answer words answer host.conn))
 
-abbrev pub page_answered : List (List ℕ) → Answer → HostState → Onward HostState
+abbrev pub page_answered : Words → Answer → HostState → Onward HostState
 page_answered words answer host = onward_in_whole (with_pages host) (page_answer words answer host.pages)
 
 -- `open` and `ns_adp_include` ask for pages. Of the others `nsv_names` alone asks more than one question, and gathers the answers.
-abbrev pub host_answer : List (List ℕ) → Answer → HostState → Onward HostState
+abbrev pub host_answer : Words → Answer → HostState → Onward HostState
 host_answer words answer host =
     if bytes_eq (arg words 0) (codes "open") then conn_answered words answer host
     else if bytes_eq (arg words 0) (codes "ns_adp_include") then page_answered words answer host
@@ -106,7 +107,7 @@ host_answer words answer host =
 -- ---- pages
 
 -- a text of a page is put out
-abbrev pub host_text : List ℕ → HostState → TextEnd HostState
+abbrev pub host_text : Bytes → HostState → TextEnd HostState
 host_text piece host = end_in_whole (with_pages host) (put_out piece host.pages)
 
 -- a piece of a page ended with a code

@@ -1,8 +1,9 @@
 -- The commands on shared arrays, which are questions: their number of words and the subcommand are looked at here, and all else
 -- by what holds the arrays.
-use Rattle.std.specs.Prelude.{◌≡◌, ℕ, List, [], ◌∷◌, ◌++◌, length, drop, decimal, Bool, not, ◌&&◌, ◌||◌, nat_lt, if◌then◌else◌, bytes_eq, codes, is_some, Result, Ok, Err}
+use Rattle.std.specs.Prelude.{◌≡◌, ℕ, [], ◌∷◌, ◌++◌, length, drop, decimal, Bool, not, ◌&&◌, ◌||◌, nat_lt, if◌then◌else◌, bytes_eq, codes, is_some, Result, Ok, Err}
 use Rattle.std.specs.Ordering.{nat_cmp, is_lt}
 use Rattle.std.specs.Cmp.Lexicographic.{slice_cmp}
+use Rattle.txt_core.specs.Names.{Bytes, Words}
 use Rattle.txt_core.specs.ErrorTexts.{wrong_words, no_list}
 use Rattle.txt_core.specs.Limits.{bucket_count}
 use Rattle.txt_core.specs.Lists.{Listing, elements, bad_at}
@@ -24,31 +25,31 @@ use Rattle.server_host.specs.Checks.{gives, fails, is_counted, shaped, no_subcom
 -- ---- commands that ask one question
 
 -- the words are asked of the shared arrays
-abbrev pub asks_nsv : List (List ℕ) → HostState → Leaf HostState
+abbrev pub asks_nsv : Words → HostState → Leaf HostState
 asks_nsv words host = wants (record { service = service.Nsv; words = words }) host
 
 -- the words are a question on shared arrays: their number is right, and the subcommand where there is to be one
-abbrev pub is_question : List (List ℕ) → Bool
+abbrev pub is_question : Words → Bool
 is_question words = is_some (question_of words)
 
 -- a subcommand of `nsv_array`
-abbrev pub is_array_subcommand : List ℕ → Bool
+abbrev pub is_array_subcommand : Bytes → Bool
 is_array_subcommand name =
     bytes_eq name (codes "set") || bytes_eq name (codes "reset") || bytes_eq name (codes "get") || bytes_eq name (codes "names")
     || bytes_eq name (codes "size") || bytes_eq name (codes "exists")
 
 -- the words are those of `nsv_array`, in a number that one of its subcommands has, but without a subcommand
-abbrev pub lacks_subcommand : List (List ℕ) → Bool
+abbrev pub lacks_subcommand : Words → Bool
 lacks_subcommand words =
     bytes_eq (arg words 0) (codes "nsv_array") && is_counted 3 4 words && not (is_array_subcommand (arg words 1))
 
 -- why words of a command on shared arrays aren't asked
-abbrev pub unasked : List (List ℕ) → HostState → Leaf HostState
+abbrev pub unasked : Words → HostState → Leaf HostState
 unasked words host = if lacks_subcommand words then no_subcommand words host else fails (wrong_words (arg words 0)) host
 
 -- A command on shared arrays, but for `nsv_names`, is one question: its own words. They are asked exactly where they are a
 -- question.
-abbrev pub nsv : List (List ℕ) → HostState → Leaf HostState
+abbrev pub nsv : Words → HostState → Leaf HostState
 nsv words host = if is_question words then asks_nsv words host else unasked words host
 
 -- ---- `nsv_names`
@@ -58,45 +59,45 @@ abbrev pub ungathered : HostState → HostState
 ungathered host = with_gathered host []
 
 -- the names of a bucket are asked for, with the pattern where there is one
-abbrev pub names_question : List (List ℕ) → ℕ → Question
+abbrev pub names_question : Words → ℕ → Question
 names_question words bucket = record { service = service.Nsv; words = codes "nsv_names" ∷ decimal bucket ∷ drop 1 words }
 
 -- the first bucket is asked, and nothing is gathered yet
-abbrev pub asks_names : List (List ℕ) → HostState → Leaf HostState
+abbrev pub asks_names : Words → HostState → Leaf HostState
 asks_names words host = wants (names_question words 0) (ungathered host)
 
 -- `nsv_names ?GLOB?` asks the buckets one after the other, from bucket 0 on
-abbrev pub nsv_names : List (List ℕ) → HostState → Leaf HostState
+abbrev pub nsv_names : Words → HostState → Leaf HostState
 nsv_names words host = shaped (is_counted 1 2 words) words (asks_names words) host
 
 -- names in front of others; a place where an answer is bad takes the place of all
-abbrev pub with_names : Listing → Result (List (List ℕ)) ℕ → Result (List (List ℕ)) ℕ
+abbrev pub with_names : Listing → Result Words ℕ → Result Words ℕ
 with_names (elements names) (Ok more) = Ok (names ++ more)
 with_names (elements names) (Err place) = Err place
 with_names (bad_at place) more = Err place
 
 -- The names of all answers, each of which is a list; or the place where the first one that is none is bad.
-abbrev pub all_names : List (List ℕ) → Result (List (List ℕ)) ℕ
+abbrev pub all_names : Words → Result Words ℕ
 all_names [] = Ok []
 all_names (answer ∷ answers) = with_names (listing answer) (all_names answers)
 
 -- whether a text stands before another one by bytes; a front stands before the whole
-abbrev pub by_bytes : List ℕ → List ℕ → Bool
+abbrev pub by_bytes : Bytes → Bytes → Bool
 by_bytes x y = is_lt (slice_cmp nat_cmp x y)
 
 -- the result is the list of all names, sorted by bytes
-abbrev pub names_end : Result (List (List ℕ)) ℕ → HostState → Leaf HostState
+abbrev pub names_end : Result Words ℕ → HostState → Leaf HostState
 names_end (Ok names) host = gives (quoting (in_order by_bytes names)) host
 names_end (Err place) host = fails (no_list place) host
 
 -- so many answers are there: the next bucket is asked, or all have answered, and no answer is kept
-abbrev pub names_next : List (List ℕ) → List (List ℕ) → HostState → Leaf HostState
+abbrev pub names_next : Words → Words → HostState → Leaf HostState
 names_next words gathered host =
     if nat_lt (length gathered) bucket_count then wants (names_question words (length gathered)) (with_gathered host gathered)
     else names_end (all_names gathered) (ungathered host)
 
 -- a bucket answers `nsv_names`; a refusal ends the command, and no answer is kept
-abbrev pub names_answered : List (List ℕ) → Answer → HostState → Leaf HostState
+abbrev pub names_answered : Words → Answer → HostState → Leaf HostState
 names_answered words (Said text) host = names_next words (host.gathered ++ text ∷ []) host
 names_answered words (Failed why) host = fails why (ungathered host)
 names_answered words (Page page) host = fails [] (ungathered host)
@@ -104,7 +105,7 @@ names_answered words NoPage host = fails [] (ungathered host)
 names_answered words PageFault host = fails [] (ungathered host)
 
 -- The program gathers the names, or finds the place. Want of memory says nothing.
-abbrev pub Gathers : Result (List (List ℕ)) ℕ → Result (List (List ℕ)) ListFault → Type 0
+abbrev pub Gathers : Result Words ℕ → Result Words ListFault → Type 0
 Gathers all (Ok names) = all ≡ Ok names
 Gathers all (Err (Bad at)) = all ≡ Err at
 Gathers all (Err NoMemory) = Unit {0}

@@ -102,7 +102,8 @@ fn in_order(alloc: Global, names: &Words) -> Result<Words, NoMemory>
 
 /// All buckets have answered, and no answer is kept.
 fn names_end(host: &mut RunHost) -> Result<HostReply, Refusal>
-    ensures { Comes result host.new (names_end (all_names host.old.gathered) (ungathered host.old)) }
+    ensures { Comes result host.new
+        (names_end (all_names host.old.gathered) (ungathered host.old)) }
 {
     let alloc = host.alloc;
     let names = all_names(alloc, &host.gathered);

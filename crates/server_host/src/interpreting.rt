@@ -24,7 +24,8 @@ use txt_core::{NoMemory, Text, Words, write_natural};
 
 /// A question of one word.
 fn question(alloc: Global, service: Service, word: &[u8]) -> Result<Question, NoMemory>
-    ensures { IfOk result (λ question. question ≡ record { service = service; words = word.now ∷ [] }) }
+    ensures { IfOk result (λ question.
+        question ≡ record { service = service; words = word.now ∷ [] }) }
 {
     let mut words = Words::new(alloc);
     words.add(Text::new(alloc, word)?)?;

@@ -31,7 +31,10 @@ fn method_place(words: &Words) -> usize
 /// The registration of a procedure that the words from a place on make.
 fn route(alloc: Global, inherit: bool, place: usize, words: &Words) -> Result<Def, NoMemory>
     requires { place ≤ 2 }
-    ensures { IfOk result (λ def. def ≡ Def.Route (arg words.now place) (arg words.now (place + 1)) inherit (drop (place + 2) words.now)) }
+    ensures { IfOk result (λ def.
+        def
+        ≡ Def.Route (arg words.now place) (arg words.now (place + 1)) inherit
+        (drop (place + 2) words.now)) }
 {
     Ok(Def::Route {
         method: Text::new(alloc, arg(words, place))?,
@@ -70,7 +73,8 @@ pub fn ns_register_proc(host: &RunHost, words: &Words) -> Result<HostReply, Refu
 
 /// The filter of a stage that the words make.
 fn filter(alloc: Global, when: When, words: &Words) -> Result<Def, NoMemory>
-    ensures { IfOk result (λ def. def ≡ Def.Filter when (arg words.now 2) (arg words.now 3) (drop 4 words.now)) }
+    ensures { IfOk result (λ def.
+        def ≡ Def.Filter when (arg words.now 2) (arg words.now 3) (drop 4 words.now)) }
 {
     Ok(Def::Filter {
         when,

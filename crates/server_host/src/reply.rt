@@ -1,6 +1,7 @@
 //! What commands come to, as replies of a host.
 
 ghost use Rattle.std.specs.Prelude.{◌≡◌, []};
+ghost use Rattle.tcl_host.specs.Codes as code_of;
 ghost use Rattle.tcl_host.specs.Answers.{Replies, RepliesTo};
 ghost use Rattle.tcl_host.specs.Leaf.{Leaf, goes};
 ghost use Rattle.server_host.specs.Hosts.{HostState};
@@ -12,7 +13,7 @@ use txt_core::Text;
 
 /// A good end with this result.
 pub fn done(result_text: Text) -> HostReply
-    ensures { result ≡ HostReply.Done 0 result_text }
+    ensures { result ≡ HostReply.Done code_of.ok result_text }
 {
     HostReply::Done {
         code: OK,
@@ -22,15 +23,17 @@ pub fn done(result_text: Text) -> HostReply
 
 /// A good end without a result.
 pub fn done_without_result(alloc: Global) -> HostReply
-    ensures { result ≡ HostReply.Done 0 [] }
+    ensures { result ≡ HostReply.Done code_of.ok [] }
 {
     done(Text::empty(alloc))
 }
 
 /// What a command came to, as the reply of the host.
 pub fn reply_of(came: Result<HostReply, Refusal>) -> HostReply
-    ensures call { (host : HostState) (leaf : Leaf HostState) → Comes came host leaf → Replies result host leaf }
-    ensures answer { (host : HostState) (leaf : Leaf HostState) → Comes came host leaf → RepliesTo result host (goes leaf) }
+    ensures call { (host : HostState) (leaf : Leaf HostState) → Comes came host leaf
+        → Replies result host leaf }
+    ensures answer { (host : HostState) (leaf : Leaf HostState) → Comes came host leaf
+        → RepliesTo result host (goes leaf) }
 {
     match came {
         Ok(reply) => reply,

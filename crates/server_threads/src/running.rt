@@ -63,7 +63,8 @@ pub fn serve_all<
     requires few { vec_len owns ≤ 1000 }
     requires new { IsNew (N.state net.old) }
     ensures own { V.fits staff.now own.new }
-    ensures stops { IfOk result (λ stop. Stops plan.connections (N.state net.old) stop (N.state net.new)) }
+    ensures stops { IfOk result (λ stop.
+        Stops plan.connections (N.state net.old) stop (N.state net.new)) }
     ensures none { OnErr result (N.state net.new ≡ N.state net.old) }
 {
     let (queue, mut pass) = ConnQueue::<T>::new(alloc, plan.room)?;
@@ -95,7 +96,8 @@ fn parts_of<T: Drop, W: Drop, V: Staff<T, W>>(
     requires owns { All (V.fits staff.now) owns.items }
     requires few { vec_len owns ≤ 1000 }
     ensures queue { IsOf queue.now pass.new }
-    ensures parts { IfOk result (λ parts. All (λ part. IsOf queue.now part.pass × V.fits staff.now part.own) parts.items) }
+    ensures parts { IfOk result (λ parts.
+        All (λ part. IsOf queue.now part.pass × V.fits staff.now part.own) parts.items) }
 {
     let mut parts = Vec::new(alloc);
     let mut next = None;
@@ -151,8 +153,10 @@ fn run_beside<
         parts,
         &|_at, part| part.run(rt, staff, queue, called),
         &mut || -> Stop
-            requires { IsOf queue.now pass.now × V.fits staff.now own.now × IsNew (N.state net.now) }
-            ensures { IsOf queue.entry.now pass.exit.now × V.fits staff.entry.now own.exit.now × Stops connections (N.state net.entry.now) result (N.state net.exit.now) }
+            requires { IsOf queue.now pass.now × V.fits staff.now own.now
+                × IsNew (N.state net.now) }
+            ensures { IsOf queue.entry.now pass.exit.now × V.fits staff.entry.now own.exit.now
+                × Stops connections (N.state net.entry.now) result (N.state net.exit.now) }
         { accept_and_stop(rt, staff, queue, called, connections, count, pass, own, net) },
     )
 }

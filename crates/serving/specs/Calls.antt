@@ -1,5 +1,6 @@
 -- Questions as calls on the objects that answer them, and what the objects reply as answers.
-use Rattle.std.specs.Prelude.{ℕ, ℤ, pos, negsuc, List, [], decimal, bytes_eq, codes, true, false, if◌then◌else◌, Option, Some, None}
+use Rattle.std.specs.Prelude.{ℕ, ℤ, pos, negsuc, [], decimal, bytes_eq, codes, true, false, if◌then◌else◌, Option, Some, None}
+use Rattle.txt_core.specs.Names.{Bytes, Words, Moment}
 use Rattle.txt_core.specs.ErrorTexts.{no_schedule, does_not_apply, no_definition, blueprint_full}
 use Rattle.txt_core.specs.Number.{number}
 use Rattle.outside.specs.declared.pages.PageAnswer.{PageAnswer}
@@ -30,11 +31,11 @@ no_answer = Failed []
 -- ---- pages
 
 -- the path that is asked for: the one word
-abbrev pub path_asked : List (List ℕ) → List ℕ
+abbrev pub path_asked : Words → Bytes
 path_asked words = word_at words 0
 
 -- the page of a path, where pages are told by a map: it, or that there is none
-abbrev pub page_found : Option (List ℕ) → Answer
+abbrev pub page_found : Option Bytes → Answer
 page_found (Some page) = Page page
 page_found None = NoPage
 
@@ -60,23 +61,23 @@ natural_of (Some (pos n)) = n
 natural_of (Some (negsuc n)) = 0
 natural_of None = 0
 
-abbrev pub natural_at : List (List ℕ) → ℕ → ℕ
+abbrev pub natural_at : Words → ℕ → ℕ
 natural_at words place = natural_of (number (word_at words place))
 
 -- The call of a question of a run at this moment. `ns_unschedule_proc ID` takes the entry of the id out.
 -- `ns_schedule_proc ?-once? SECONDS SCRIPT` puts one in, which is made at the moment of the run.
-abbrev pub sched_call : ℕ → List (List ℕ) → SchedCall
+abbrev pub sched_call : Moment → Words → SchedCall
 sched_call moment words =
     if bytes_eq (word_at words 0) (codes "ns_unschedule_proc") then Cancel (natural_at words 1)
     else if is_once_option (word_at words 1) then Add moment (natural_at words 2) true (word_at words 3)
     else Add moment (natural_at words 1) false (word_at words 2)
 
 -- where the schedule holds as many entries as it may
-abbrev pub too_many_schedules : List ℕ
+abbrev pub too_many_schedules : Bytes
 too_many_schedules = codes "too many schedules"
 
 -- The answer to a question with these words: the new entry's id; nothing is said of one that was taken out; and the refusals.
-abbrev pub sched_answer : List (List ℕ) → SchedReply → Answer
+abbrev pub sched_answer : Words → SchedReply → Answer
 sched_answer words (schedule.Id id) = Said (decimal id)
 sched_answer words schedule.Cancelled = Said []
 sched_answer words schedule.NoId = Failed (no_schedule (word_at words 1))
@@ -94,11 +95,11 @@ publish_asked (definitions defs) = Puts (Publish defs)
 publish_asked (reading.no_definition place) = Refused (Failed (no_definition place))
 
 -- the one word is the script of the definitions
-abbrev pub publish_call : List (List ℕ) → Asked
+abbrev pub publish_call : Words → Asked
 publish_call words = publish_asked (scripted (word_at words 0))
 
 -- the one word is the script that is saved
-abbrev pub save_call : List (List ℕ) → BlueCall
+abbrev pub save_call : Words → BlueCall
 save_call words = Save (word_at words 0)
 
 -- what is said of what was done is the new epoch in digits; and the refusals

@@ -1,7 +1,8 @@
 -- When a connection closes, and what counts for it.
-use Rattle.std.specs.Prelude.{ℕ, nat_le, nat_lt, ◌==◌, ◌&&◌, ◌||◌, Bool, List, length, map, bytes_eq, codes, if◌then◌else◌}
+use Rattle.std.specs.Prelude.{ℕ, nat_le, nat_lt, ◌==◌, ◌&&◌, ◌||◌, Bool, length, map, bytes_eq, codes, if◌then◌else◌}
 use Rattle.std.specs.List.{list_any, slice_split}
 use Rattle.std.specs.Char.{to_ascii_lowercase}
+use Rattle.txt_core.specs.Names.{Bytes}
 use Rattle.txt_core.specs.Number.{trimmed}
 use Rattle.outside.specs.declared.question.Answer.{Answer}
 use Rattle.outside.specs.declared.question.Answer.TheVariants.{Said, Failed, Page, NoPage, PageFault}
@@ -17,15 +18,15 @@ is_comma byte = byte == 44
 
 -- An element of a list, without the blanks round it, is `close`, whatever the case of its letters. Round an element RFC 9110 has spaces
 -- and tabs; of the other blanks that are trimmed here, the grammar of heads lets none stand in a value.
-abbrev pub is_close : List ℕ → Bool
+abbrev pub is_close : Bytes → Bool
 is_close element = bytes_eq (map to_ascii_lowercase (trimmed element)) (codes "close")
 
 -- the elements of a field's list stand between its commas (RFC 9110, section 5.6.1); one of them is `close`
-abbrev pub holds_close : List ℕ → Bool
+abbrev pub holds_close : Bytes → Bool
 holds_close value = list_any is_close (slice_split is_comma value)
 
 -- a field that asks for it: Connection (RFC 9110, section 7.6.1)
-abbrev pub is_closing : List ℕ × List ℕ → Bool
+abbrev pub is_closing : Bytes × Bytes → Bool
 is_closing field = is_named (codes "connection") field && holds_close field.1
 
 -- A request asks that its connection close behind it where it is of HTTP/1.0, or where such a field of it does.

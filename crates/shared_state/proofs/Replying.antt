@@ -9,8 +9,8 @@ use Rattle.txt_core.specs.Lists.{Listing, elements, bad_at}
 use Rattle.txt_core.specs.Listing.{listing}
 use Rattle.nsv_bucket.specs.declared.reply.NsvReply.{NsvReply}
 use Rattle.nsv_bucket.specs.declared.reply.NsvReply.TheVariants.{Said, Failed}
-use Rattle.nsv_bucket.specs.declared.question.Question.{Question}
-use Rattle.nsv_bucket.specs.declared.question.Question.TheVariants.{Set, Get, Exists, Incr, Append, Lappend, Unset, Names, ArraySet, ArrayReset, ArrayGet, ArrayNames, ArraySize, ArrayExists}
+use Rattle.nsv_bucket.specs.declared.question.ArrayQuestion.{ArrayQuestion}
+use Rattle.nsv_bucket.specs.declared.question.ArrayQuestion.TheVariants.{Set, Get, Exists, Incr, Append, Lappend, Unset, Names, ArraySet, ArrayReset, ArrayGet, ArrayNames, ArraySize, ArrayExists}
 use Rattle.nsv_bucket.specs.Arrays.{Array, Arrays, array_of, value_of, text_at}
 use Rattle.nsv_bucket.specs.Questions.{word_at, question_of}
 use Rattle.txt_core.specs.Limits.{is_long}
@@ -72,7 +72,7 @@ paired_answers arrays words array (bad_at place) = refused_answers arrays (no_li
 paired_answers arrays words array (elements pairs) =
     by_case (is_even pairs) _ _ (by_case (has_long_value pairs) (too_long arrays) _ refl refl) (refused_answers arrays (bad_pairs (word_at words 3)))
 
-question_answers : (q : Question) (arrays : Arrays) (words : List (List ℕ)) → Answers (question_step q arrays words)
+question_answers : (q : ArrayQuestion) (arrays : Arrays) (words : List (List ℕ)) → Answers (question_step q arrays words)
 question_answers Set arrays words = stored_answers arrays _ _ _
 question_answers Get arrays words = at_key_answers arrays _ _ _ (λ v. answered_answers arrays v)
 question_answers Exists arrays words = answered_answers arrays _
@@ -90,7 +90,7 @@ question_answers ArrayNames arrays words = answered_answers arrays _
 question_answers ArraySize arrays words = answered_answers arrays _
 question_answers ArrayExists arrays words = answered_answers arrays _
 
-by_question : (q : Option Question) (arrays : Arrays) (words : List (List ℕ)) → Answers (step_by q arrays words)
+by_question : (q : Option ArrayQuestion) (arrays : Arrays) (words : List (List ℕ)) → Answers (step_by q arrays words)
 by_question None arrays words = refl
 by_question (Some q) arrays words = question_answers q arrays words
 

@@ -1,5 +1,6 @@
 -- What a clause says of all cells and of their passes, a line for each cell.
-use Rattle.std.specs.Prelude.{◌≡◌, ◌↔◌, ◌≤◌, ℕ, List, [], false}
+use Rattle.std.specs.Prelude.{◌≡◌, ◌↔◌, ◌≤◌, ℕ, [], false}
+use Rattle.txt_core.specs.Names.{Bytes, Names}
 use Rattle.turn_cell.specs.Cells.{pass_view, IsOf}
 use Rattle.turn_cell.specs.Members.{Has}
 use Rattle.turn_cell.specs.Passes.{WHOLE, fresh, joined}
@@ -23,16 +24,16 @@ AreOf shared passes =
     × IsOf shared.schedule passes.schedule
 
 -- each name of the one list is among the other's, and the other way round
-abbrev pub HaveSameNames : List (List ℕ) → List (List ℕ) → Type 0
-HaveSameNames names others = (name : List ℕ) → Has names name ↔ Has others name
+abbrev pub HaveSameNames : Names → Names → Type 0
+HaveSameNames names others = (name : Bytes) → Has names name ↔ Has others name
 
 -- The blueprint is one on natives of exactly these names, in whatever order: those with which the cells were made, since no turn changes
 -- them.
-abbrev pub KnowNames : List (List ℕ) → Passes → Type 0
+abbrev pub KnowNames : Names → Passes → Type 0
 KnowNames names passes = HaveSameNames names (pass_view passes.blueprint).low.natives
 
 -- both: what each call on the cells asks for beside its natives
-abbrev pub Serve : List (List ℕ) → Shared → Passes → Type 0
+abbrev pub Serve : Names → Shared → Passes → Type 0
 Serve names shared passes = AreOf shared passes × KnowNames names passes
 
 -- each pass has at least so many units
@@ -62,7 +63,7 @@ AreWhole passes = HaveJust WHOLE passes
 
 -- Each pass has the whole share, and knows of no turn: nothing was published, with natives of these names; no array is there; and
 -- nothing is scheduled.
-abbrev pub AreOpening : List (List ℕ) → Passes → Type 0
+abbrev pub AreOpening : Names → Passes → Type 0
 AreOpening names passes =
     (pass_view passes.blueprint ≡ fresh WHOLE 0 (blueprints.fresh names) (blueprints.fresh names))
     × arrays.AreOpening passes.nsv

@@ -1,5 +1,6 @@
 -- The shared arrays as one thread has them: what the turns of a bucket, taken together, answer.
-use Rattle.std.specs.Prelude.{◌≡◌, ℕ, ◌+◌, List, [], ◌∷◌, map, filter, Bool, true, false, not}
+use Rattle.std.specs.Prelude.{◌≡◌, ◌+◌, List, [], ◌∷◌, map, filter, Bool, true, false, not}
+use Rattle.txt_core.specs.Names.{Words}
 use Rattle.turn_cell.specs.declared.view.Entry.{Entry}
 use Rattle.turn_cell.specs.declared.view.View.{View}
 use Rattle.turn_cell.specs.Members.{Has}
@@ -11,7 +12,7 @@ use Rattle.nsv_bucket.specs.Arrays.{Arrays}
 use Rattle.nsv_bucket.specs.Steps.{Steps, array_step}
 
 abbrev pub BucketEntry : Type 0
-BucketEntry = Entry Arrays (List (List ℕ)) NsvReply
+BucketEntry = Entry Arrays Words NsvReply
 
 -- the bucket met want of memory in this turn, which leaves it as it was
 abbrev pub is_wanting : NsvReply → Bool
@@ -24,12 +25,12 @@ abbrev pub answered : List BucketEntry → List BucketEntry
 answered turns = filter (λ e. not (is_wanting e.reply)) turns
 
 -- what one thread is replied that puts these words to arrays one after the other
-abbrev pub replies_of : Arrays → List (List (List ℕ)) → List NsvReply
+abbrev pub replies_of : Arrays → List Words → List NsvReply
 replies_of arrays [] = []
 replies_of arrays (words ∷ more) = (array_step arrays words).0 ∷ replies_of (array_step arrays words).1 more
 
 -- and the arrays after them
-abbrev pub arrays_after : Arrays → List (List (List ℕ)) → Arrays
+abbrev pub arrays_after : Arrays → List Words → Arrays
 arrays_after arrays [] = arrays
 arrays_after arrays (words ∷ more) = arrays_after (array_step arrays words).1 more
 
@@ -45,7 +46,7 @@ HistoriesAreLines =
 -- the arrays as the first left them.
 abbrev pub NeighboursAreLines : Type 0
 NeighboursAreLines =
-    (v : View Arrays (List (List ℕ)) NsvReply) → IsInOrder v
+    (v : View Arrays Words NsvReply) → IsInOrder v
     → (e f : BucketEntry) → Has v.own e → Has v.own f → f.place ≡ e.place + 1
     → Steps f.before f.call f.reply f.after → is_wanting f.reply ≡ false
     → (f.reply ≡ (array_step e.after f.call).0) × (f.after ≡ (array_step e.after f.call).1)

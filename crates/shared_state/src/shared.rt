@@ -1,6 +1,7 @@
 //! The cells, their passes, and the calls on all of them.
 
-ghost use Rattle.std.specs.Prelude.{◌≡◌, ◌≤◌, ℕ, List, IfOk, IsOk};
+ghost use Rattle.std.specs.Prelude.{◌≡◌, ◌≤◌, IfOk, IsOk};
+ghost use Rattle.txt_core.specs.Names.{Names};
 ghost use Rattle.turn_cell.specs.Cells.{IsOf, pass_view};
 ghost use Rattle.nsv_shared.specs.Cells as arrays;
 ghost use Rattle.natives.specs.Names.{names_of};
@@ -51,14 +52,18 @@ fn blueprint_cell(
     alloc: Global,
     natives: &Natives,
 ) -> Result<(TurnCell<Blueprint>, Pass<Blueprint>), NoMemory>
-    ensures { IfOk result (λ r. IsOf r.0 r.1 × (pass_view r.1 ≡ fresh WHOLE 0 (blueprint_of (names_of natives.now)) (blueprint_of (names_of natives.now)))) }
+    ensures { IfOk result (λ r.
+        IsOf r.0 r.1
+        × (pass_view r.1
+        ≡ fresh WHOLE 0 (blueprint_of (names_of natives.now)) (blueprint_of (names_of natives.now)))) }
 {
     TurnCell::new(alloc, Blueprint::new(alloc, natives)?)
 }
 
 /// The cell of a schedule without entries, and its first pass.
 fn schedule_cell(alloc: Global) -> Result<(TurnCell<Schedule>, Pass<Schedule>), NoMemory>
-    ensures { IfOk result (λ r. IsOf r.0 r.1 × (pass_view r.1 ≡ fresh WHOLE 0 no_schedule no_schedule)) }
+    ensures { IfOk result (λ r.
+        IsOf r.0 r.1 × (pass_view r.1 ≡ fresh WHOLE 0 no_schedule no_schedule)) }
 {
     TurnCell::new(alloc, empty_schedule(alloc))
 }
@@ -142,7 +147,8 @@ impl Shared {
         ensures cells { AreOf self.now passes.new }
         ensures left { Leave passes.old passes.new }
         ensures right { IfOk result (λ parts. AreOf self.now parts × ArePartsOf passes.old parts) }
-        ensures names { (names : List (List ℕ)) → KnowNames names passes.old → KnowNames names passes.new × IfOk result (KnowNames names) }
+        ensures names { (names : Names) → KnowNames names passes.old
+            → KnowNames names passes.new × IfOk result (KnowNames names) }
     {
         Ok(Passes {
             blueprint: one_part(&self.blueprint, &mut passes.blueprint),
@@ -159,7 +165,8 @@ impl Shared {
         ensures cells { AreOf self.now passes.new }
         ensures both { Join passes.old other passes.new }
         ensures order { AreInOrder passes.new }
-        ensures names { (names : List (List ℕ)) → KnowNames names passes.old → KnowNames names other → KnowNames names passes.new }
+        ensures names { (names : Names) → KnowNames names passes.old
+            → KnowNames names other → KnowNames names passes.new }
     {
         let Passes {
             blueprint,

@@ -2,6 +2,7 @@
 use Rattle.std.proofs.Common.{◌≡◌, ◌≢◌, ◌≤◌, ℕ, suc, ◌+◌, ◌-◌, List, [], ◌∷◌, ◌++◌, length, drop, Option, Some, None, Result, Ok, Err, ◌<◌, Bool, true, false, cond, nat_lt, refl, sym, ap, ◌∙◌, arith}
 use Rattle.std.specs.Prelude.{◌==◌, if◌then◌else◌}
 use Rattle.std.proofs.lemmas.Bool.{lt-ltb, le-ltb, ltb-true, ltb-false}
+use Rattle.txt_core.specs.Names.{Names}
 use Rattle.outside.specs.declared.question.Answer.{Answer}
 use Rattle.outside.specs.declared.question.Question.{Question}
 use Rattle.tcl_parse.specs.declared.tree.Script as code_script
@@ -20,7 +21,6 @@ use Rattle.tcl_frame.specs.Stack.{Stack}
 use Rattle.tcl_frame.specs.Frames.{pushed as pushed_frame}
 use Rattle.tcl_varcmd.specs.Answers.{Came, gives as gives_text, fails as fails_with, IsAnswer}
 use Rattle.natives.specs.declared.fault.Fault.TheVariants as faults
-use Rattle.tcl_eval.specs.Natives.{Names}
 use Rattle.tcl_eval.specs.State.{State, LeafTable, Leaf, says, wants, defines, stores, not_mine, Onward, goes, enters, Given, Out, spent, Next}
 use Rattle.tcl_eval.specs.Messages.{unknown_command, no_command, command_exists}
 use Rattle.tcl_eval.specs.Parameters.{Values, bound}

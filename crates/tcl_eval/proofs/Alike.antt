@@ -3,6 +3,7 @@ use Rattle.std.proofs.Common.{◌≡◌, ◌≤◌, ◌==◌, ◌%◌, ◌/◌, 
 use Rattle.std.specs.Prelude.{codes, decimal, bytes_eq, ◌||◌}
 use Rattle.std.specs.Int.{div_ceil}
 use Rattle.std.proofs.lemmas.Bool.{lt-ltb}
+use Rattle.txt_core.specs.Names.{Names}
 use Rattle.txt_core.specs.Lists.{Listing, elements, bad_at}
 use Rattle.txt_core.specs.Listing as lists
 use Rattle.txt_core.specs.Truth.{truth}
@@ -41,13 +42,13 @@ use Rattle.tcl_eval.specs.declared.stack.Ended.{Ended}
 use Rattle.tcl_eval.specs.declared.verb.Verb.{Verb}
 use Rattle.tcl_eval.specs.declared.verb.Verb.TheVariants as verb
 use Rattle.natives.specs.Names.{has_name}
-use Rattle.tcl_eval.specs.Natives.{Names, is_in_range, replied, call_native}
+use Rattle.tcl_eval.specs.Natives.{is_in_range, replied, call_native}
 use Rattle.tcl_eval.specs.State.{State, Leaf, says, wants, defines, stores, not_mine, Onward, goes, enters, TextEnd, LeafTable, Given, Out, spent, Rest, Next}
-use Rattle.tcl_eval.specs.Messages.{fault_text, variable_fault, too_long, no_boolean, bad_expression, no_list, bad_value, unknown_command, no_command, command_exists}
+use Rattle.tcl_eval.specs.Messages.{script_fault, variable_fault, too_long, no_boolean, bad_expression, no_list, bad_value, unknown_command, no_command, command_exists}
 use Rattle.tcl_eval.specs.Results.{most_bytes, bytes_for_one, error_of, wrong_words, element_name, read_as, stored, stored_of, command_cost, answer_cost, return_of, raised_of, break_of, continue_of}
 use Rattle.tcl_eval.specs.Parameters.{Values, parameters, bound}
 use Rattle.tcl_eval.specs.Words.{arg, joined}
-use Rattle.tcl_eval.specs.Going.{Source, unread, read, Inner, on_ok, pay, give, fails, limited, charged, command_end, word_end, with_host, with_frames, listing, with_def, read_variable, write_variable, proc_end, write_all, decided, by_truth}
+use Rattle.tcl_eval.specs.Going.{Source, unread, read, Inner, on_ok, pay, give, fails, limited, charged, command_end, word_end, with_host, with_frames, with_made, with_def, read_variable, write_variable, proc_end, write_all, decided, by_truth}
 use Rattle.tcl_eval.specs.Pieces.{run_part, run_parts}
 use Rattle.tcl_eval.specs.Commands.{rename_of, proc_of, call_bound, define_proc, do_proc, renamed_as, do_rename, do_eval, catch_end, do_catch, came_next}
 use Rattle.tcl_eval.specs.Expressions.{with_one, with_two, way_of, behind_left, run_expression, run_answer, evaluate, test, value_end, do_expr}
@@ -397,7 +398,7 @@ module _ {H : Type 0} (t : LeafTable H) (inner : Inner H) (run : Runs inner) whe
   -- ---- the host's commands
 
   set_or_fails_alike : (why : Option VarFault) (name value : List ℕ) (m : ℕ) (k k' : Next H) → After m k k' → Alike m (set_or_fails why name value k) (set_or_fails why name value k')
-  set_or_fails_alike None name value m k k' h s b g le = h 0 value (listing (with_frames s (globally_written s.frames name value)) (defs.Set name value)) b g le
+  set_or_fails_alike None name value m k k' h s b g le = h 0 value (with_made (with_frames s (globally_written s.frames name value)) (defs.Set name value)) b g le
   set_or_fails_alike (Some why) name value m k k' h s b g le = fails_alike (variable_fault why name) m k k' h s b g le
 
   set_global_alike : (name value : List ℕ) (m : ℕ) (k k' : Next H) → After m k k' → Alike m (set_global name value k) (set_global name value k')
@@ -406,11 +407,11 @@ module _ {H : Type 0} (t : LeafTable H) (inner : Inner H) (run : Runs inner) whe
       (λ s b g le. set_or_fails_alike (global_fault s.frames name) name value m k k' h s b g le)
 
   make_alike : (def : Def) (m : ℕ) (k k' : Next H) → After m k k' → Alike m (make def k) (make def k')
-  make_alike (defs.Proc name params body) m k k' h s b g le = h 0 [] (listing s (defs.Proc name params body)) b g le
-  make_alike (defs.Rename old new) m k k' h s b g le = h 0 [] (listing s (defs.Rename old new)) b g le
-  make_alike (defs.Route method url inherit words) m k k' h s b g le = h 0 [] (listing s (defs.Route method url inherit words)) b g le
-  make_alike (defs.Filter when method pattern words) m k k' h s b g le = h 0 [] (listing s (defs.Filter when method pattern words)) b g le
-  make_alike (defs.Cleanup script) m k k' h s b g le = h 0 [] (listing s (defs.Cleanup script)) b g le
+  make_alike (defs.Proc name params body) m k k' h s b g le = h 0 [] (with_made s (defs.Proc name params body)) b g le
+  make_alike (defs.Rename old new) m k k' h s b g le = h 0 [] (with_made s (defs.Rename old new)) b g le
+  make_alike (defs.Route method url inherit words) m k k' h s b g le = h 0 [] (with_made s (defs.Route method url inherit words)) b g le
+  make_alike (defs.Filter when method pattern words) m k k' h s b g le = h 0 [] (with_made s (defs.Filter when method pattern words)) b g le
+  make_alike (defs.Cleanup script) m k k' h s b g le = h 0 [] (with_made s (defs.Cleanup script)) b g le
   make_alike (defs.Set name value) m k k' h s b g le = set_global_alike name value m k k' h s b g le
 
   define_alike : (def : Def) (words : List (List ℕ)) (m : ℕ) (k k' : Next H) → After m k k' → Alike m (define def words k) (define def words k')
@@ -490,7 +491,7 @@ module _ {H : Type 0} (ns : Names) (t : LeafTable H) (inner : Inner H) (run : Ru
 
   run_reading_alike : (bytes : List ℕ) (found : parsed.Outcome Script) (m : ℕ) (k k' : Next H) → After m k k' → Alike m (run_reading ns t inner bytes found k) (run_reading ns t inner bytes found k')
   run_reading_alike bytes (parsed.done script rest) m k k' h = run_commands_alike (tree.commands script) [] m k k' h
-  run_reading_alike bytes (parsed.fault kind left) m k k' h = fails_alike (fault_text kind (length bytes - left)) m k k' h
+  run_reading_alike bytes (parsed.fault kind left) m k k' h = fails_alike (script_fault kind (length bytes - left)) m k k' h
 
 module _ {H : Type 0} (ns : Names) (t : LeafTable H) where
   pub run_script_alike : (levels : ℕ) (source : Source) (m : ℕ) (k k' : Next H) → After m k k' → Alike m (run_script ns t levels source k) (run_script ns t levels source k')

@@ -1,13 +1,13 @@
 -- What an expression comes to at once is what the evaluation gives, whatever waits for it.
 use Rattle.std.proofs.Common.{◌≡◌, ℕ, zero, suc, List, [], ◌++◌, length, Bool, true, false, Option, None, Some, cond, refl, sym, ap, ◌∙◌}
 use Rattle.std.specs.Prelude.{codes}
+use Rattle.txt_core.specs.Names.{Names}
 use Rattle.txt_core.specs.Truth.{truth}
 use Rattle.tcl_parse.specs.Tree.{text, variable, element, bracket, Parts, no_parts, part, parts}
 use Rattle.tcl_expr.specs.Trees as trees
 use Rattle.tcl_expr.specs.Trees.{Tree}
 use Rattle.tcl_expr.specs.declared.operator.Op.{Op}
 use Rattle.tcl_frame.specs.Stack.{Stack}
-use Rattle.tcl_eval.specs.Natives.{Names}
 use Rattle.tcl_eval.specs.State.{State, LeafTable, Given, Rest, Next}
 use Rattle.tcl_eval.specs.Messages.{no_boolean}
 use Rattle.tcl_eval.specs.Results.{ended, error_of, read_as}

@@ -3,7 +3,7 @@ use Rattle.std.proofs.Common.{◌≡◌, ℕ, zero, suc, ◌+◌, ◌<◌, ◌�
 use Rattle.std.proofs.lemmas.Bool.{ltb-true, ltb-false}
 use Rattle.std.proofs.lemmas.List.{drop_more, drop_all}
 use Rattle.std.proofs.lemmas.Option.{get_or_from_slice_get, slice_get_within}
-use Rattle.tcl_eval.specs.Natives.{Names}
+use Rattle.txt_core.specs.Names.{Names}
 use Rattle.tcl_eval.specs.State.{State, LeafTable, Given, Out, Next}
 use Rattle.tcl_eval.specs.Eval.{Inner, nested, unread, on_ok, by_truth}
 use Rattle.tcl_eval.specs.Expressions.{evaluate}

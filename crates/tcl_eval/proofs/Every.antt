@@ -4,6 +4,7 @@ use Rattle.std.specs.Prelude.{codes, decimal, bytes_eq, ◌||◌}
 use Rattle.std.specs.List.{AllByRecursion}
 use Rattle.std.specs.Int.{div_ceil}
 use Rattle.std.proofs.lemmas.Bool.{ltb-false}
+use Rattle.txt_core.specs.Names.{Names}
 use Rattle.txt_core.specs.Lists.{Listing, elements, bad_at}
 use Rattle.txt_core.specs.Listing as lists
 use Rattle.txt_core.specs.Truth.{truth}
@@ -54,13 +55,13 @@ use Rattle.tcl_eval.specs.declared.verb.Verb.TheVariants as verb
 use Rattle.tcl_eval.specs.declared.outcome.Work.{Work}
 use Rattle.tcl_eval.specs.declared.outcome.Work.TheVariants as work
 use Rattle.natives.specs.Names.{has_name}
-use Rattle.tcl_eval.specs.Natives.{Names, is_in_range, replied, call_native}
+use Rattle.tcl_eval.specs.Natives.{is_in_range, replied, call_native}
 use Rattle.tcl_eval.specs.State.{State, TextEnd, LeafTable, Given, Out, done, spent, too_deep, Rest, Next}
-use Rattle.tcl_eval.specs.Messages.{fault_text, too_long, no_boolean, bad_expression, no_list, bad_value, unknown_command, variable_fault, no_command, command_exists}
+use Rattle.tcl_eval.specs.Messages.{script_fault, too_long, no_boolean, bad_expression, no_list, bad_value, unknown_command, variable_fault, no_command, command_exists}
 use Rattle.tcl_eval.specs.Results.{most_bytes, most_levels, bytes_for_one, error_of, wrong_words, element_name, returned, read_as, stored, stored_of, return_of, raised_of, break_of, continue_of}
 use Rattle.tcl_eval.specs.Parameters.{Values, parameters, bound}
 use Rattle.tcl_eval.specs.Words.{arg, joined}
-use Rattle.tcl_eval.specs.Going.{Source, unread, read, Inner, on_ok, pay, give, fails, limited, charged, command_end, word_end, with_host, with_frames, listing, with_def, read_variable, write_variable, proc_end, write_all, decided, by_truth}
+use Rattle.tcl_eval.specs.Going.{Source, unread, read, Inner, on_ok, pay, give, fails, limited, charged, command_end, word_end, with_host, with_frames, with_made, with_def, read_variable, write_variable, proc_end, write_all, decided, by_truth}
 use Rattle.tcl_eval.specs.Pieces.{run_part, run_parts}
 use Rattle.tcl_eval.specs.Commands.{rename_of, proc_of, call_bound, define_proc, do_proc, renamed_as, do_rename, do_eval, catch_end, do_catch, came_next}
 use Rattle.tcl_eval.specs.Expressions.{with_one, with_two, way_of, behind_left, run_expression, run_answer, evaluate, test, value_end, do_expr}
@@ -465,13 +466,13 @@ module _ {H : Type 0} (P Q : State H → ℕ → Given → Out H → Type 0) (Sh
 
   -- a definition that is listed as made
   abbrev pub Lists : Def → Type 0
-  Lists def = (s : State H) (b : ℕ) (g : Given) (x : Out H) → P (listing s def) b g x → P s b g x
+  Lists def = (s : State H) (b : ℕ) (g : Given) (x : Out H) → P (with_made s def) b g x → P s b g x
 
   set_or_fails_good : (why : Option VarFault) (name value : List ℕ) → Lists (defs.Set name value) → (k : Next H) → GoodNext k → Good (set_or_fails why name value k)
   set_or_fails_good None name value put k h s b g =
       let moved : State H = with_frames s (globally_written s.frames name value) in
-      let x : Out H = k 0 value (listing moved (defs.Set name value)) b g in
-      c.moves s moved b g x refl (put moved b g x (h 0 value (listing moved (defs.Set name value)) b g))
+      let x : Out H = k 0 value (with_made moved (defs.Set name value)) b g in
+      c.moves s moved b g x refl (put moved b g x (h 0 value (with_made moved (defs.Set name value)) b g))
   set_or_fails_good (Some why) name value put k h s b g = fails_good (variable_fault why name) k h s b g
 
   set_global_good : (name value : List ℕ) → Lists (defs.Set name value) → (k : Next H) → GoodNext k → Good (set_global name value k)
@@ -479,8 +480,8 @@ module _ {H : Type 0} (P Q : State H → ℕ → Given → Out H → Type 0) (Sh
       choice (nat_lt most_bytes (length value)) (k 1 too_long) _ (h 1 too_long)
       (λ s b g. set_or_fails_good (global_fault s.frames name) name value put k h s b g)
 
-  listed_good : (def : Def) → Lists def → (k : Next H) → GoodNext k → Good (λ s. k 0 [] (listing s def))
-  listed_good def put k h s b g = put s b g (k 0 [] (listing s def) b g) (h 0 [] (listing s def) b g)
+  listed_good : (def : Def) → Lists def → (k : Next H) → GoodNext k → Good (λ s. k 0 [] (with_made s def))
+  listed_good def put k h s b g = put s b g (k 0 [] (with_made s def) b g) (h 0 [] (with_made s def) b g)
 
   make_good : (def : Def) → Lists def → (k : Next H) → GoodNext k → Good (make def k)
   make_good (defs.Proc name params body) put k h = listed_good (defs.Proc name params body) put k h
@@ -556,7 +557,7 @@ module _ {H : Type 0} (P Q : State H → ℕ → Given → Out H → Type 0) (Sh
 
   run_reading_good : LeafRule → (ns : Names) (inner : Inner H) → Runs inner → (bytes : List ℕ) (found : parsed.Outcome Script) (k : Next H) → GoodNext k → Good (run_reading ns t inner bytes found k)
   run_reading_good rule ns inner run bytes (parsed.done script rest) k h = run_commands_good rule ns inner run (tree.commands script) [] k h
-  run_reading_good rule ns inner run bytes (parsed.fault kind left) k h = fails_good (fault_text kind (length bytes - left)) k h
+  run_reading_good rule ns inner run bytes (parsed.fault kind left) k h = fails_good (script_fault kind (length bytes - left)) k h
 
   run_script_good : LeafRule → (ns : Names) (levels : ℕ) (source : Source) (k : Next H) → GoodNext k → Good (run_script ns t levels source k)
   run_script_good rule ns zero source k h = λ s b g. c.sinks s b g

@@ -1,6 +1,7 @@
 -- What expressions come to.
 use Rattle.std.proofs.Common.{◌≡◌, ◌≤◌, ℕ, ◌+◌, ◌-◌, List, [], ◌∷◌, ◌++◌, length, drop, Bool, Option, Err, cond, sym, ap, ◌∙◌, arith}
 use Rattle.std.proofs.lemmas.Bool.{le-ltb}
+use Rattle.txt_core.specs.Names.{Names}
 use Rattle.txt_core.specs.Truth.{truth}
 use Rattle.tcl_expr.specs.Trees.{Tree}
 use Rattle.tcl_expr.specs.Outcome.{Answer, tree, bad_from}
@@ -12,7 +13,6 @@ use Rattle.tcl_expr.specs.declared.operator.Op.{Op}
 use Rattle.tcl_expr.specs.Grammar.{Reads}
 use Rattle.tcl_expr.specs.declared.expr.Expr.{Expr}
 use Rattle.tcl_expr.specs.View.{tree_of}
-use Rattle.tcl_eval.specs.Natives.{Names}
 use Rattle.tcl_eval.specs.State.{State, LeafTable, Given, Out, spent, Rest, Next}
 use Rattle.tcl_parse.specs.Tree.{Parts}
 use Rattle.tcl_eval.specs.Messages.{bad_expression}

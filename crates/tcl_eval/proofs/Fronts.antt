@@ -2,10 +2,10 @@
 use Rattle.std.proofs.Common.{◌≡◌, ◌≤◌, ℕ, ◌+◌, ◌-◌, List, [], ◌∷◌, ◌++◌, drop, Option, Result, Ok, Err, nat_lt, sym, subst, arith}
 use Rattle.std.specs.Prelude.{OnErr}
 use Rattle.std.proofs.lemmas.List.Sums.{sum_by-append}
+use Rattle.txt_core.specs.Names.{Names}
 use Rattle.outside.specs.declared.question.Question.{Question}
 use Rattle.cmd_table.specs.Commands.{writes, Writes}
 use Rattle.cmd_table.specs.declared.definition.Def.{Def}
-use Rattle.tcl_eval.specs.Natives.{Names}
 use Rattle.tcl_eval.specs.State.{State, Onward, LeafTable, Given, Out, spent, Rest, Next}
 use Rattle.tcl_eval.specs.Results.{answer_cost}
 use Rattle.tcl_eval.specs.Going.{Inner}

@@ -2,11 +2,11 @@
 use Rattle.std.proofs.Common.{◌≡◌, ◌≢◌, ◌≤◌, ◌⊎◌, inl, inr, ℕ, ◌+◌, List, [], ◌∷◌, ◌++◌, drop, length, min, Bool, true, false, cond, Some, None, slice_get, refl, sym, ap, ◌∙◌, arith}
 use Rattle.std.specs.Prelude.{◌==◌, ◌||◌}
 use Rattle.std.proofs.lemmas.Bool.{eq-eqb, ne_eqb}
+use Rattle.txt_core.specs.Names.{Names}
 use Rattle.adp_parse.specs.declared.piece.Piece.{Piece}
 use Rattle.adp_parse.specs.declared.piece.Pieces.{Pieces}
 use Rattle.tcl_frame.specs.Stack.{Stack}
 use Rattle.tcl_frame.specs.Frames.{pushed as pushed_frame}
-use Rattle.tcl_eval.specs.Natives.{Names}
 use Rattle.tcl_eval.specs.State.{State, LeafTable, Given, Out, Rest, Next}
 use Rattle.tcl_eval.specs.Eval.{Inner, ended, give, nested, with_host, with_frames}
 use Rattle.tcl_eval.specs.Pages.{told, page_end, piece_end, run_piece, run_pieces, run_page}

@@ -1,11 +1,11 @@
 -- A word for which nothing is run comes to what the evaluation says.
 use Rattle.std.proofs.Common.{◌≡◌, ◌≢◌, ◌<◌, ℕ, zero, suc, ◌+◌, List, [], ◌∷◌, ◌++◌, length, length-append, map, drop, get_or, Bool, true, false, cond, nat_lt, Option, Some, None, refl, sym, ap, ◌∙◌, subst, arith}
 use Rattle.std.proofs.lemmas.List.{drop_more}
+use Rattle.txt_core.specs.Names.{Names}
 use Rattle.tcl_parse.specs.Tree.{Part, text, variable, element, bracket, Parts, no_parts, part, Words, word, parts}
 use Rattle.tcl_parse.specs.View.{part_of}
 use Rattle.tcl_parse.specs.declared.tree.Piece.{Piece}
 use Rattle.tcl_frame.specs.Stack.{Stack}
-use Rattle.tcl_eval.specs.Natives.{Names}
 use Rattle.tcl_eval.specs.State.{State, LeafTable, Given, Out, Rest, Next}
 use Rattle.tcl_eval.specs.Messages.{too_long}
 use Rattle.tcl_eval.specs.Results.{most_bytes, ended, read_as}

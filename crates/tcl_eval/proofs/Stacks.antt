@@ -1,6 +1,6 @@
 -- A stack with one frame more.
 use Rattle.std.proofs.Common.{◌≡◌, ℕ, ◌+◌, List, [], ◌∷◌, ◌++◌, refl, sym, ap, ◌∙◌, arith}
-use Rattle.tcl_eval.specs.Natives.{Names}
+use Rattle.txt_core.specs.Names.{Names}
 use Rattle.tcl_eval.specs.State.{State, LeafTable, Given, Out, Next, done}
 use Rattle.tcl_eval.specs.Stack.{frame_next, above, stack_next, frame_weight, stack_weight, frame_free, stack_free}
 use Rattle.tcl_eval.specs.declared.stack.Frame.{Frame}

@@ -1,8 +1,8 @@
 -- What a stack means after a step.
 use Rattle.std.proofs.Common.{◌≡◌, ◌≢◌, ℕ, zero, suc, ◌+◌, List, [], ◌∷◌, ◌++◌, length, refl, sym, ap, ◌∙◌, length-append}
+use Rattle.txt_core.specs.Names.{Names}
 use Rattle.tcl_parse.specs.Tree.{Part, text, variable, element, bracket, Parts, no_parts, part, Words, no_words, word, Commands, command as one_command}
 use Rattle.tcl_parse.specs.declared.tree.Script as code_script
-use Rattle.tcl_eval.specs.Natives.{Names}
 use Rattle.tcl_eval.specs.State.{State, LeafTable, Given, Out, Rest, Next}
 use Rattle.tcl_eval.specs.Eval.{Inner, Source, read, ended, give, on_ok, word_end, read_variable, element_name, run_part, run_parts, command, run_words, run_commands, run_script, nested}
 use Rattle.tcl_eval.specs.Kept.{kept_value, judged, grown, run_kept, run_costly}

@@ -3,9 +3,9 @@ use Rattle.std.proofs.Common.{◌≡◌, ◌≢◌, ℕ, zero, suc, ◌+◌, ◌
 use Rattle.std.proofs.lemmas.List.{drop-drop}
 use Rattle.std.specs.Int.{div_ceil}
 use Rattle.std.proofs.lemmas.Bool.{le-ltb, eq-eqb}
+use Rattle.txt_core.specs.Names.{Names}
 use Rattle.txt_core.specs.Lists.{Listing, elements, bad_at}
 use Rattle.txt_core.specs.Listing.{listing}
-use Rattle.tcl_eval.specs.Natives.{Names}
 use Rattle.tcl_eval.specs.State.{State, LeafTable, Given, Out, Rest, Next, spent}
 use Rattle.tcl_eval.specs.Parameters.{Values}
 use Rattle.tcl_eval.specs.Eval.{Inner, unread, nested, on_ok, by_truth, give, write_all, wrong_words, arg, fails}

@@ -1,12 +1,14 @@
 -- What expressions come to that can't be suspended: those that have neither a bracket nor an element of an array. The variables
 -- decide it alone, and nothing is known of any other expression here.
-use Rattle.std.specs.Prelude.{◌≡◌, ℕ, zero, suc, List, [], codes, Bool, true, false, Option, None, Some, Result, Ok, Err}
+use Rattle.std.specs.Prelude.{◌≡◌, ℕ, zero, suc, [], codes, Bool, true, false, Option, None, Some, Result, Ok, Err}
+use Rattle.txt_core.specs.Names.{Bytes}
 use Rattle.txt_core.specs.Truth.{truth}
 use Rattle.tcl_parse.specs.Tree.{text, variable, element, bracket, Parts, no_parts, part, parts}
 use Rattle.tcl_expr.specs.Trees as trees
 use Rattle.tcl_expr.specs.Trees.{Tree}
 use Rattle.tcl_expr.specs.declared.operator.Op.{Op}
 use Rattle.tcl_frame.specs.Stack.{Stack}
+use Rattle.tcl_host.specs.Codes as code_of
 use Rattle.tcl_eval.specs.Messages.{no_boolean}
 use Rattle.tcl_eval.specs.Results.{ended, error_of, read_as}
 use Rattle.tcl_eval.specs.Expressions.{way_of, with_one, with_two}
@@ -18,16 +20,16 @@ use Rattle.tcl_eval.specs.declared.operation.Way.{Way}
 use Rattle.tcl_eval.specs.declared.operation.Way.TheVariants.{Both, IfTrue, IfFalse}
 
 -- goes on behind code 0; any other code is what all comes to
-abbrev pub on_code : ℕ → List ℕ → (List ℕ → Option Ended) → Option Ended
+abbrev pub on_code : ℕ → Bytes → (Bytes → Option Ended) → Option Ended
 on_code zero result go = go result
 on_code (suc code) result go = Some (ended (suc code) result)
 
-abbrev pub on_value : Option Ended → (List ℕ → Option Ended) → Option Ended
+abbrev pub on_value : Option Ended → (Bytes → Option Ended) → Option Ended
 on_value None go = None
 on_value (Some value) go = on_code value.code value.result go
 
 -- goes on by the truth of a value, which must have one
-abbrev pub on_truth : Option Bool → List ℕ → Option Ended → Option Ended → Option Ended
+abbrev pub on_truth : Option Bool → Bytes → Option Ended → Option Ended → Option Ended
 on_truth None value when_true when_false = Some (error_of (no_boolean value))
 on_truth (Some true) value when_true when_false = when_true
 on_truth (Some false) value when_true when_false = when_false
@@ -50,17 +52,17 @@ IsPassed value so_far (Ok after) = (value.code ≡ 0) × (after ≡ grown so_far
 IsPassed value so_far (Err failed) = (failed ≡ value) × ((value.code ≡ 0) → ⊥)
 
 -- an operator whose left operand has this value, and whose right one comes to this
-abbrev pub right_at_once : Op → List ℕ → Option Ended → Option Ended
+abbrev pub right_at_once : Op → Bytes → Option Ended → Option Ended
 right_at_once op left right = on_value right (λ value. Some (with_two op left value))
 
 -- the same, where the left operand may decide
-abbrev pub left_at_once : Way → Op → List ℕ → Option Ended → Option Ended
+abbrev pub left_at_once : Way → Op → Bytes → Option Ended → Option Ended
 left_at_once Both op left right = right_at_once op left right
-left_at_once IfTrue op left right = on_truth (truth left) left (right_at_once op left right) (Some (ended 0 (codes "0")))
-left_at_once IfFalse op left right = on_truth (truth left) left (Some (ended 0 (codes "1"))) (right_at_once op left right)
+left_at_once IfTrue op left right = on_truth (truth left) left (right_at_once op left right) (Some (ended code_of.ok (codes "0")))
+left_at_once IfFalse op left right = on_truth (truth left) left (Some (ended code_of.ok (codes "1"))) (right_at_once op left right)
 
 abbrev pub at_once : Stack → Tree → Option Ended
-at_once frames (trees.value bytes) = Some (ended 0 bytes)
+at_once frames (trees.value bytes) = Some (ended code_of.ok bytes)
 at_once frames (trees.word word) = word_at_once frames (parts word)
 at_once frames (trees.unary op x) = on_value (at_once frames x) (λ operand. Some (with_one op operand))
 at_once frames (trees.binary op x y) = on_value (at_once frames x) (λ left. left_at_once (way_of op) op left (at_once frames y))

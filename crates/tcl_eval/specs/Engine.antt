@@ -1,5 +1,6 @@
 -- What an engine stands for.
-use Rattle.std.specs.Prelude.{◌≡◌, ◌<◌, ◌≤◌, ◌⊎◌, ℕ, ◌+◌, ◌*◌, ◌-◌, Bool, true, false, ◌++◌, List, [], ◌∷◌, Option, Some, None}
+use Rattle.std.specs.Prelude.{◌≡◌, ◌<◌, ◌≤◌, ◌⊎◌, ℕ, ◌+◌, ◌*◌, ◌-◌, Bool, true, false, ◌++◌, [], ◌∷◌, Option, Some, None}
+use Rattle.txt_core.specs.Names.{Words, Names}
 use Rattle.outside.specs.declared.question.Answer.{Answer}
 use Rattle.outside.specs.declared.question.Question.{Question}
 use Rattle.outside.specs.declared.question.Service.{Service}
@@ -11,12 +12,11 @@ use Rattle.cmd_table.specs.declared.definition.Def.{Def}
 use Rattle.cmd_table.specs.declared.definition.Def.TheVariants as defs
 use Rattle.tcl_frame.specs.Stack.{Stack}
 use Rattle.tcl_frame.specs.Base.{IsAtBase, kept}
-use Rattle.tcl_eval.specs.Natives.{Names}
 use Rattle.tcl_eval.specs.Stack.{stack_next, stack_free, step_free}
 use Rattle.tcl_eval.specs.declared.engine.Engine.{Engine}
 use Rattle.tcl_eval.specs.declared.engine.OpenQuestion.{OpenQuestion}
-use Rattle.tcl_eval.specs.declared.stack.Settled.{Settled}
-use Rattle.tcl_eval.specs.declared.stack.Settled.TheVariants as settled
+use Rattle.tcl_eval.specs.declared.stack.AtRest.{AtRest}
+use Rattle.tcl_eval.specs.declared.stack.AtRest.TheVariants as settled
 use Rattle.tcl_eval.specs.declared.stack.Step.{Step}
 use Rattle.tcl_eval.specs.declared.stack.Acted.{Acted}
 use Rattle.tcl_eval.specs.declared.stack.Acted.TheVariants as acted
@@ -28,7 +28,7 @@ use Rattle.tcl_eval.specs.declared.outcome.Outcome.{Outcome}
 use Rattle.tcl_eval.specs.declared.outcome.Outcome.TheVariants.{Done, Asks, Spent, TooDeep, NoMemory}
 
 -- the words of the command whose question is open
-abbrev pub words_of : Option OpenQuestion → List (List ℕ)
+abbrev pub words_of : Option OpenQuestion → Words
 words_of None = []
 words_of (Some now) = now.words
 
@@ -73,7 +73,7 @@ module _ {H : Type 0} where
   }
 
   -- the words of the command whose question is open
-  abbrev pub open_words : Engine H → List (List ℕ)
+  abbrev pub open_words : Engine H → Words
   open_words engine = words_of engine.question
 
   -- the state with the global frame alone
@@ -207,7 +207,7 @@ module _ {H : Type 0} where
   Lower new old more = (new.budget ≤ old.budget) × (credit new ≤ credit old + more)
 
   -- where all has ended, nothing is suspended
-  abbrev pub Emptied : Settled → Engine H → Type 0
+  abbrev pub Emptied : AtRest → Engine H → Type 0
   Emptied (settled.Ended value) engine = engine.stack.items ≡ []
   Emptied (settled.Ready what) engine = Unit {0}
 
@@ -263,7 +263,7 @@ module _ {H : Type 0} where
   FellFrom acted.Spent outcome new old = (outcome ≡ Spent) × (new ≡ old)
 
   -- what a command asks is what its host asks
-  abbrev pub AskedBy : Acted → HostReply → List (List ℕ) → Engine H → Engine H → Type 0
+  abbrev pub AskedBy : Acted → HostReply → Words → Engine H → Engine H → Type 0
   AskedBy (acted.Gives value) reply words new old = Unit {0}
   AskedBy (acted.Asks question) reply words new old =
       ((raw : Question) × (reply ≡ replies.Ask raw)) × (open_words new ≡ words) × (new.host ≡ old.host)

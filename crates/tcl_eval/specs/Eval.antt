@@ -1,11 +1,12 @@
 -- What a script does: it is replayed from its text, with the list of all answers that are given. Each definition takes what
 -- comes after it as an argument. Codes are 0 for a good end, 1 for an error, 2 for a return, 3 for a break, 4 for a continue, and
 -- 5, 6 and 7 leave a page.
-use Rattle.std.specs.Prelude.{Bool, true, false, not, ℕ, zero, suc, ◌+◌, ◌-◌, List, [], ◌∷◌, ◌++◌, length, drop, nat_lt, if◌then◌else◌, bytes_eq, codes, decimal, Option, Some, None}
+use Rattle.std.specs.Prelude.{Bool, true, false, not, ℕ, zero, suc, ◌+◌, ◌-◌, [], ◌∷◌, ◌++◌, length, drop, nat_lt, if◌then◌else◌, bytes_eq, codes, decimal, Option, Some, None}
+use Rattle.txt_core.specs.Names.{Bytes, Words, Names}
 use Rattle.outside.specs.declared.question.Question.{Question}
 use Rattle.outside.specs.declared.question.Service.{Service}
 use Rattle.outside.specs.declared.question.Service.TheVariants.{Page as Pages, Nsv, Schedule, Publish, Save, Inner as Inner_run}
-use Rattle.tcl_parse.specs.Tree.{Words, no_words, word, Commands, no_commands, Script}
+use Rattle.tcl_parse.specs.Tree.{Words as TreeWords, no_words, word, Commands, no_commands, Script}
 use Rattle.tcl_parse.specs.Tree as tree
 use Rattle.tcl_parse.specs.Outcome as parsed
 use Rattle.tcl_parse.specs.Reading.{reading}
@@ -20,14 +21,15 @@ use Rattle.tcl_frame.specs.declared.fault.VarFault.{VarFault}
 use Rattle.tcl_frame.specs.Names.{named, is_element}
 use Rattle.tcl_frame.specs.Frames.{global_fault, globally_written}
 use Rattle.tcl_varcmd.specs.Commands.{begins_var_command, var_came}
+use Rattle.tcl_host.specs.Codes as code_of
 use Rattle.tcl_eval.specs.declared.verb.Verb.{Verb}
 use Rattle.tcl_eval.specs.declared.verb.Verb.TheVariants.{Proc, Return, Error, Break, Continue, Rename, Eval, Catch, Expr, If, While, For, Foreach, Switch, Info, Other}
 use Rattle.tcl_eval.specs.declared.outcome.Work.{Work}
 use Rattle.tcl_eval.specs.declared.outcome.Work.TheVariants.{Script as script_work, Call, Page as page_work}
 pub use Rattle.tcl_eval.specs.Words.{arg, joined}
-use Rattle.tcl_eval.specs.Messages.{unknown_command, fault_text, variable_fault, too_long}
+use Rattle.tcl_eval.specs.Messages.{unknown_command, script_fault, variable_fault, too_long}
 pub use Rattle.tcl_eval.specs.Results.{most_levels, most_bytes, bytes_for_one, command_cost, answer_cost, element_name, ended, shortened, error_of, wrong_words, return_of, raised_of, break_of, continue_of, returned, result_or_fault, read_as, stored_of, written_or_same, stored}
-pub use Rattle.tcl_eval.specs.Going.{Source, unread, read, Inner, on_ok, pay, give, fails, limited, charged, command_end, word_end, with_host, with_frames, listing, with_def, read_variable, write_variable, proc_end, write_all, by_truth}
+pub use Rattle.tcl_eval.specs.Going.{Source, unread, read, Inner, on_ok, pay, give, fails, limited, charged, command_end, word_end, with_host, with_frames, with_made, with_def, read_variable, write_variable, proc_end, write_all, by_truth}
 pub use Rattle.tcl_eval.specs.Pieces.{run_part, run_parts}
 pub use Rattle.tcl_eval.specs.Commands.{rename_of, proc_of, call_bound, call_proc, define_proc, do_proc, renamed_as, do_rename, do_eval, catch_end, do_catch, came_next}
 pub use Rattle.tcl_eval.specs.Expressions.{do_expr}
@@ -40,7 +42,7 @@ pub use Rattle.tcl_eval.specs.Pages.{run_page}
 use Rattle.tcl_eval.specs.State.{Leaf, says, wants, defines, stores, not_mine, Onward, goes, enters, LeafTable, Out, done, asks, spent, too_deep, Rest, Next}
 
 -- the built-ins that are done here; any other name is the host's
-abbrev pub verb_of : List ℕ → Verb
+abbrev pub verb_of : Bytes → Verb
 verb_of name =
     if bytes_eq name (codes "proc") then Proc else
     (if bytes_eq name (codes "return") then Return else
@@ -83,29 +85,29 @@ is_for_host (defs.Cleanup script) = true
 is_for_host (defs.Set name value) = not (is_element (named name))
 
 module _ {H : Type 0} where
-  abbrev pub set_or_fails : Option VarFault → List ℕ → List ℕ → Next H → Rest H
+  abbrev pub set_or_fails : Option VarFault → Bytes → Bytes → Next H → Rest H
   set_or_fails None name value k = λ state.
-      k 0 value (listing (with_frames state (globally_written state.frames name value)) (defs.Set name value))
+      k code_of.ok value (with_made (with_frames state (globally_written state.frames name value)) (defs.Set name value))
   set_or_fails (Some why) name value k = fails (variable_fault why name) k
 
   -- A global scalar is written, which is listed as made, and its value is the result. A value that is too long, or a refusal, is an
   -- error, and nothing is listed.
-  abbrev pub set_global : List ℕ → List ℕ → Next H → Rest H
+  abbrev pub set_global : Bytes → Bytes → Next H → Rest H
   set_global name value k =
-      if nat_lt most_bytes (length value) then k 1 too_long
+      if nat_lt most_bytes (length value) then k code_of.error too_long
       else (λ state. set_or_fails (global_fault state.frames name) name value k state)
 
   -- a definition of the host's is listed as made
   abbrev pub make : Def → Next H → Rest H
-  make (defs.Proc name params body) k = λ state. k 0 [] (listing state (defs.Proc name params body))
-  make (defs.Rename old new) k = λ state. k 0 [] (listing state (defs.Rename old new))
-  make (defs.Route method url inherit words) k = λ state. k 0 [] (listing state (defs.Route method url inherit words))
-  make (defs.Filter when method pattern words) k = λ state. k 0 [] (listing state (defs.Filter when method pattern words))
-  make (defs.Cleanup script) k = λ state. k 0 [] (listing state (defs.Cleanup script))
+  make (defs.Proc name params body) k = λ state. k code_of.ok [] (with_made state (defs.Proc name params body))
+  make (defs.Rename old new) k = λ state. k code_of.ok [] (with_made state (defs.Rename old new))
+  make (defs.Route method url inherit words) k = λ state. k code_of.ok [] (with_made state (defs.Route method url inherit words))
+  make (defs.Filter when method pattern words) k = λ state. k code_of.ok [] (with_made state (defs.Filter when method pattern words))
+  make (defs.Cleanup script) k = λ state. k code_of.ok [] (with_made state (defs.Cleanup script))
   make (defs.Set name value) k = set_global name value k
 
   -- A definition that the host says is made. A command that says one which isn't the host's to make is unknown.
-  abbrev pub define : Def → List (List ℕ) → Next H → Rest H
+  abbrev pub define : Def → Words → Next H → Rest H
   define def words k = if is_for_host def then make def k else fails (unknown_command (arg words 0)) k
 
 module _ {H : Type 0} (table : LeafTable H) where
@@ -119,7 +121,7 @@ module _ {H : Type 0} (table : LeafTable H) where
 
   -- What the host says of a command's words, with the questions that it asks and the answers that it is given. This is what the
   -- command may run.
-  abbrev pub leaf : Inner H → List (List ℕ) → Leaf H → Next H → Rest H
+  abbrev pub leaf : Inner H → Words → Leaf H → Next H → Rest H
   leaf inner words (says code result host) k state budget given = k code result (with_host state host) budget given
   leaf inner words (defines def host) k state budget given = define def words k (with_host state host) budget given
   leaf inner words (stores name value result host) k state budget given =
@@ -134,22 +136,22 @@ module _ {H : Type 0} (table : LeafTable H) where
       k (with_host state host) (budget - (answer.1 + answer_cost answer.0)) given
 
   -- the same of what it says of an answer
-  abbrev pub onward : Inner H → List (List ℕ) → Onward H → Next H → Rest H
+  abbrev pub onward : Inner H → Words → Onward H → Next H → Rest H
   onward inner words said k state budget given =
       resumed inner said (λ leaf_said. leaf inner words leaf_said k state budget given) k state budget given
 
   -- A run stands at a question that was handed out: with no answer it asks this, and else it goes on with the first answer.
-  abbrev pub standing : Inner H → List (List ℕ) → Question → Next H → Rest H
+  abbrev pub standing : Inner H → Words → Question → Next H → Rest H
   standing inner words question k state budget [] = asks question state budget
   standing inner words question k state budget (answer ∷ given) =
       if nat_lt budget (answer.1 + answer_cost answer.0) then spent state
       else onward inner words (table.answers words answer.0 state.host) k state (budget - (answer.1 + answer_cost answer.0)) given
 
-module _ {H : Type 0} (natives : List (List ℕ)) (table : LeafTable H) where
+module _ {H : Type 0} (natives : Names) (table : LeafTable H) where
   -- ---- commands
 
   -- a built-in of this kind, with its own name as its first word
-  abbrev pub built_in : Inner H → Verb → List (List ℕ) → Next H → Rest H
+  abbrev pub built_in : Inner H → Verb → Words → Next H → Rest H
   built_in inner Proc words k = do_proc words k
   built_in inner Return words k = give (return_of words) k
   built_in inner Error words k = give (raised_of words) k
@@ -169,7 +171,7 @@ module _ {H : Type 0} (natives : List (List ℕ)) (table : LeafTable H) where
 
   -- A built-in, with its own name as its first word: a native looks at its words alone, a command on variables at these and the
   -- variables, and the others are those that run scripts or change the commands, and the host's.
-  abbrev pub built : Inner H → List (List ℕ) → Next H → Rest H
+  abbrev pub built : Inner H → Words → Next H → Rest H
   built inner words k =
       if has_name natives (arg words 0) then call_native words k
       else if begins_var_command words then (λ state. came_next (var_came state.frames words) k state)
@@ -177,20 +179,20 @@ module _ {H : Type 0} (natives : List (List ℕ)) (table : LeafTable H) where
 
   -- What a name stands for: a built-in, which gets its own name in place of the word by which it was called; a procedure; or
   -- nothing.
-  abbrev pub run_command : Inner H → Option Cmd → List (List ℕ) → Next H → Rest H
+  abbrev pub run_command : Inner H → Option Cmd → Words → Next H → Rest H
   run_command inner None words k = fails (unknown_command (arg words 0)) k
   run_command inner (Some (Built name)) words k = built inner (name ∷ drop 1 words) k
   run_command inner (Some (commands.Proc params body)) words k = call_proc inner params body words k
 
-  abbrev pub act : Inner H → List (List ℕ) → Next H → Rest H
+  abbrev pub act : Inner H → Words → Next H → Rest H
   act inner words k state = run_command inner (command_of state.commands (arg words 0)) words k state
 
   -- a command is paid for, done, and its result is paid for
-  abbrev pub command : Inner H → List (List ℕ) → Next H → Rest H
+  abbrev pub command : Inner H → Words → Next H → Rest H
   command inner words k = pay (command_cost words) (act inner words (command_end k))
 
   -- the words of a command, from left to right, and then the command
-  abbrev pub run_words : Inner H → Words → List (List ℕ) → Next H → Rest H
+  abbrev pub run_words : Inner H → TreeWords → Words → Next H → Rest H
   run_words inner no_words values k = command inner values k
   run_words inner (word first words) values k =
       run_parts inner first [] (word_end (λ value. run_words inner words (values ++ value ∷ []) k) k)
@@ -198,15 +200,15 @@ module _ {H : Type 0} (natives : List (List ℕ)) (table : LeafTable H) where
   -- ---- scripts
 
   -- the commands in order; the result is that of the last one, or empty
-  abbrev pub run_commands : Inner H → Commands → List ℕ → Next H → Rest H
-  run_commands inner no_commands result k = k 0 result
+  abbrev pub run_commands : Inner H → Commands → Bytes → Next H → Rest H
+  run_commands inner no_commands result k = k code_of.ok result
   run_commands inner (tree.command first commands) result k =
       run_words inner first [] (on_ok (λ value. run_commands inner commands value k) k)
 
   -- a text that has a fault is an error, and nothing of it runs
-  abbrev pub run_reading : Inner H → List ℕ → parsed.Outcome Script → Next H → Rest H
+  abbrev pub run_reading : Inner H → Bytes → parsed.Outcome Script → Next H → Rest H
   run_reading inner bytes (parsed.done script rest) k = run_commands inner (tree.commands script) [] k
-  run_reading inner bytes (parsed.fault kind left) k = fails (fault_text kind (length bytes - left)) k
+  run_reading inner bytes (parsed.fault kind left) k = fails (script_fault kind (length bytes - left)) k
 
   -- a script, where so many levels are left; the depth is looked at before a text is read
   abbrev pub run_script : ℕ → Source → Next H → Rest H

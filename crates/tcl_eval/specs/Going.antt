@@ -1,11 +1,13 @@
 -- What comes next: a run is written by what comes after each part of it.
-use Rattle.std.specs.Prelude.{Bool, true, false, ℕ, zero, suc, ◌-◌, ◌/◌, List, [], ◌∷◌, ◌++◌, length, nat_lt, if◌then◌else◌, Option, Some, None}
+use Rattle.std.specs.Prelude.{Bool, true, false, ℕ, zero, suc, ◌-◌, ◌/◌, [], ◌∷◌, ◌++◌, length, nat_lt, if◌then◌else◌, Option, Some, None}
+use Rattle.txt_core.specs.Names.{Bytes}
 use Rattle.tcl_parse.specs.Tree.{Commands}
 use Rattle.cmd_table.specs.Commands.{defined}
 use Rattle.cmd_table.specs.declared.definition.Def.{Def}
 use Rattle.txt_core.specs.Truth.{truth}
 use Rattle.tcl_frame.specs.Stack.{Stack}
 use Rattle.tcl_frame.specs.Frames.{popped}
+use Rattle.tcl_host.specs.Codes as code_of
 use Rattle.tcl_eval.specs.declared.stack.Ended.{Ended}
 use Rattle.tcl_eval.specs.Parameters.{Values}
 use Rattle.tcl_eval.specs.Messages.{too_long, no_boolean}
@@ -14,7 +16,7 @@ use Rattle.tcl_eval.specs.State.{State, spent, Rest, Next}
 
 -- What is run as a script: a text, or a script that was read within another one.
 pub data Source : Type 0 where
-  unread : List ℕ → Source
+  unread : Bytes → Source
   read : Commands → Source
 
 -- What a command may run: so many levels are left to it, and this runs it one level deeper than the command, and goes on after
@@ -27,7 +29,7 @@ module _ {H : Type 0} where
   -- ---- what comes next
 
   -- goes on after code 0; any other code ends what is under way
-  abbrev pub on_ok : (List ℕ → Rest H) → Next H → Next H
+  abbrev pub on_ok : (Bytes → Rest H) → Next H → Next H
   on_ok go k zero result = go result
   on_ok go k (suc code) result = k (suc code) result
 
@@ -40,12 +42,12 @@ module _ {H : Type 0} where
   give value k = k value.code value.result
 
   -- an error with this text
-  abbrev pub fails : List ℕ → Next H → Rest H
+  abbrev pub fails : Bytes → Next H → Rest H
   fails message k = give (error_of message) k
 
   -- a result that is too long is an error instead
   abbrev pub limited : Next H → Next H
-  limited k code result = if nat_lt most_bytes (length result) then k 1 too_long else k code result
+  limited k code result = if nat_lt most_bytes (length result) then k code_of.error too_long else k code result
 
   -- a result costs 1 for each whole 1,024 bytes, whatever its code
   abbrev pub charged : Next H → Next H
@@ -56,8 +58,8 @@ module _ {H : Type 0} where
   command_end k = limited (charged k)
 
   -- a word that is complete, which may be too long
-  abbrev pub word_end : (List ℕ → Rest H) → Next H → Next H
-  word_end go k = on_ok (λ value. if nat_lt most_bytes (length value) then k 1 too_long else go value) k
+  abbrev pub word_end : (Bytes → Rest H) → Next H → Next H
+  word_end go k = on_ok (λ value. if nat_lt most_bytes (length value) then k code_of.error too_long else go value) k
 
   -- ---- the state
 
@@ -68,21 +70,21 @@ module _ {H : Type 0} where
   with_frames state frames = record state { frames = frames }
 
   -- with one definition more that was made
-  abbrev pub listing : State H → Def → State H
-  listing state def = record state { made = state.made ++ def ∷ [] }
+  abbrev pub with_made : State H → Def → State H
+  with_made state def = record state { made = state.made ++ def ∷ [] }
 
   -- with a definition that changes the commands and is listed as made
   abbrev pub with_def : State H → Def → State H
-  with_def state def = listing (record state { commands = defined state.commands def }) def
+  with_def state def = with_made (record state { commands = defined state.commands def }) def
 
   -- ---- variables
 
   -- reads a variable; a refusal is an error
-  abbrev pub read_variable : List ℕ → Next H → Rest H
+  abbrev pub read_variable : Bytes → Next H → Rest H
   read_variable name k state = give (read_as state.frames name) k state
 
   -- writes a variable, and then this is the result; a value that is too long, or a refusal, is an error
-  abbrev pub write_variable : List ℕ → List ℕ → List ℕ → Next H → Rest H
+  abbrev pub write_variable : Bytes → Bytes → Bytes → Next H → Rest H
   write_variable name value result k state =
       give (stored_of state.frames name value result) k (with_frames state (stored state.frames name value))
 
@@ -97,11 +99,11 @@ module _ {H : Type 0} where
 
   -- ---- truth
 
-  abbrev pub decided : Option Bool → List ℕ → Rest H → Rest H → Next H → Rest H
+  abbrev pub decided : Option Bool → Bytes → Rest H → Rest H → Next H → Rest H
   decided None value when_true when_false k = give (error_of (no_boolean value)) k
   decided (Some true) value when_true when_false k = when_true
   decided (Some false) value when_true when_false k = when_false
 
   -- goes on by the truth of a value, which must have one
-  abbrev pub by_truth : List ℕ → Rest H → Rest H → Next H → Rest H
+  abbrev pub by_truth : Bytes → Rest H → Rest H → Next H → Rest H
   by_truth value when_true when_false k = decided (truth value) value when_true when_false k

@@ -1,6 +1,7 @@
 -- What holds of every run.
 use Rattle.std.specs.Prelude.{◌≡◌, ◌≤◌, ◌<◌, ℕ, suc, ◌+◌, ◌*◌, Bool, true, false, not, ◌||◌, is_some, List, ◌++◌, length, drop, Ok}
 use Rattle.std.specs.List.{AllByRecursion}
+use Rattle.txt_core.specs.Names.{Bytes, Words, Names}
 use Rattle.outside.specs.declared.question.Answer.{Answer}
 use Rattle.outside.specs.declared.question.Question.{Question}
 use Rattle.cmd_table.specs.Commands.{Writes, language_names}
@@ -12,7 +13,6 @@ use Rattle.tcl_eval.specs.declared.branch.Turning.{Turning}
 use Rattle.tcl_eval.specs.declared.parameter.Parameter.{Parameter}
 use Rattle.tcl_eval.specs.declared.outcome.Work.{Work}
 use Rattle.tcl_eval.specs.declared.outcome.Work.TheVariants.{Script, Call, Page}
-use Rattle.tcl_eval.specs.Natives.{Names}
 use Rattle.tcl_eval.specs.Words.{arg}
 use Rattle.tcl_eval.specs.Results.{most_bytes}
 use Rattle.tcl_eval.specs.Parameters.{parameters}
@@ -49,7 +49,7 @@ QuestionsCost {H} table =
 -- A command that asked may ask again, each time with a lower rank of the host's state, and no rank is more than this.
 pub record IsRanked (H : Type 0) (table : LeafTable H) (rank : H → ℕ) (most : ℕ) : Type 0 where
   pub bounded : (host : H) → rank host ≤ most
-  pub falls : (words : List (List ℕ)) (answer : Answer) (host new : H) (question : Question)
+  pub falls : (words : Words) (answer : Answer) (host new : H) (question : Question)
       → table.answers words answer host ≡ goes (wants question new)
       → rank new < rank host
 
@@ -100,33 +100,33 @@ MadeGrowsOn {H} table =
     → IsFront engine.made (state_in (comes_to names table (Asks question) engine given)).made
 
 -- a word isn't longer than a word may be
-abbrev pub IsShort : List ℕ → Type 0
+abbrev pub IsShort : Bytes → Type 0
 IsShort word = length word ≤ most_bytes
 
 -- none of the words behind a command's name is
-abbrev pub HasShortWords : List (List ℕ) → Type 0
+abbrev pub HasShortWords : Words → Type 0
 HasShortWords words = AllByRecursion IsShort (drop 1 words)
 
 -- A command with these words makes this definition: `proc` with parameters that are some, `rename`, or a command of the host's,
 -- which said so at once or of an answer.
 pub data Makes (H : Type 0) (table : LeafTable H) : Def → Type 0 where
-  procedure : {def : Def} (words : List (List ℕ)) (all : List Parameter)
+  procedure : {def : Def} (words : Words) (all : List Parameter)
       → HasShortWords words
       → length words ≡ 4
       → parameters (arg words 2) ≡ Ok all
       → def ≡ proc_of words
       → Makes H table def
-  renaming : {def : Def} (words : List (List ℕ))
+  renaming : {def : Def} (words : Words)
       → HasShortWords words
       → length words ≡ 3
       → def ≡ rename_of words
       → Makes H table def
-  called : {def : Def} (words : List (List ℕ)) (host new : H)
+  called : {def : Def} (words : Words) (host new : H)
       → HasShortWords words
       → is_for_host def ≡ true
       → table.calls words host ≡ defines def new
       → Makes H table def
-  answered : {def : Def} (words : List (List ℕ)) (answer : Answer) (host new : H)
+  answered : {def : Def} (words : Words) (answer : Answer) (host new : H)
       → HasShortWords words
       → is_for_host def ≡ true
       → table.answers words answer host ≡ goes (defines def new)
@@ -171,7 +171,7 @@ is_other verbs.Switch = false
 is_other verbs.Info = false
 
 -- the engine does the command of this name: it is one on variables, or a built-in of its own
-abbrev pub is_done_here : List ℕ → Bool
+abbrev pub is_done_here : Bytes → Bool
 is_done_here name = is_some (command_named name) || not (is_other (verb_of name))
 
 -- each name that stands for a command of the language in a new table of commands is done here

@@ -1,5 +1,6 @@
 -- What is said of an error. The texts that other parts give too are those of `txt_core`.
-use Rattle.std.specs.Prelude.{ℕ, List, [], ◌++◌, decimal, codes}
+use Rattle.std.specs.Prelude.{ℕ, [], ◌++◌, decimal, codes}
+use Rattle.txt_core.specs.Names.{Bytes}
 pub use Rattle.txt_core.specs.ErrorTexts.{bad_value, unknown_command, no_list, too_long, outside_loop, no_variable, unknown_subcommand}
 use Rattle.txt_core.specs.ErrorTexts.{is_an_array, is_no_array, variable_exists, overflow}
 use Rattle.tcl_parse.specs.declared.fault.Kind.{Kind}
@@ -12,18 +13,18 @@ use Rattle.tcl_expr.specs.declared.operator.Op.{Op}
 use Rattle.tcl_expr.specs.declared.operator.Op.TheVariants as operators
 
 -- a text in double quotes
-abbrev pub quoted : List ℕ → List ℕ
+abbrev pub quoted : Bytes → Bytes
 quoted text = codes "\"" ++ text ++ codes "\""
 
 -- a name is that of a command, or of none
-abbrev pub command_exists : List ℕ → List ℕ
+abbrev pub command_exists : Bytes → Bytes
 command_exists name = codes "command " ++ quoted name ++ codes " exists"
 
-abbrev pub no_command : List ℕ → List ℕ
+abbrev pub no_command : Bytes → Bytes
 no_command name = codes "no command " ++ quoted name
 
 -- what is wrong with a script
-abbrev pub fault_name : Kind → List ℕ
+abbrev pub fault_name : Kind → Bytes
 fault_name Quote = codes "unclosed quote"
 fault_name Brace = codes "unclosed brace"
 fault_name Bracket = codes "unclosed bracket"
@@ -32,11 +33,11 @@ fault_name Extra = codes "extra bytes"
 fault_name Deep = codes "nested too deep"
 
 -- a text is no script: its fault stands at this place
-abbrev pub fault_text : Kind → ℕ → List ℕ
-fault_text kind place = fault_name kind ++ codes " at " ++ decimal place
+abbrev pub script_fault : Kind → ℕ → Bytes
+script_fault kind place = fault_name kind ++ codes " at " ++ decimal place
 
 -- why a variable of this name isn't read or written (want of memory is no such reason, and its text is never looked at)
-abbrev pub variable_fault : VarFault → List ℕ → List ℕ
+abbrev pub variable_fault : VarFault → Bytes → Bytes
 variable_fault NoVariable name = no_variable name
 variable_fault IsArray name = is_an_array name
 variable_fault NotArray name = is_no_array name
@@ -44,19 +45,19 @@ variable_fault Exists name = variable_exists name
 variable_fault NoMemory name = []
 
 -- a name is that of no procedure
-abbrev pub no_procedure : List ℕ → List ℕ
+abbrev pub no_procedure : Bytes → Bytes
 no_procedure name = codes "no procedure " ++ quoted name
 
 -- a text is no expression: it is bad at this place
-abbrev pub bad_expression : ℕ → List ℕ
+abbrev pub bad_expression : ℕ → Bytes
 bad_expression place = codes "syntax error in expression at " ++ decimal place
 
 -- a value has no truth
-abbrev pub no_boolean : List ℕ → List ℕ
+abbrev pub no_boolean : Bytes → Bytes
 no_boolean value = codes "expected boolean but got " ++ quoted value
 
 -- how an operator is written
-abbrev pub operator_name : Op → List ℕ
+abbrev pub operator_name : Op → Bytes
 operator_name operators.Minus = codes "-"
 operator_name operators.Plus = codes "+"
 operator_name operators.Invert = codes "~"
@@ -84,7 +85,7 @@ operator_name operators.Or = codes "||"
 
 -- why an operator gives no value, where this operand has no truth (want of memory is no such reason, and its text is never
 -- looked at)
-abbrev pub operator_fault : ExprFault → Op → List ℕ → List ℕ
+abbrev pub operator_fault : ExprFault → Op → Bytes → Bytes
 operator_fault faults.NotNumber op operand = codes "can't use non-numeric string as operand of " ++ quoted (operator_name op)
 operator_fault faults.NotBoolean op operand = no_boolean operand
 operator_fault faults.DivZero op operand = codes "divide by zero"

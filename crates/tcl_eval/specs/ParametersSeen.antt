@@ -1,19 +1,20 @@
 -- How the program's parameters are seen.
-use Rattle.std.specs.Prelude.{◌≡◌, ℕ, List, ◌++◌, Option, Some, None, Result, Ok, Err, Vec}
+use Rattle.std.specs.Prelude.{◌≡◌, List, ◌++◌, Option, Some, None, Result, Ok, Err, Vec}
 use Rattle.std.specs.declared.alloc.Global.{Global}
+use Rattle.txt_core.specs.Names.{Bytes}
 use Rattle.tcl_eval.specs.declared.parameter.Parameter.{Parameter}
 use Rattle.tcl_eval.specs.Parameters.{Values}
 
 -- parameters in a vector are those of a list, and an error is an error
-abbrev pub ParametersAre : Result (Vec Parameter Global) (List ℕ) → Result (List Parameter) (List ℕ) → Type 0
+abbrev pub ParametersAre : Result (Vec Parameter Global) Bytes → Result (List Parameter) Bytes → Type 0
 ParametersAre (Ok found) meant = meant ≡ Ok found.items
 ParametersAre (Err message) meant = meant ≡ Err message
 
-abbrev pub ValuesAre : Result Values (List ℕ) → Result Values (List ℕ) → Type 0
+abbrev pub ValuesAre : Result Values Bytes → Result Values Bytes → Type 0
 ValuesAre found meant = meant ≡ found
 
 -- parameters in front of those that are still to be read
-abbrev pub in_front : List Parameter → Result (List Parameter) (List ℕ) → Result (List Parameter) (List ℕ)
+abbrev pub in_front : List Parameter → Result (List Parameter) Bytes → Result (List Parameter) Bytes
 in_front first (Ok rest) = Ok (first ++ rest)
 in_front first (Err message) = Err message
 

@@ -1,6 +1,6 @@
--- Limits and costs, and codes with results. Codes are 0 for a good end, 1 for an error, 2 for a return, 3 for a break, 4 for a
--- continue.
-use Rattle.std.specs.Prelude.{ℕ, zero, suc, ◌+◌, ◌/◌, List, [], length, sum_by, ◌==◌, nat_lt, if◌then◌else◌, ◌||◌, codes, Option, Some, None}
+-- Limits and costs, and codes with results.
+use Rattle.std.specs.Prelude.{ℕ, zero, suc, ◌+◌, ◌/◌, [], length, sum_by, ◌==◌, nat_lt, if◌then◌else◌, ◌||◌, codes, Option, Some, None}
+use Rattle.txt_core.specs.Names.{Bytes, Words}
 use Rattle.outside.specs.declared.question.Answer.{Answer}
 use Rattle.outside.specs.declared.question.Answer.TheVariants.{Said, Failed, Page, NoPage, PageFault}
 use Rattle.tcl_frame.specs.declared.fault.VarFault.{VarFault}
@@ -12,6 +12,7 @@ pub use Rattle.txt_core.specs.Limits.{most_bytes}
 pub use Rattle.tcl_frame.specs.Names.{element_name}
 use Rattle.txt_core.specs.Limits.{most_nested}
 use Rattle.txt_core.specs.ErrorTexts.{wrong_words as wrong_count}
+use Rattle.tcl_host.specs.Codes as code_of
 use Rattle.tcl_eval.specs.Messages.{too_long, outside_loop, variable_fault}
 
 -- ---- limits and costs
@@ -25,7 +26,7 @@ abbrev pub bytes_for_one : ℕ
 bytes_for_one = 1024
 
 -- a command costs 1, and 1 for each whole 1,024 bytes of all its words, with the name by which it was called
-abbrev pub command_cost : List (List ℕ) → ℕ
+abbrev pub command_cost : Words → ℕ
 command_cost words = 1 + sum_by length words / bytes_for_one
 
 -- an answer costs 1 for each whole 1,024 bytes of its text or page, as it is given
@@ -39,65 +40,65 @@ answer_cost PageFault = 0
 -- ---- codes with results
 
 -- these have a code and a result
-abbrev pub ended : ℕ → List ℕ → Ended
+abbrev pub ended : ℕ → Bytes → Ended
 ended code result = record { code = code; result = result }
 
 -- the text of an error that is too long is another one
-abbrev pub shortened : List ℕ → List ℕ
+abbrev pub shortened : Bytes → Bytes
 shortened message = if nat_lt most_bytes (length message) then too_long else message
 
 -- an error with this text
-abbrev pub error_of : List ℕ → Ended
-error_of message = ended 1 (shortened message)
+abbrev pub error_of : Bytes → Ended
+error_of message = ended code_of.error (shortened message)
 
 -- a built-in has the wrong number of words
-abbrev pub wrong_words : List (List ℕ) → Ended
+abbrev pub wrong_words : Words → Ended
 wrong_words words = error_of (wrong_count (arg words 0))
 
--- `return ?value?`: code 2, with the value where there is one
-abbrev pub return_of : List (List ℕ) → Ended
-return_of words = if (length words == 1) || (length words == 2) then ended 2 (arg words 1) else wrong_words words
+-- `return ?value?`: a return, with the value where there is one
+abbrev pub return_of : Words → Ended
+return_of words = if (length words == 1) || (length words == 2) then ended code_of.return (arg words 1) else wrong_words words
 
--- `error text`: code 1, with the text
-abbrev pub raised_of : List (List ℕ) → Ended
-raised_of words = if length words == 2 then ended 1 (arg words 1) else wrong_words words
+-- `error text`: an error, with the text as it stands
+abbrev pub raised_of : Words → Ended
+raised_of words = if length words == 2 then ended code_of.error (arg words 1) else wrong_words words
 
--- `break` and `continue`: codes 3 and 4
-abbrev pub break_of : List (List ℕ) → Ended
-break_of words = if length words == 1 then ended 3 [] else wrong_words words
+-- `break` and `continue`: a break and a continue, with no result
+abbrev pub break_of : Words → Ended
+break_of words = if length words == 1 then ended code_of.break [] else wrong_words words
 
-abbrev pub continue_of : List (List ℕ) → Ended
-continue_of words = if length words == 1 then ended 4 [] else wrong_words words
+abbrev pub continue_of : Words → Ended
+continue_of words = if length words == 1 then ended code_of.continue [] else wrong_words words
 
--- A procedure ends: code 2 becomes 0, codes 3 and 4 become errors, and any other is handed on.
-abbrev pub returned : ℕ → List ℕ → Ended
-returned zero result = ended 0 result
-returned (suc zero) result = ended 1 result
-returned (suc (suc zero)) result = ended 0 result
+-- A procedure ends: a return becomes a good end, a break and a continue become errors, and any other code is handed on.
+abbrev pub returned : ℕ → Bytes → Ended
+returned zero result = ended code_of.ok result
+returned (suc zero) result = ended code_of.error result
+returned (suc (suc zero)) result = ended code_of.ok result
 returned (suc (suc (suc zero))) result = error_of (outside_loop (codes "break"))
 returned (suc (suc (suc (suc zero)))) result = error_of (outside_loop (codes "continue"))
 returned (suc (suc (suc (suc (suc code))))) result = ended (suc (suc (suc (suc (suc code))))) result
 
 -- ---- variables
 
-abbrev pub result_or_fault : Option VarFault → List ℕ → List ℕ → Ended
-result_or_fault None name result = ended 0 result
+abbrev pub result_or_fault : Option VarFault → Bytes → Bytes → Ended
+result_or_fault None name result = ended code_of.ok result
 result_or_fault (Some why) name result = error_of (variable_fault why name)
 
 -- a variable is read; a refusal is an error
-abbrev pub read_as : Stack → List ℕ → Ended
+abbrev pub read_as : Stack → Bytes → Ended
 read_as frames name = result_or_fault (read_fault frames name) name (read_of frames name)
 
 -- A variable is to be written, and then this is the result; a value that is too long, and then a refusal, is an error.
-abbrev pub stored_of : Stack → List ℕ → List ℕ → List ℕ → Ended
+abbrev pub stored_of : Stack → Bytes → Bytes → Bytes → Ended
 stored_of frames name value result =
-    if nat_lt most_bytes (length value) then ended 1 too_long else result_or_fault (write_fault frames name) name result
+    if nat_lt most_bytes (length value) then ended code_of.error too_long else result_or_fault (write_fault frames name) name result
 
-abbrev pub written_or_same : Option VarFault → Stack → List ℕ → List ℕ → Stack
+abbrev pub written_or_same : Option VarFault → Stack → Bytes → Bytes → Stack
 written_or_same None frames name value = written frames name value
 written_or_same (Some why) frames name value = frames
 
 -- the variables after that; an error changes nothing
-abbrev pub stored : Stack → List ℕ → List ℕ → Stack
+abbrev pub stored : Stack → Bytes → Bytes → Stack
 stored frames name value =
     if nat_lt most_bytes (length value) then frames else written_or_same (write_fault frames name) frames name value

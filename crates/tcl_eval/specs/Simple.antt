@@ -1,9 +1,9 @@
 -- Words that are made of bytes and of scalar variables, for which nothing is run.
-use Rattle.std.specs.Prelude.{◌≡◌, ℕ, zero, suc, List, Option, Some, None}
-use Rattle.tcl_parse.specs.Tree.{Part, text, variable, element, bracket, Parts, no_parts, part, Words}
+use Rattle.std.specs.Prelude.{◌≡◌, ℕ, zero, suc, Option, Some, None}
+use Rattle.txt_core.specs.Names.{Bytes, Words, Names}
+use Rattle.tcl_parse.specs.Tree.{Part, text, variable, element, bracket, Parts, no_parts, part, Words as TreeWords}
 use Rattle.tcl_frame.specs.Stack.{Stack}
 use Rattle.tcl_eval.specs.State.{LeafTable, Rest, Next}
-use Rattle.tcl_eval.specs.Natives.{Names}
 use Rattle.tcl_eval.specs.Results.{ended, read_as}
 use Rattle.tcl_eval.specs.Going.{Inner, give}
 use Rattle.tcl_eval.specs.Eval.{run_words}
@@ -19,7 +19,7 @@ use Rattle.tcl_eval.specs.declared.simple.Grown.{Grown}
 use Rattle.tcl_eval.specs.declared.simple.Grown.TheVariants.{On, Ends, Runs}
 
 -- behind a value with code 0 a word goes on, and any other value is what it comes to
-abbrev pub behind_value : (List ℕ → Option Ended) → ℕ → List ℕ → Option Ended
+abbrev pub behind_value : (Bytes → Option Ended) → ℕ → Bytes → Option Ended
 behind_value go zero result = go result
 behind_value go (suc code) result = Some (ended (suc code) result)
 
@@ -46,7 +46,7 @@ Comes plain.Runs frames ps so_far = Unit {0}
 
 module _ {H : Type 0} (names : Names) (table : LeafTable H) where
   -- how a command goes on from there: these words are left, and these values are there
-  abbrev pub simple_next : Inner H → Simple → Words → List (List ℕ) → Next H → Rest H
+  abbrev pub simple_next : Inner H → Simple → TreeWords → Words → Next H → Rest H
   simple_next inner Stands ws values k = run_words names table inner ws values k
   simple_next inner (Fails value) ws values k = give value k
   simple_next inner Costly ws values k = run_costly inner ws k

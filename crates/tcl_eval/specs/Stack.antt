@@ -1,8 +1,9 @@
 -- What suspended work means: each kind of frame says what the evaluation does with the code and result for which it waits.
 use Rattle.std.specs.Prelude.{ℕ, ◌+◌, ◌++◌, List, [], ◌∷◌, length, drop}
+use Rattle.txt_core.specs.Names.{Names}
 use Rattle.tcl_eval.specs.State.{LeafTable, Rest, Next, done, spent, too_deep}
 use Rattle.tcl_expr.specs.View.{tree_of as expression_tree}
-use Rattle.tcl_eval.specs.Natives.{Names}
+use Rattle.tcl_host.specs.Codes as code_of
 use Rattle.tcl_eval.specs.Eval.{unread, give, on_ok, command_end, proc_end, catch_end, read_variable, by_truth, element_name, command, run_words, run_commands, nested}
 use Rattle.tcl_eval.specs.Expressions.{with_one, with_two, way_of, behind_left, run_expression, value_end}
 use Rattle.tcl_eval.specs.Branches.{choose}
@@ -16,8 +17,8 @@ use Rattle.tcl_eval.specs.declared.branch.Branch.{Branch}
 use Rattle.tcl_eval.specs.declared.branch.Branch.TheVariants as branch
 use Rattle.tcl_eval.specs.declared.stack.Ready.{Ready}
 use Rattle.tcl_eval.specs.declared.stack.Ready.TheVariants as ready
-use Rattle.tcl_eval.specs.declared.stack.Settled.{Settled}
-use Rattle.tcl_eval.specs.declared.stack.Settled.TheVariants as settled
+use Rattle.tcl_eval.specs.declared.stack.AtRest.{AtRest}
+use Rattle.tcl_eval.specs.declared.stack.AtRest.TheVariants as settled
 use Rattle.tcl_eval.specs.declared.stack.Step.{Step}
 use Rattle.tcl_eval.specs.declared.stack.Step.TheVariants as step
 
@@ -28,7 +29,7 @@ module _ {H : Type 0} (names : Names) (table : LeafTable H) where
       on_ok (λ value. by_truth value ((nested names table levels).run (unread body) k) (choose (nested names table levels) (drop next branches.value.clauses) branches.value.last k) k) k
   branch_next (branch.Start turning levels) k = on_ok (λ result. turn_on (nested names table levels) turning.value k) k
   branch_next (branch.Condition turning left levels) k =
-      on_ok (λ value. by_truth value (turn_body (nested names table levels) turning.value (turns (nested names table levels) turning.value left k) k) (k 0 []) k) k
+      on_ok (λ value. by_truth value (turn_body (nested names table levels) turning.value (turns (nested names table levels) turning.value left k) k) (k code_of.ok []) k) k
   branch_next (branch.Body turning left levels) k =
       in_loop (between (nested names table levels) turning.value.next (turns (nested names table levels) turning.value left k) k) k
   branch_next (branch.Next turning left levels) k = in_loop (turns (nested names table levels) turning.value left k) k
@@ -78,7 +79,7 @@ module _ {H : Type 0} (names : Names) (table : LeafTable H) where
   ready_next ready.Spent k = λ state budget given. spent state
 
   -- the same, or all is done
-  abbrev pub settled_next : Settled → Next H → Rest H
+  abbrev pub settled_next : AtRest → Next H → Rest H
   settled_next (settled.Ended value) k = done value.code value.result
   settled_next (settled.Ready what) k = ready_next what k
 
@@ -158,7 +159,7 @@ ready_free (ready.Branch b value) = branch_free b
 ready_free ready.TooDeep = 0
 ready_free ready.Spent = 0
 
-abbrev pub settled_free : Settled → ℕ
+abbrev pub settled_free : AtRest → ℕ
 settled_free (settled.Ended value) = 0
 settled_free (settled.Ready what) = ready_free what
 

@@ -1,5 +1,6 @@
 -- What a run is over: its state, what is given to it, and what it comes to.
 use Rattle.std.specs.Prelude.{ℕ, List}
+use Rattle.txt_core.specs.Names.{Bytes}
 use Rattle.outside.specs.declared.question.Answer.{Answer}
 use Rattle.outside.specs.declared.question.Question.{Question}
 pub use Rattle.tcl_host.specs.Leaf.{Leaf, says, wants, defines, stores, not_mine, Onward, goes, enters, TextEnd, LeafTable}
@@ -25,7 +26,7 @@ Given = List (Answer × ℕ)
 -- What a run comes to.
 pub data Out (H : Type 0) : Type 0 where
   -- it ended with this code and result; so much of its budget, and these answers, are left
-  done : (code : ℕ) (result : List ℕ) (state : State H) (budget : ℕ) (given : Given) → Out H
+  done : (code : ℕ) (result : Bytes) (state : State H) (budget : ℕ) (given : Given) → Out H
   -- it stands at this question, and no answer is left
   asks : (question : Question) (state : State H) (budget : ℕ) → Out H
   -- it ended where a cost was more than what was left of the budget
@@ -39,4 +40,4 @@ Rest H = State H → ℕ → Given → Out H
 
 -- what comes after a code and a result
 abbrev pub Next : Type 0 → Type 0
-Next H = ℕ → List ℕ → Rest H
+Next H = ℕ → Bytes → Rest H

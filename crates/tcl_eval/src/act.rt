@@ -1,12 +1,12 @@
 //! What a command does.
 
 ghost use Rattle.std.specs.Prelude.{◌≡◌, ◌<◌, ◌≤◌, ◌+◌, ◌++◌, ◌∷◌, [], Option, IfOk, OnOk, OnErr, Some, None, true};
+ghost use Rattle.txt_core.specs.Names.{Names};
 ghost use Rattle.cmd_table.specs.Commands.{defined};
 ghost use Rattle.cmd_table.specs.Renaming.{rename_answer, renamed};
 ghost use Rattle.cmd_table.specs.declared.definition.Def.{Def};
 ghost use Rattle.natives.specs.Names.{name_of, names_of};
 ghost use Rattle.tcl_varcmd.specs.Commands.{begins_var_command, var_came};
-ghost use Rattle.tcl_eval.specs.Natives.{Names};
 ghost use Rattle.tcl_eval.specs.State.{Onward, Next, Rest};
 ghost use Rattle.tcl_eval.specs.Eval.{Inner, addressed, nested, answer_cost, write_all, call_proc, call_native, do_proc, do_rename, do_eval, do_catch, catch_end, came_next, arg, define, make, set_global, is_for_host, leaf, onward, built_in, built, act, run_script, unread, stored, stored_of, proc_of, give, error_of};
 ghost use Rattle.tcl_eval.specs.Engine.{Same, Keeps, Holds, HoldsTable, Counts, IsNoPage, Opens, Enters, Lower, credit, acted_next, AskedBy, after_writes};
@@ -106,7 +106,8 @@ impl<H: Host> Engine<H> {
     /// Writes a variable, and then this is the result.
     pub(crate) fn store(&mut self, name: &Text, value: Text, after: Text) -> Result<Ended, NoMemory>
         ensures answer { IfOk result (λ x. x ≡ stored_of self.old.frames name.now value after) }
-        ensures frames { OnOk result (self.new ≡ record self.old { frames = stored self.old.frames name.now value }) }
+        ensures frames { OnOk result
+            (self.new ≡ record self.old { frames = stored self.old.frames name.now value }) }
         ensures holds { Holds self.new self.old }
     {
         if value.len() > MOST_BYTES {
@@ -132,7 +133,9 @@ impl<H: Host> Engine<H> {
 
     /// Writes a global scalar, which is listed as made; its value is the result.
     fn set_global(&mut self, name: Text, value: Text) -> Result<Ended, NoMemory>
-        ensures means { IfOk result (λ answer. (names : Names) → Same names H.table self.new self.old (give answer) (set_global name value)) }
+        ensures means { IfOk result (λ answer.
+            (names : Names)
+            → Same names H.table self.new self.old (give answer) (set_global name value)) }
         ensures keeps { OnOk result (Keeps self.new self.old) }
         ensures holds { HoldsTable self.new self.old }
         ensures kept { OnErr result (self.new.made ≡ self.old.made) }
@@ -154,7 +157,8 @@ impl<H: Host> Engine<H> {
     /// Makes a definition of the host's.
     fn make(&mut self, def: Def) -> Result<Ended, NoMemory>
         requires { is_for_host def ≡ true }
-        ensures means { IfOk result (λ value. (names : Names) → Same names H.table self.new self.old (give value) (make def)) }
+        ensures means { IfOk result (λ value.
+            (names : Names) → Same names H.table self.new self.old (give value) (make def)) }
         ensures keeps { OnOk result (Keeps self.new self.old) }
         ensures holds { HoldsTable self.new self.old }
         ensures kept { OnErr result (self.new.made ≡ self.old.made) }
@@ -173,7 +177,9 @@ impl<H: Host> Engine<H> {
 
     /// Makes a definition of the host's, where it is the host's to make.
     fn define_for_host(&mut self, def: Def, words: &Words) -> Result<Ended, NoMemory>
-        ensures means { IfOk result (λ value. (names : Names) → Same names H.table self.new self.old (give value) (define def words.now)) }
+        ensures means { IfOk result (λ value.
+            (names : Names)
+            → Same names H.table self.new self.old (give value) (define def words.now)) }
         ensures keeps { OnOk result (Keeps self.new self.old) }
         ensures holds { HoldsTable self.new self.old }
         ensures kept { OnErr result (self.new.made ≡ self.old.made) }
@@ -190,7 +196,10 @@ impl<H: Host> Engine<H> {
     /// Stands at a question of the host's, which is open from now on.
     fn ask(&mut self, question: Question, words: Words, levels: u32) -> Result<Acted, NoMemory>
         ensures asked { IfOk result (λ acted. acted ≡ Acted.Asks (addressed levels question)) }
-        ensures opened { OnOk result (self.new ≡ record self.old { question = Some (record { service = question.service; words = words; levels = levels }) }) }
+        ensures opened { OnOk result
+            (self.new
+            ≡ record self.old
+            { question = Some (record { service = question.service; words = words; levels = levels }) }) }
         ensures holds { Holds self.new self.old }
     {
         let question = addressed(self.alloc, question, levels)?;
@@ -211,7 +220,11 @@ impl<H: Host> Engine<H> {
         words: Words,
         levels: u32,
     ) -> Result<Acted, NoMemory>
-        ensures means { IfOk result (λ acted. (names : Names) (said : Onward H) → RepliesTo reply self.old.host said → Same names H.table self.new self.old (acted_next names H.table acted self.new.question) (onward H.table (nested names H.table levels) words said)) }
+        ensures means { IfOk result (λ acted.
+            (names : Names) (said : Onward H) → RepliesTo reply self.old.host said
+            → Same names H.table self.new self.old
+            (acted_next names H.table acted self.new.question)
+            (onward H.table (nested names H.table levels) words said)) }
         ensures lower { OnOk result (self.new.budget ≤ self.old.budget) }
         ensures credit { OnOk result (IsNoPage reply → credit self.new ≤ credit self.old + 1) }
         ensures opens { IfOk result (λ acted. Opens acted self.new self.old) }
@@ -252,7 +265,13 @@ impl<H: Host> Engine<H> {
     /// Does a command of the host's.
     #[inline(never)]
     fn call_host(&mut self, words: Words, levels: u32) -> Result<Acted, NoMemory>
-        ensures means { IfOk result (λ acted. (names : Names) → Same names H.table self.new self.old (acted_next names H.table acted self.new.question) (λ k state. leaf H.table (nested names H.table levels) words (H.table.calls words state.host) k state)) }
+        ensures means { IfOk result (λ acted.
+            (names : Names)
+            → Same names H.table self.new self.old
+            (acted_next names H.table acted self.new.question)
+            (λ k state.
+            leaf H.table (nested names H.table levels) words (H.table.calls words state.host) k
+            state)) }
         ensures lower { OnOk result (Lower self.new self.old 1) }
         ensures opens { IfOk result (λ acted. Opens acted self.new self.old) }
         ensures holds { HoldsTable self.new self.old }
@@ -265,8 +284,12 @@ impl<H: Host> Engine<H> {
 
     /// Makes a procedure, which is listed as made. The list's room is taken first.
     fn make_proc<L: Ledger>(&mut self, words: &Words, steps: &mut Steps<L>) -> Result<(), NoMemory>
-        ensures made { OnOk result (self.new ≡ record self.old { table = self.new.table; made = self.old.made ++ proc_of words.now ∷ [] }) }
-        ensures table { OnOk result (self.new.table.table ≡ defined self.old.table.table (proc_of words.now)) }
+        ensures made { OnOk result
+            (self.new
+            ≡ record self.old
+            { table = self.new.table; made = self.old.made ++ proc_of words.now ∷ [] }) }
+        ensures table { OnOk result
+            (self.new.table.table ≡ defined self.old.table.table (proc_of words.now)) }
         ensures steps { steps.old ≤ steps.new }
         ensures counts { Counts steps.new steps.old self.new self.old }
         ensures kept { OnErr result (self.new.made ≡ self.old.made) }
@@ -285,7 +308,9 @@ impl<H: Host> Engine<H> {
 
     /// `proc name params body`.
     fn do_proc<L: Ledger>(&mut self, words: &Words, steps: &mut Steps<L>) -> Result<Ended, NoMemory>
-        ensures means { IfOk result (λ value. (names : Names) → Same names H.table self.new self.old (give value) (do_proc words.now)) }
+        ensures means { IfOk result (λ value.
+            (names : Names)
+            → Same names H.table self.new self.old (give value) (do_proc words.now)) }
         ensures keeps { OnOk result (Keeps self.new self.old) }
         ensures steps { steps.old ≤ steps.new }
         ensures counts { Counts steps.new steps.old self.new self.old }
@@ -311,9 +336,14 @@ impl<H: Host> Engine<H> {
         new: &Text,
         steps: &mut Steps<L>,
     ) -> Result<Renamed, NoMemory>
-        ensures answer { IfOk result (λ answer. answer ≡ rename_answer self.old.table.table old.now new.now) }
-        ensures made { IfOk result (λ answer. self.new ≡ record self.old { table = self.new.table; made = made_by answer self.old.made (Def.Rename old.now new.now) }) }
-        ensures table { OnOk result (self.new.table.table ≡ renamed self.old.table.table old.now new.now) }
+        ensures answer { IfOk result (λ answer.
+            answer ≡ rename_answer self.old.table.table old.now new.now) }
+        ensures made { IfOk result (λ answer.
+            self.new
+            ≡ record self.old
+            { table = self.new.table; made = made_by answer self.old.made (Def.Rename old.now new.now) }) }
+        ensures table { OnOk result
+            (self.new.table.table ≡ renamed self.old.table.table old.now new.now) }
         ensures steps { steps.old ≤ steps.new }
         ensures counts { Counts steps.new steps.old self.new self.old }
         ensures kept { OnErr result (self.new.made ≡ self.old.made) }
@@ -347,7 +377,9 @@ impl<H: Host> Engine<H> {
         words: &Words,
         steps: &mut Steps<L>,
     ) -> Result<Ended, NoMemory>
-        ensures means { IfOk result (λ value. (names : Names) → Same names H.table self.new self.old (give value) (do_rename words.now)) }
+        ensures means { IfOk result (λ value.
+            (names : Names)
+            → Same names H.table self.new self.old (give value) (do_rename words.now)) }
         ensures keeps { OnOk result (Keeps self.new self.old) }
         ensures steps { steps.old ≤ steps.new }
         ensures counts { Counts steps.new steps.old self.new self.old }
@@ -373,7 +405,10 @@ impl<H: Host> Engine<H> {
 
     /// `eval word word*`.
     fn do_eval(&mut self, words: &Words, levels: u32) -> Result<Acted, NoMemory>
-        ensures means { IfOk result (λ acted. (names : Names) (opened : Option OpenQuestion) → Same names H.table self.new self.old (acted_next names H.table acted opened) (do_eval (nested names H.table levels) words.now)) }
+        ensures means { IfOk result (λ acted.
+            (names : Names) (opened : Option OpenQuestion)
+            → Same names H.table self.new self.old (acted_next names H.table acted opened)
+            (do_eval (nested names H.table levels) words.now)) }
         ensures lower { OnOk result (Lower self.new self.old 1) }
         ensures opens { IfOk result (λ acted. Opens acted self.new self.old) }
         ensures holds { Holds self.new self.old }
@@ -393,7 +428,10 @@ impl<H: Host> Engine<H> {
         name: Option<Text>,
         levels: u32,
     ) -> Result<Acted, NoMemory>
-        ensures means { IfOk result (λ acted. (names : Names) (opened : Option OpenQuestion) → Same names H.table self.new self.old (acted_next names H.table acted opened) (λ k. run_script names H.table levels (unread (arg words.now 1)) (catch_end name k))) }
+        ensures means { IfOk result (λ acted.
+            (names : Names) (opened : Option OpenQuestion)
+            → Same names H.table self.new self.old (acted_next names H.table acted opened) (λ k.
+            run_script names H.table levels (unread (arg words.now 1)) (catch_end name k))) }
         ensures lower { OnOk result (Lower self.new self.old 1) }
         ensures opens { IfOk result (λ acted. Opens acted self.new self.old) }
         ensures holds { Holds self.new self.old }
@@ -406,7 +444,10 @@ impl<H: Host> Engine<H> {
 
     /// `catch script ?name?`.
     fn do_catch(&mut self, words: &Words, levels: u32) -> Result<Acted, NoMemory>
-        ensures means { IfOk result (λ acted. (names : Names) (opened : Option OpenQuestion) → Same names H.table self.new self.old (acted_next names H.table acted opened) (do_catch (nested names H.table levels) words.now)) }
+        ensures means { IfOk result (λ acted.
+            (names : Names) (opened : Option OpenQuestion)
+            → Same names H.table self.new self.old (acted_next names H.table acted opened)
+            (do_catch (nested names H.table levels) words.now)) }
         ensures lower { OnOk result (Lower self.new self.old 1) }
         ensures opens { IfOk result (λ acted. Opens acted self.new self.old) }
         ensures holds { Holds self.new self.old }
@@ -426,7 +467,10 @@ impl<H: Host> Engine<H> {
     /// Does a command on variables.
     fn do_variables(&mut self, words: &Words) -> Result<Ended, NoMemory>
         requires { begins_var_command words.now ≡ true }
-        ensures means { IfOk result (λ value. (names : Names) → Same names H.table self.new self.old (give value) (λ k state. came_next (var_came state.frames words.now) k state)) }
+        ensures means { IfOk result (λ value.
+            (names : Names)
+            → Same names H.table self.new self.old (give value) (λ k state.
+            came_next (var_came state.frames words.now) k state)) }
         ensures keeps { OnOk result (Keeps self.new self.old) }
         ensures holds { Holds self.new self.old }
     {
@@ -440,7 +484,8 @@ impl<H: Host> Engine<H> {
     /// Calls a native, whose own name is the first word.
     fn call_native(&self, native: &Native, words: &Words) -> Result<Ended, NoMemory>
         requires { name_of native.now ≡ arg words.now 0 }
-        ensures means { IfOk result (λ value. (k : Next H) → give value k ≡ call_native words.now k) }
+        ensures means { IfOk result (λ value.
+            (k : Next H) → give value k ≡ call_native words.now k) }
     {
         let count = words.len();
         if count < (native.least() as usize) || (native.most() as usize) < count {
@@ -460,7 +505,13 @@ impl<H: Host> Engine<H> {
         words: &Words,
         steps: &mut Steps<L>,
     ) -> Result<Option<Ended>, NoMemory>
-        ensures means { IfOk result (λ value. (names : Names) (inner : Inner H) → ValueOf value (λ given. Same names H.table self.new self.old (give given) (built_in names H.table inner verb words.now)) (IsRunning verb × (self.new ≡ self.old))) }
+        ensures means { IfOk result (λ value.
+            (names : Names) (inner : Inner H)
+            → ValueOf value
+            (λ given.
+            Same names H.table self.new self.old (give given)
+            (built_in names H.table inner verb words.now))
+            (IsRunning verb × (self.new ≡ self.old))) }
         ensures keeps { OnOk result (Keeps self.new self.old) }
         ensures steps { steps.old ≤ steps.new }
         ensures counts { Counts steps.new steps.old self.new self.old }
@@ -490,7 +541,11 @@ impl<H: Host> Engine<H> {
     /// Does a built-in that runs a text, or one of the host's.
     fn do_running(&mut self, verb: Verb, words: Words, levels: u32) -> Result<Acted, NoMemory>
         requires { IsRunning verb }
-        ensures means { IfOk result (λ acted. (names : Names) → Same names H.table self.new self.old (acted_next names H.table acted self.new.question) (built_in names H.table (nested names H.table levels) verb words)) }
+        ensures means { IfOk result (λ acted.
+            (names : Names)
+            → Same names H.table self.new self.old
+            (acted_next names H.table acted self.new.question)
+            (built_in names H.table (nested names H.table levels) verb words)) }
         ensures lower { OnOk result (Lower self.new self.old 1) }
         ensures opens { IfOk result (λ acted. Opens acted self.new self.old) }
         ensures holds { HoldsTable self.new self.old }
@@ -519,7 +574,11 @@ impl<H: Host> Engine<H> {
         levels: u32,
         steps: &mut Steps<L>,
     ) -> Result<Acted, NoMemory>
-        ensures means { IfOk result (λ acted. (names : Names) → Same names H.table self.new self.old (acted_next names H.table acted self.new.question) (built_in names H.table (nested names H.table levels) verb words)) }
+        ensures means { IfOk result (λ acted.
+            (names : Names)
+            → Same names H.table self.new self.old
+            (acted_next names H.table acted self.new.question)
+            (built_in names H.table (nested names H.table levels) verb words)) }
         ensures lower { OnOk result (Lower self.new self.old 1) }
         ensures opens { IfOk result (λ acted. Opens acted self.new self.old) }
         ensures steps { steps.old ≤ steps.new }
@@ -543,7 +602,11 @@ impl<H: Host> Engine<H> {
         levels: u32,
         steps: &mut Steps<L>,
     ) -> Result<Acted, NoMemory>
-        ensures means { IfOk result (λ acted. Same (names_of natives.now) H.table self.new self.old (acted_next (names_of natives.now) H.table acted self.new.question) (built (names_of natives.now) H.table (nested (names_of natives.now) H.table levels) words)) }
+        ensures means { IfOk result (λ acted.
+            Same (names_of natives.now) H.table self.new self.old
+            (acted_next (names_of natives.now) H.table acted self.new.question)
+            (built (names_of natives.now) H.table (nested (names_of natives.now) H.table levels)
+            words)) }
         ensures lower { OnOk result (Lower self.new self.old 1) }
         ensures opens { IfOk result (λ acted. Opens acted self.new self.old) }
         ensures steps { steps.old ≤ steps.new }
@@ -567,7 +630,10 @@ impl<H: Host> Engine<H> {
 
     /// Writes the values of parameters; where one is refused, that is the error.
     pub(crate) fn write_all(&mut self, values: Pairs) -> Result<Option<Ended>, NoMemory>
-        ensures means { IfOk result (λ refused. (names : Names) (go : Next H → Rest H) → Same names H.table self.new self.old (after_writes refused go) (λ k. write_all values (go k) k)) }
+        ensures means { IfOk result (λ refused.
+            (names : Names) (go : Next H → Rest H)
+            → Same names H.table self.new self.old (after_writes refused go) (λ k.
+            write_all values (go k) k)) }
         ensures keeps { OnOk result (Keeps self.new self.old) }
         ensures holds { Holds self.new self.old }
     {
@@ -590,7 +656,10 @@ impl<H: Host> Engine<H> {
         words: &Words,
         levels: u32,
     ) -> Result<Acted, NoMemory>
-        ensures means { IfOk result (λ acted. (names : Names) (opened : Option OpenQuestion) → Same names H.table self.new self.old (acted_next names H.table acted opened) (call_proc (nested names H.table levels) params.now body.now words.now)) }
+        ensures means { IfOk result (λ acted.
+            (names : Names) (opened : Option OpenQuestion)
+            → Same names H.table self.new self.old (acted_next names H.table acted opened)
+            (call_proc (nested names H.table levels) params.now body.now words.now)) }
         ensures lower { OnOk result (Lower self.new self.old 1) }
         ensures opens { IfOk result (λ acted. Opens acted self.new self.old) }
         ensures holds { Holds self.new self.old }
@@ -618,7 +687,10 @@ impl<H: Host> Engine<H> {
         levels: u32,
         steps: &mut Steps<L>,
     ) -> Result<Acted, NoMemory>
-        ensures means { IfOk result (λ acted. Same (names_of natives.now) H.table self.new self.old (acted_next (names_of natives.now) H.table acted self.new.question) (act (names_of natives.now) H.table (nested (names_of natives.now) H.table levels) words)) }
+        ensures means { IfOk result (λ acted.
+            Same (names_of natives.now) H.table self.new self.old
+            (acted_next (names_of natives.now) H.table acted self.new.question)
+            (act (names_of natives.now) H.table (nested (names_of natives.now) H.table levels) words)) }
         ensures lower { OnOk result (Lower self.new self.old 1) }
         ensures opens { IfOk result (λ acted. Opens acted self.new self.old) }
         ensures steps { steps.old ≤ steps.new }

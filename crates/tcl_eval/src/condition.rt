@@ -1,7 +1,7 @@
 //! `if` under way.
 
 ghost use Rattle.std.specs.Prelude.{◌<◌, ◌≤◌, ◌+◌, IfOk, OnOk, Option, drop};
-ghost use Rattle.tcl_eval.specs.Natives.{Names};
+ghost use Rattle.txt_core.specs.Names.{Names};
 ghost use Rattle.tcl_eval.specs.Eval.{nested, do_if};
 ghost use Rattle.tcl_eval.specs.Branches.{choose};
 ghost use Rattle.tcl_eval.specs.Stack.{branch_next, branch_free};
@@ -23,7 +23,11 @@ use txt_core::{NoMemory, Text, Words, read_truth};
 impl<H: Host> Engine<H> {
     /// Goes on with the condition at a place, and where there is none with the last body.
     fn choose(&mut self, branches: Rc<Branches>, at: usize, levels: u32) -> Result<Acted, NoMemory>
-        ensures means { IfOk result (λ acted. (names : Names) (opened : Option OpenQuestion) → Same names H.table self.new self.old (acted_next names H.table acted opened) (choose (nested names H.table levels) (drop at branches.value.clauses) branches.value.last)) }
+        ensures means { IfOk result (λ acted.
+            (names : Names) (opened : Option OpenQuestion)
+            → Same names H.table self.new self.old (acted_next names H.table acted opened)
+            (choose (nested names H.table levels) (drop at branches.value.clauses)
+            branches.value.last)) }
         ensures lower { OnOk result (Lower self.new self.old 1) }
         ensures opens { IfOk result (λ acted. Opens acted self.new self.old) }
         ensures enters { IfOk result (λ acted. Enters acted (credit self.new ≤ credit self.old)) }
@@ -63,10 +67,16 @@ impl<H: Host> Engine<H> {
         levels: u32,
         value: Ended,
     ) -> Result<Acted, NoMemory>
-        ensures means { IfOk result (λ acted. (names : Names) (opened : Option OpenQuestion) → Same names H.table self.new self.old (acted_next names H.table acted opened) (λ k. branch_next names H.table (Branch.If body branches next levels) k value.code value.result)) }
+        ensures means { IfOk result (λ acted.
+            (names : Names) (opened : Option OpenQuestion)
+            → Same names H.table self.new self.old (acted_next names H.table acted opened) (λ k.
+            branch_next names H.table (Branch.If body branches next levels) k value.code
+            value.result)) }
         ensures lower { OnOk result (Lower self.new self.old 1) }
         ensures opens { IfOk result (λ acted. Opens acted self.new self.old) }
-        ensures enters { IfOk result (λ acted. Enters acted (credit self.new < credit self.old + branch_free (Branch.If body branches next levels))) }
+        ensures enters { IfOk result (λ acted.
+            Enters acted
+            (credit self.new < credit self.old + branch_free (Branch.If body branches next levels))) }
         ensures holds { Holds self.new self.old }
     {
         if value.code != OK {
@@ -90,7 +100,10 @@ impl<H: Host> Engine<H> {
 
     /// `if c ?then? body`, any `elseif c ?then? body`, `?else? body`.
     pub(crate) fn do_if(&mut self, words: &Words, levels: u32) -> Result<Acted, NoMemory>
-        ensures means { IfOk result (λ acted. (names : Names) (opened : Option OpenQuestion) → Same names H.table self.new self.old (acted_next names H.table acted opened) (do_if (nested names H.table levels) words.now)) }
+        ensures means { IfOk result (λ acted.
+            (names : Names) (opened : Option OpenQuestion)
+            → Same names H.table self.new self.old (acted_next names H.table acted opened)
+            (do_if (nested names H.table levels) words.now)) }
         ensures lower { OnOk result (Lower self.new self.old 1) }
         ensures opens { IfOk result (λ acted. Opens acted self.new self.old) }
         ensures holds { Holds self.new self.old }

@@ -59,7 +59,8 @@ impl<H: Host> Engine<H> {
     /// An engine with these commands, variables and host. Nothing is suspended, no definition is
     /// listed as made, and no budget is left.
     pub fn new(alloc: Global, table: CmdTable, frames: Frames, host: H) -> Engine<H>
-        ensures state { state_of result ≡ record { commands = table.table; frames = frames; host = host; made = [] } }
+        ensures state { state_of result
+            ≡ record { commands = table.table; frames = frames; host = host; made = [] } }
         ensures idle { IsIdle result }
         ensures budget { result.budget ≡ 0 }
     {
@@ -96,14 +97,18 @@ impl<H: Host> Engine<H> {
         requires idle { IsIdle self.old }
         requires least { 1 ≤ depth }
         requires most { depth ≤ 200 }
-        ensures stands { IfRan result (Stands (names_of natives.now) H.table result self.new (record { work = work; depth = depth; budget = budget; state = state_of self.old }) []) }
+        ensures stands { IfRan result
+            (Stands (names_of natives.now) H.table result self.new
+            (record { work = work; depth = depth; budget = budget; state = state_of self.old }) []) }
         ensures leaves { Leaves result self.new }
         ensures lower { IfRan result (self.new.budget ≤ budget) }
         ensures falls { IfRan result (FellTo result self.new budget) }
         ensures steps { steps.old ≤ steps.new }
         ensures counts { steps.new + Writes self.old.made ≡ steps.old + Writes self.new.made }
         ensures lasts { Lasts self.new self.old }
-        ensures front { (given : Given) → IsFront self.new.made (state_in (eval (names_of natives.now) H.table depth work (state_of self.old) budget given)).made }
+        ensures front { (given : Given)
+            → IsFront self.new.made
+            (state_in (eval (names_of natives.now) H.table depth work (state_of self.old) budget given)).made }
     {
         self.budget = budget;
         match self.begin(natives, work, depth, steps) {
@@ -124,14 +129,18 @@ impl<H: Host> Engine<H> {
         steps: &mut Steps<L>,
     ) -> Outcome
         requires { IsSome self.old.question }
-        ensures step { IfRan result (Answered (names_of natives.now) H.table result self.new self.old answer) }
-        ensures stands { IfRan result (StandsOn (names_of natives.now) H.table result self.new self.old answer) }
+        ensures step { IfRan result
+            (Answered (names_of natives.now) H.table result self.new self.old answer) }
+        ensures stands { IfRan result
+            (StandsOn (names_of natives.now) H.table result self.new self.old answer) }
         ensures leaves { Leaves result self.new }
         ensures falls { Falls H.table result self.new self.old answer }
         ensures steps { steps.old ≤ steps.new }
         ensures counts { steps.new + Writes self.old.made ≡ steps.old + Writes self.new.made }
         ensures lasts { Lasts self.new self.old }
-        ensures front { (question : Question) (charge : ℕ) (further : Given) → IsFront self.new.made (state_in (comes_to (names_of natives.now) H.table (Asks question) (with_more self.old charge) ((answer, charge) ∷ further))).made }
+        ensures front { (question : Question) (charge : ℕ) (further : Given)
+            → IsFront self.new.made
+            (state_in (comes_to (names_of natives.now) H.table (Asks question) (with_more self.old charge) ((answer, charge) ∷ further))).made }
     {
         match self.answer(natives, answer, steps) {
             Ok(outcome) => outcome,
@@ -203,9 +212,13 @@ impl<H: Host> Engine<H> {
         requires idle { IsIdle self.old }
         requires applies { Applies self.old.table.table def.now }
         requires base { IsKeepable def.now self.old.frames }
-        ensures ok { OnOk result (state_of self.new ≡ record (state_of self.old) { commands = defined self.old.table.table def.now; frames = kept_by def.now self.old.frames }) }
+        ensures ok { OnOk result
+            (state_of self.new
+            ≡ record (state_of self.old)
+            { commands = defined self.old.table.table def.now; frames = kept_by def.now self.old.frames }) }
         ensures steps { OnOk result (steps.new ≡ steps.old + writes def.now) }
-        ensures err { OnErr result ((state_of self.new ≡ state_of self.old) × (steps.new ≡ steps.old)) }
+        ensures err { OnErr result
+            ((state_of self.new ≡ state_of self.old) × (steps.new ≡ steps.old)) }
         ensures keeps { KeepsMarks self.old.table self.new.table }
         ensures marks { steps.new + mark_of self.old.table ≡ steps.old + mark_of self.new.table }
         ensures idle { IsIdle self.new }
@@ -225,7 +238,8 @@ impl<H: Host> Engine<H> {
     fn keep(&mut self, name: &Text, value: &Text) -> Result<(), NoMemory>
         requires base { IsAtBase self.old.frames }
         requires whole { is_element (named name.now) ≡ false }
-        ensures ok { OnOk result (self.new ≡ record self.old { frames = kept self.old.frames name.now value.now }) }
+        ensures ok { OnOk result
+            (self.new ≡ record self.old { frames = kept self.old.frames name.now value.now }) }
         ensures err { OnErr result (self.new ≡ self.old) }
     {
         let name = name.copy(self.alloc)?;
@@ -246,7 +260,9 @@ impl<H: Host> Engine<H> {
     /// this engine and not of a later state than it has now.
     pub fn clear<L: Ledger>(&mut self, mark: u64, steps: &mut Steps<L>)
         requires { mark ≤ mark_of self.old.table }
-        ensures state { state_of self.new ≡ record { commands = table_at self.old.table mark; frames = cleared self.old.frames; host = H.table.clears self.old.host; made = [] } }
+        ensures state { state_of self.new
+            ≡ record
+            { commands = table_at self.old.table mark; frames = cleared self.old.frames; host = H.table.clears self.old.host; made = [] } }
         ensures table { self.new.table ≡ back_at self.old.table mark }
         ensures idle { IsIdle self.new }
         ensures budget { self.new.budget ≡ self.old.budget }

@@ -1,9 +1,10 @@
 //! Expressions under way.
 
 ghost use Rattle.std.specs.Prelude.{◌≡◌, ◌<◌, ◌≤◌, ◌+◌, IfOk, OnOk, Option};
+ghost use Rattle.txt_core.specs.Names.{Names};
 ghost use Rattle.tcl_expr.specs.Trees.{binary, choice};
 ghost use Rattle.tcl_expr.specs.View.{tree_of};
-ghost use Rattle.tcl_eval.specs.Natives.{Names};
+ghost use Rattle.tcl_host.specs.Codes as code_of;
 ghost use Rattle.tcl_eval.specs.Messages.{no_boolean};
 ghost use Rattle.tcl_eval.specs.Eval.{nested, ended, error_of, give};
 ghost use Rattle.tcl_eval.specs.Expressions.{behind_left, run_expression, evaluate, do_expr};
@@ -41,7 +42,9 @@ const MOST_AT_ONCE: u32 = 60;
 impl<H: Host> Engine<H> {
     /// Goes on with a word of an expression.
     fn enter_operand(&self, word: Rc<Script>, levels: u32) -> Step
-        ensures means { (names : Names) → Same names H.table self.now self.now (step_next names H.table result) (run_expression (nested names H.table levels) (tree_of (Expr.Word word))) }
+        ensures means { (names : Names)
+            → Same names H.table self.now self.now (step_next names H.table result)
+            (run_expression (nested names H.table levels) (tree_of (Expr.Word word))) }
         ensures weighs { step_weight result < tree_size (tree_of (Expr.Word word)) }
         ensures free { step_free result ≡ 0 }
     {
@@ -54,8 +57,15 @@ impl<H: Host> Engine<H> {
 
     /// Goes on with a part of an expression, for whose value this frame waits.
     fn enter_part(&mut self, frame: Frame, part: Rc<Expr>, levels: u32) -> Result<Step, NoMemory>
-        ensures means { IfOk result (λ step. (names : Names) → Same names H.table self.new self.old (step_next names H.table step) (λ k. run_expression (nested names H.table levels) (tree_of part.value) (frame_next names H.table frame k))) }
-        ensures weighs { IfOk result (λ step. stack_weight self.new.stack.items + step_weight step ≤ stack_weight self.old.stack.items + (frame_weight frame + tree_size (tree_of part.value))) }
+        ensures means { IfOk result (λ step.
+            (names : Names)
+            → Same names H.table self.new self.old (step_next names H.table step) (λ k.
+            run_expression (nested names H.table levels) (tree_of part.value)
+            (frame_next names H.table frame k))) }
+        ensures weighs { IfOk result (λ step.
+            stack_weight self.new.stack.items + step_weight step ≤ stack_weight self.old.stack.items
+            +
+            (frame_weight frame + tree_size (tree_of part.value))) }
         ensures keeps { IfOk result (λ step. frame_free frame ≡ 0 → Stays step self.new self.old) }
         ensures holds { Holds self.new self.old }
     {
@@ -72,8 +82,15 @@ impl<H: Host> Engine<H> {
         right: &Rc<Expr>,
         levels: u32,
     ) -> Result<Step, NoMemory>
-        ensures means { IfOk result (λ step. (names : Names) → Same names H.table self.new self.old (step_next names H.table step) (run_expression (nested names H.table levels) (binary op (tree_of left.now.value) (tree_of right.now.value)))) }
-        ensures weighs { IfOk result (λ step. stack_weight self.new.stack.items + step_weight step < stack_weight self.old.stack.items + tree_size (binary op (tree_of left.now.value) (tree_of right.now.value))) }
+        ensures means { IfOk result (λ step.
+            (names : Names)
+            → Same names H.table self.new self.old (step_next names H.table step)
+            (run_expression (nested names H.table levels)
+            (binary op (tree_of left.now.value) (tree_of right.now.value)))) }
+        ensures weighs { IfOk result (λ step.
+            stack_weight self.new.stack.items + step_weight step < stack_weight self.old.stack.items
+            + tree_size
+            (binary op (tree_of left.now.value) (tree_of right.now.value))) }
         ensures keeps { IfOk result (λ step. Stays step self.new self.old) }
         ensures holds { Holds self.new self.old }
     {
@@ -91,8 +108,15 @@ impl<H: Host> Engine<H> {
         second: &Rc<Expr>,
         levels: u32,
     ) -> Result<Step, NoMemory>
-        ensures means { IfOk result (λ step. (names : Names) → Same names H.table self.new self.old (step_next names H.table step) (run_expression (nested names H.table levels) (choice (tree_of test.now.value) (tree_of first.now.value) (tree_of second.now.value)))) }
-        ensures weighs { IfOk result (λ step. stack_weight self.new.stack.items + step_weight step < stack_weight self.old.stack.items + tree_size (choice (tree_of test.now.value) (tree_of first.now.value) (tree_of second.now.value))) }
+        ensures means { IfOk result (λ step.
+            (names : Names)
+            → Same names H.table self.new self.old (step_next names H.table step)
+            (run_expression (nested names H.table levels)
+            (choice (tree_of test.now.value) (tree_of first.now.value) (tree_of second.now.value)))) }
+        ensures weighs { IfOk result (λ step.
+            stack_weight self.new.stack.items + step_weight step < stack_weight self.old.stack.items
+            + tree_size
+            (choice (tree_of test.now.value) (tree_of first.now.value) (tree_of second.now.value))) }
         ensures keeps { IfOk result (λ step. Stays step self.new self.old) }
         ensures holds { Holds self.new self.old }
     {
@@ -113,8 +137,13 @@ impl<H: Host> Engine<H> {
         levels: u32,
         value: Ended,
     ) -> Result<Step, NoMemory>
-        ensures means { IfOk result (λ step. (names : Names) → Same names H.table self.new self.old (step_next names H.table step) (λ k. frame_next names H.table (Frame.Expression expr levels) k value.code value.result)) }
-        ensures falls { IfOk result (λ step. stack_weight self.new.stack.items + step_weight step < stack_weight self.old.stack.items + frame_weight (Frame.Expression expr levels)) }
+        ensures means { IfOk result (λ step.
+            (names : Names)
+            → Same names H.table self.new self.old (step_next names H.table step) (λ k.
+            frame_next names H.table (Frame.Expression expr levels) k value.code value.result)) }
+        ensures falls { IfOk result (λ step.
+            stack_weight self.new.stack.items + step_weight step < stack_weight self.old.stack.items
+            + frame_weight (Frame.Expression expr levels)) }
         ensures keeps { IfOk result (λ step. Stays step self.new self.old) }
         ensures holds { Holds self.new self.old }
     {
@@ -148,7 +177,10 @@ impl<H: Host> Engine<H> {
 
     /// Applies an operator to its operand.
     pub(crate) fn give_operation(&self, op: Op, value: Ended) -> Result<Step, NoMemory>
-        ensures means { IfOk result (λ step. (names : Names) → Same names H.table self.now self.now (step_next names H.table step) (λ k. frame_next names H.table (Frame.Operation op) k value.code value.result)) }
+        ensures means { IfOk result (λ step.
+            (names : Names)
+            → Same names H.table self.now self.now (step_next names H.table step) (λ k.
+            frame_next names H.table (Frame.Operation op) k value.code value.result)) }
         ensures light { IfOk result (λ step. step_weight step + step_free step ≡ 0) }
     {
         if value.code != OK {
@@ -165,8 +197,14 @@ impl<H: Host> Engine<H> {
         right: Rc<Expr>,
         levels: u32,
     ) -> Result<Step, NoMemory>
-        ensures means { IfOk result (λ step. (names : Names) → Same names H.table self.new self.old (step_next names H.table step) (λ k. run_expression (nested names H.table levels) (tree_of right.value) (frame_next names H.table (Frame.Right op left) k))) }
-        ensures weighs { IfOk result (λ step. stack_weight self.new.stack.items + step_weight step < stack_weight self.old.stack.items + frame_weight (Frame.Left op right levels)) }
+        ensures means { IfOk result (λ step.
+            (names : Names)
+            → Same names H.table self.new self.old (step_next names H.table step) (λ k.
+            run_expression (nested names H.table levels) (tree_of right.value)
+            (frame_next names H.table (Frame.Right op left) k))) }
+        ensures weighs { IfOk result (λ step.
+            stack_weight self.new.stack.items + step_weight step < stack_weight self.old.stack.items
+            + frame_weight (Frame.Left op right levels)) }
         ensures keeps { IfOk result (λ step. Stays step self.new self.old) }
         ensures holds { Holds self.new self.old }
     {
@@ -184,7 +222,7 @@ impl<H: Host> Engine<H> {
 
     /// Ends an expression at this value.
     fn value_step(&self, text: &[u8]) -> Result<Step, NoMemory>
-        ensures { IfOk result (λ step. step ≡ Step.Value (ended 0 text.now)) }
+        ensures { IfOk result (λ step. step ≡ Step.Value (ended code_of.ok text.now)) }
     {
         let result = Text::new(self.alloc, text)?;
         Ok(Step::Value(Ended { code: OK, result }))
@@ -199,8 +237,16 @@ impl<H: Host> Engine<H> {
         right: Rc<Expr>,
         levels: u32,
     ) -> Result<Step, NoMemory>
-        ensures means { IfOk result (λ step. (names : Names) → Same names H.table self.new self.old (step_next names H.table step) (λ k. behind_left way left (run_expression (nested names H.table levels) (tree_of right.value) (frame_next names H.table (Frame.Right op left) k)) k)) }
-        ensures weighs { IfOk result (λ step. stack_weight self.new.stack.items + step_weight step < stack_weight self.old.stack.items + frame_weight (Frame.Left op right levels)) }
+        ensures means { IfOk result (λ step.
+            (names : Names)
+            → Same names H.table self.new self.old (step_next names H.table step) (λ k.
+            behind_left way left
+            (run_expression (nested names H.table levels) (tree_of right.value)
+            (frame_next names H.table (Frame.Right op left) k))
+            k)) }
+        ensures weighs { IfOk result (λ step.
+            stack_weight self.new.stack.items + step_weight step < stack_weight self.old.stack.items
+            + frame_weight (Frame.Left op right levels)) }
         ensures keeps { IfOk result (λ step. Stays step self.new self.old) }
         ensures holds { Holds self.new self.old }
     {
@@ -248,8 +294,13 @@ impl<H: Host> Engine<H> {
         levels: u32,
         value: Ended,
     ) -> Result<Step, NoMemory>
-        ensures means { IfOk result (λ step. (names : Names) → Same names H.table self.new self.old (step_next names H.table step) (λ k. frame_next names H.table (Frame.Left op right levels) k value.code value.result)) }
-        ensures falls { IfOk result (λ step. stack_weight self.new.stack.items + step_weight step < stack_weight self.old.stack.items + frame_weight (Frame.Left op right levels)) }
+        ensures means { IfOk result (λ step.
+            (names : Names)
+            → Same names H.table self.new self.old (step_next names H.table step) (λ k.
+            frame_next names H.table (Frame.Left op right levels) k value.code value.result)) }
+        ensures falls { IfOk result (λ step.
+            stack_weight self.new.stack.items + step_weight step < stack_weight self.old.stack.items
+            + frame_weight (Frame.Left op right levels)) }
         ensures keeps { IfOk result (λ step. Stays step self.new self.old) }
         ensures holds { Holds self.new self.old }
     {
@@ -262,7 +313,10 @@ impl<H: Host> Engine<H> {
 
     /// Applies an operator to its operands.
     pub(crate) fn give_right(&self, op: Op, left: Text, value: Ended) -> Result<Step, NoMemory>
-        ensures means { IfOk result (λ step. (names : Names) → Same names H.table self.now self.now (step_next names H.table step) (λ k. frame_next names H.table (Frame.Right op left) k value.code value.result)) }
+        ensures means { IfOk result (λ step.
+            (names : Names)
+            → Same names H.table self.now self.now (step_next names H.table step) (λ k.
+            frame_next names H.table (Frame.Right op left) k value.code value.result)) }
         ensures light { IfOk result (λ step. step_weight step + step_free step ≡ 0) }
     {
         if value.code != OK {
@@ -273,8 +327,13 @@ impl<H: Host> Engine<H> {
 
     /// Goes on with a part of an expression, whose value is that of the whole.
     fn enter_chosen(&mut self, part: Rc<Expr>, levels: u32) -> Result<Step, NoMemory>
-        ensures means { IfOk result (λ step. (names : Names) → Same names H.table self.new self.old (step_next names H.table step) (run_expression (nested names H.table levels) (tree_of part.value))) }
-        ensures weighs { IfOk result (λ step. stack_weight self.new.stack.items + step_weight step ≤ stack_weight self.old.stack.items + tree_size (tree_of part.value)) }
+        ensures means { IfOk result (λ step.
+            (names : Names)
+            → Same names H.table self.new self.old (step_next names H.table step)
+            (run_expression (nested names H.table levels) (tree_of part.value))) }
+        ensures weighs { IfOk result (λ step.
+            stack_weight self.new.stack.items + step_weight step ≤ stack_weight self.old.stack.items
+            + tree_size (tree_of part.value)) }
         ensures keeps { IfOk result (λ step. Stays step self.new self.old) }
         ensures holds { Holds self.new self.old }
     {
@@ -290,8 +349,13 @@ impl<H: Host> Engine<H> {
         levels: u32,
         value: Ended,
     ) -> Result<Step, NoMemory>
-        ensures means { IfOk result (λ step. (names : Names) → Same names H.table self.new self.old (step_next names H.table step) (λ k. frame_next names H.table (Frame.Choice first second levels) k value.code value.result)) }
-        ensures falls { IfOk result (λ step. stack_weight self.new.stack.items + step_weight step < stack_weight self.old.stack.items + frame_weight (Frame.Choice first second levels)) }
+        ensures means { IfOk result (λ step.
+            (names : Names)
+            → Same names H.table self.new self.old (step_next names H.table step) (λ k.
+            frame_next names H.table (Frame.Choice first second levels) k value.code value.result)) }
+        ensures falls { IfOk result (λ step.
+            stack_weight self.new.stack.items + step_weight step < stack_weight self.old.stack.items
+            + frame_weight (Frame.Choice first second levels)) }
         ensures keeps { IfOk result (λ step. Stays step self.new self.old) }
         ensures holds { Holds self.new self.old }
     {
@@ -316,7 +380,10 @@ impl<H: Host> Engine<H> {
 
     /// Ends an `expr`.
     pub(crate) fn give_value(&self, value: Ended) -> Result<Step, NoMemory>
-        ensures means { IfOk result (λ step. (names : Names) → Same names H.table self.now self.now (step_next names H.table step) (λ k. frame_next names H.table Frame.Value k value.code value.result)) }
+        ensures means { IfOk result (λ step.
+            (names : Names)
+            → Same names H.table self.now self.now (step_next names H.table step) (λ k.
+            frame_next names H.table Frame.Value k value.code value.result)) }
         ensures light { IfOk result (λ step. step_weight step + step_free step ≡ 0) }
     {
         if value.code != OK {
@@ -331,10 +398,14 @@ impl<H: Host> Engine<H> {
     /// Pays for the evaluation of a text as an expression, which then begins. One that can't be suspended
     /// has ended at once.
     pub(crate) fn evaluate_read(&mut self, text: &ReadExpr, levels: u32) -> Result<Acted, NoMemory>
-        ensures means { IfOk result (λ acted. (names : Names) (opened : Option OpenQuestion) → Same names H.table self.new self.old (acted_next names H.table acted opened) (evaluate (nested names H.table levels) text.now)) }
+        ensures means { IfOk result (λ acted.
+            (names : Names) (opened : Option OpenQuestion)
+            → Same names H.table self.new self.old (acted_next names H.table acted opened)
+            (evaluate (nested names H.table levels) text.now)) }
         ensures lower { OnOk result (Lower self.new self.old 0) }
         ensures opens { IfOk result (λ acted. Opens acted self.new self.old) }
-        ensures enters { IfOk result (λ acted. Enters acted (credit self.new + 2 ≤ credit self.old)) }
+        ensures enters { IfOk result (λ acted.
+            Enters acted (credit self.new + 2 ≤ credit self.old)) }
         ensures holds { Holds self.new self.old }
     {
         if !self.pay(EVALUATION_COST) {
@@ -355,7 +426,10 @@ impl<H: Host> Engine<H> {
     /// Begins an expression: this is what it comes to, where it can't be suspended, and else what the frame
     /// gets that is put on top.
     fn begin_expression(&mut self, expr: &Rc<Expr>, levels: u32) -> Result<Ended, NoMemory>
-        ensures means { IfOk result (λ ended. (names : Names) → Same names H.table self.new self.old (give ended) (run_expression (nested names H.table levels) (tree_of expr.now.value))) }
+        ensures means { IfOk result (λ ended.
+            (names : Names)
+            → Same names H.table self.new self.old (give ended)
+            (run_expression (nested names H.table levels) (tree_of expr.now.value))) }
         ensures keeps { OnOk result (Keeps self.new self.old) }
         ensures holds { Holds self.new self.old }
     {
@@ -371,10 +445,14 @@ impl<H: Host> Engine<H> {
 
     /// Pays for the evaluation of a text as an expression, which is read where it isn't kept, and begins.
     pub(crate) fn evaluate(&mut self, text: &Text, levels: u32) -> Result<Acted, NoMemory>
-        ensures means { IfOk result (λ acted. (names : Names) (opened : Option OpenQuestion) → Same names H.table self.new self.old (acted_next names H.table acted opened) (evaluate (nested names H.table levels) text.now)) }
+        ensures means { IfOk result (λ acted.
+            (names : Names) (opened : Option OpenQuestion)
+            → Same names H.table self.new self.old (acted_next names H.table acted opened)
+            (evaluate (nested names H.table levels) text.now)) }
         ensures lower { OnOk result (Lower self.new self.old 0) }
         ensures opens { IfOk result (λ acted. Opens acted self.new self.old) }
-        ensures enters { IfOk result (λ acted. Enters acted (credit self.new + 2 ≤ credit self.old)) }
+        ensures enters { IfOk result (λ acted.
+            Enters acted (credit self.new + 2 ≤ credit self.old)) }
         ensures holds { Holds self.new self.old }
     {
         let read = self.expressions.read(self.alloc, text)?;
@@ -384,7 +462,10 @@ impl<H: Host> Engine<H> {
 
     /// `expr word word*`.
     pub(crate) fn do_expr(&mut self, words: &Words, levels: u32) -> Result<Acted, NoMemory>
-        ensures means { IfOk result (λ acted. (names : Names) (opened : Option OpenQuestion) → Same names H.table self.new self.old (acted_next names H.table acted opened) (do_expr (nested names H.table levels) words.now)) }
+        ensures means { IfOk result (λ acted.
+            (names : Names) (opened : Option OpenQuestion)
+            → Same names H.table self.new self.old (acted_next names H.table acted opened)
+            (do_expr (nested names H.table levels) words.now)) }
         ensures lower { OnOk result (Lower self.new self.old 1) }
         ensures opens { IfOk result (λ acted. Opens acted self.new self.old) }
         ensures holds { Holds self.new self.old }

@@ -58,10 +58,11 @@ pub struct Gathered {
 }
 
 impl Model for Gathered {
-    ghost use Rattle.std.specs.Prelude.{ℕ, List, length, sum_by, ◌≡◌};
+    ghost use Rattle.std.specs.Prelude.{length, sum_by, ◌≡◌};
     ghost use Rattle.std.specs.Coded.{coded_list, coded_ℕ};
+    ghost use Rattle.txt_core.specs.Names.{Words};
 
-    ghost Value = { List (List ℕ) };
+    ghost Value = { Words };
 
     ghost coded = { coded_list (coded_list coded_ℕ) };
 

@@ -22,7 +22,8 @@ use txt_core::{NoMemory, Text, Words, glob};
 
 /// Those names that match a pattern, or all where there is none.
 fn picked(alloc: Global, names: &[Text], pattern: Option<&Text>) -> Result<Words, NoMemory>
-    ensures { IfOk result (λ found. found ≡ filter (is_picked (option_copied pattern.entry)) names.now) }
+    ensures { IfOk result (λ found.
+        found ≡ filter (is_picked (option_copied pattern.entry)) names.now) }
 {
     let mut found = Words::new(alloc);
     for name in names {
@@ -64,7 +65,8 @@ fn names_said(alloc: Global, params: &Text) -> Result<Ended, NoMemory>
 impl<H: Host> Engine<H> {
     /// `info commands ?glob?`.
     fn info_commands(&self, words: &Words) -> Result<Ended, NoMemory>
-        ensures { IfOk result (λ value. value ≡ names_picked self.now.table.table (slice_get words.now 2)) }
+        ensures { IfOk result (λ value.
+            value ≡ names_picked self.now.table.table (slice_get words.now 2)) }
     {
         let names = self.table.names()?;
         let found = picked(self.alloc, names.as_slice(), words.get(2))?;
@@ -76,7 +78,8 @@ impl<H: Host> Engine<H> {
 
     /// `info args p`.
     fn info_args(&self, name: &Text) -> Result<Ended, NoMemory>
-        ensures { IfOk result (λ value. value ≡ args_said name.now (command_of self.now.table.table name.now)) }
+        ensures { IfOk result (λ value.
+            value ≡ args_said name.now (command_of self.now.table.table name.now)) }
     {
         match self.table.get(name) {
             Some(Cmd::Proc { params, .. }) => names_said(self.alloc, params),
@@ -86,7 +89,8 @@ impl<H: Host> Engine<H> {
 
     /// `info body p`.
     fn info_body(&self, name: &Text) -> Result<Ended, NoMemory>
-        ensures { IfOk result (λ value. value ≡ body_said name.now (command_of self.now.table.table name.now)) }
+        ensures { IfOk result (λ value.
+            value ≡ body_said name.now (command_of self.now.table.table name.now)) }
     {
         match self.table.get(name) {
             Some(Cmd::Proc { body, .. }) => Ok(Ended {

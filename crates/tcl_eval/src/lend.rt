@@ -11,7 +11,8 @@ use tcl_host::Host;
 impl<H: Host> Engine<H> {
     /// The host, to be changed. All else stays as it is.
     pub fn host_mut(&mut self) -> &mut H
-        ensures* lends { sem 𝓛 (Lends (the_row H.row) H.row self.entry result (hosted_by self.entry.now)) }
+        ensures* lends { sem 𝓛
+            (Lends (the_row H.row) H.row self.entry result (hosted_by self.entry.now)) }
         ensures value { result.now ≡ self.entry.now.host }
     {
         &mut self.host

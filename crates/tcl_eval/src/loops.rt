@@ -1,8 +1,8 @@
 //! Loops under way.
 
 ghost use Rattle.std.specs.Prelude.{◌≡◌, ◌<◌, ◌≤◌, ◌+◌, IfOk, OnOk, Option, drop, length};
+ghost use Rattle.txt_core.specs.Names.{Names};
 ghost use Rattle.tcl_eval.specs.State.{Next};
-ghost use Rattle.tcl_eval.specs.Natives.{Names};
 ghost use Rattle.tcl_eval.specs.Eval.{nested, unread, do_while, do_for, do_foreach};
 ghost use Rattle.tcl_eval.specs.Loops.{assigned, in_loop, turns, turn_on, turn_body, walk_on, walk_all};
 ghost use Rattle.tcl_eval.specs.LoopsSeen.{flow_of};
@@ -81,7 +81,10 @@ fn from_place(items: &[Text], at: usize) -> &[Text]
 impl<H: Host> Engine<H> {
     /// Begins a turn of a loop, where one is left, with its condition.
     fn next_turn(&mut self, turning: Rc<Turning>, left: u64, levels: u32) -> Result<Acted, NoMemory>
-        ensures means { IfOk result (λ acted. (names : Names) (opened : Option OpenQuestion) → Same names H.table self.new self.old (acted_next names H.table acted opened) (turns (nested names H.table levels) turning.value left)) }
+        ensures means { IfOk result (λ acted.
+            (names : Names) (opened : Option OpenQuestion)
+            → Same names H.table self.new self.old (acted_next names H.table acted opened)
+            (turns (nested names H.table levels) turning.value left)) }
         ensures lower { OnOk result (Lower self.new self.old 1) }
         ensures opens { IfOk result (λ acted. Opens acted self.new self.old) }
         ensures enters { IfOk result (λ acted. Enters acted (credit self.new < credit self.old)) }
@@ -102,7 +105,10 @@ impl<H: Host> Engine<H> {
 
     /// Begins the turns of a loop, of which there are as many as the budget that is left.
     fn begin_turns(&mut self, turning: Turning, levels: u32) -> Result<Acted, NoMemory>
-        ensures means { IfOk result (λ acted. (names : Names) (opened : Option OpenQuestion) → Same names H.table self.new self.old (acted_next names H.table acted opened) (turn_on (nested names H.table levels) turning)) }
+        ensures means { IfOk result (λ acted.
+            (names : Names) (opened : Option OpenQuestion)
+            → Same names H.table self.new self.old (acted_next names H.table acted opened)
+            (turn_on (nested names H.table levels) turning)) }
         ensures lower { OnOk result (Lower self.new self.old 1) }
         ensures opens { IfOk result (λ acted. Opens acted self.new self.old) }
         ensures holds { Holds self.new self.old }
@@ -114,7 +120,10 @@ impl<H: Host> Engine<H> {
 
     /// `while c body`.
     pub(crate) fn do_while(&mut self, words: &Words, levels: u32) -> Result<Acted, NoMemory>
-        ensures means { IfOk result (λ acted. (names : Names) (opened : Option OpenQuestion) → Same names H.table self.new self.old (acted_next names H.table acted opened) (do_while (nested names H.table levels) words.now)) }
+        ensures means { IfOk result (λ acted.
+            (names : Names) (opened : Option OpenQuestion)
+            → Same names H.table self.new self.old (acted_next names H.table acted opened)
+            (do_while (nested names H.table levels) words.now)) }
         ensures lower { OnOk result (Lower self.new self.old 1) }
         ensures opens { IfOk result (λ acted. Opens acted self.new self.old) }
         ensures holds { Holds self.new self.old }
@@ -135,7 +144,10 @@ impl<H: Host> Engine<H> {
 
     /// `for start c next body`.
     pub(crate) fn do_for(&mut self, words: &Words, levels: u32) -> Result<Acted, NoMemory>
-        ensures means { IfOk result (λ acted. (names : Names) (opened : Option OpenQuestion) → Same names H.table self.new self.old (acted_next names H.table acted opened) (do_for (nested names H.table levels) words.now)) }
+        ensures means { IfOk result (λ acted.
+            (names : Names) (opened : Option OpenQuestion)
+            → Same names H.table self.new self.old (acted_next names H.table acted opened)
+            (do_for (nested names H.table levels) words.now)) }
         ensures lower { OnOk result (Lower self.new self.old 1) }
         ensures opens { IfOk result (λ acted. Opens acted self.new self.old) }
         ensures holds { Holds self.new self.old }
@@ -166,10 +178,15 @@ impl<H: Host> Engine<H> {
         levels: u32,
         value: Ended,
     ) -> Result<Acted, NoMemory>
-        ensures means { IfOk result (λ acted. (names : Names) (opened : Option OpenQuestion) → Same names H.table self.new self.old (acted_next names H.table acted opened) (λ k. branch_next names H.table (Branch.Start turning levels) k value.code value.result)) }
+        ensures means { IfOk result (λ acted.
+            (names : Names) (opened : Option OpenQuestion)
+            → Same names H.table self.new self.old (acted_next names H.table acted opened) (λ k.
+            branch_next names H.table (Branch.Start turning levels) k value.code value.result)) }
         ensures lower { OnOk result (Lower self.new self.old 1) }
         ensures opens { IfOk result (λ acted. Opens acted self.new self.old) }
-        ensures enters { IfOk result (λ acted. Enters acted (credit self.new < credit self.old + branch_free (Branch.Start turning levels))) }
+        ensures enters { IfOk result (λ acted.
+            Enters acted
+            (credit self.new < credit self.old + branch_free (Branch.Start turning levels))) }
         ensures holds { Holds self.new self.old }
     {
         if value.code != OK {
@@ -186,7 +203,11 @@ impl<H: Host> Engine<H> {
         left: u64,
         levels: u32,
     ) -> Result<Acted, NoMemory>
-        ensures means { IfOk result (λ acted. (names : Names) (opened : Option OpenQuestion) → Same names H.table self.new self.old (acted_next names H.table acted opened) (λ k. turn_body (nested names H.table levels) turning.value (turns (nested names H.table levels) turning.value left k) k)) }
+        ensures means { IfOk result (λ acted.
+            (names : Names) (opened : Option OpenQuestion)
+            → Same names H.table self.new self.old (acted_next names H.table acted opened) (λ k.
+            turn_body (nested names H.table levels) turning.value
+            (turns (nested names H.table levels) turning.value left k) k)) }
         ensures lower { OnOk result (Lower self.new self.old 1) }
         ensures opens { IfOk result (λ acted. Opens acted self.new self.old) }
         ensures enters { IfOk result (λ acted. Enters acted (credit self.new ≤ credit self.old)) }
@@ -213,10 +234,16 @@ impl<H: Host> Engine<H> {
         levels: u32,
         value: Ended,
     ) -> Result<Acted, NoMemory>
-        ensures means { IfOk result (λ acted. (names : Names) (opened : Option OpenQuestion) → Same names H.table self.new self.old (acted_next names H.table acted opened) (λ k. branch_next names H.table (Branch.Condition turning left levels) k value.code value.result)) }
+        ensures means { IfOk result (λ acted.
+            (names : Names) (opened : Option OpenQuestion)
+            → Same names H.table self.new self.old (acted_next names H.table acted opened) (λ k.
+            branch_next names H.table (Branch.Condition turning left levels) k value.code
+            value.result)) }
         ensures lower { OnOk result (Lower self.new self.old 1) }
         ensures opens { IfOk result (λ acted. Opens acted self.new self.old) }
-        ensures enters { IfOk result (λ acted. Enters acted (credit self.new < credit self.old + branch_free (Branch.Condition turning left levels))) }
+        ensures enters { IfOk result (λ acted.
+            Enters acted
+            (credit self.new < credit self.old + branch_free (Branch.Condition turning left levels))) }
         ensures holds { Holds self.new self.old }
     {
         if value.code != OK {
@@ -243,10 +270,15 @@ impl<H: Host> Engine<H> {
         levels: u32,
         value: Ended,
     ) -> Result<Acted, NoMemory>
-        ensures means { IfOk result (λ acted. (names : Names) (opened : Option OpenQuestion) → Same names H.table self.new self.old (acted_next names H.table acted opened) (λ k. branch_next names H.table (Branch.Body turning left levels) k value.code value.result)) }
+        ensures means { IfOk result (λ acted.
+            (names : Names) (opened : Option OpenQuestion)
+            → Same names H.table self.new self.old (acted_next names H.table acted opened) (λ k.
+            branch_next names H.table (Branch.Body turning left levels) k value.code value.result)) }
         ensures lower { OnOk result (Lower self.new self.old 1) }
         ensures opens { IfOk result (λ acted. Opens acted self.new self.old) }
-        ensures enters { IfOk result (λ acted. Enters acted (credit self.new < credit self.old + branch_free (Branch.Body turning left levels))) }
+        ensures enters { IfOk result (λ acted.
+            Enters acted
+            (credit self.new < credit self.old + branch_free (Branch.Body turning left levels))) }
         ensures holds { Holds self.new self.old }
     {
         match flow_from(self.alloc, value) {
@@ -278,10 +310,15 @@ impl<H: Host> Engine<H> {
         levels: u32,
         value: Ended,
     ) -> Result<Acted, NoMemory>
-        ensures means { IfOk result (λ acted. (names : Names) (opened : Option OpenQuestion) → Same names H.table self.new self.old (acted_next names H.table acted opened) (λ k. branch_next names H.table (Branch.Next turning left levels) k value.code value.result)) }
+        ensures means { IfOk result (λ acted.
+            (names : Names) (opened : Option OpenQuestion)
+            → Same names H.table self.new self.old (acted_next names H.table acted opened) (λ k.
+            branch_next names H.table (Branch.Next turning left levels) k value.code value.result)) }
         ensures lower { OnOk result (Lower self.new self.old 1) }
         ensures opens { IfOk result (λ acted. Opens acted self.new self.old) }
-        ensures enters { IfOk result (λ acted. Enters acted (credit self.new < credit self.old + branch_free (Branch.Next turning left levels))) }
+        ensures enters { IfOk result (λ acted.
+            Enters acted
+            (credit self.new < credit self.old + branch_free (Branch.Next turning left levels))) }
         ensures holds { Holds self.new self.old }
     {
         match flow_from(self.alloc, value) {
@@ -301,7 +338,11 @@ impl<H: Host> Engine<H> {
         left: usize,
         levels: u32,
     ) -> Result<Acted, NoMemory>
-        ensures means { IfOk result (λ acted. (names : Names) (opened : Option OpenQuestion) → Same names H.table self.new self.old (acted_next names H.table acted opened) (walk_on (nested names H.table levels) walk.value.names walk.value.body left (drop at walk.value.values))) }
+        ensures means { IfOk result (λ acted.
+            (names : Names) (opened : Option OpenQuestion)
+            → Same names H.table self.new self.old (acted_next names H.table acted opened)
+            (walk_on (nested names H.table levels) walk.value.names walk.value.body left
+            (drop at walk.value.values))) }
         ensures lower { OnOk result (Lower self.new self.old 1) }
         ensures opens { IfOk result (λ acted. Opens acted self.new self.old) }
         ensures enters { IfOk result (λ acted. Enters acted (credit self.new ≤ credit self.old)) }
@@ -332,10 +373,18 @@ impl<H: Host> Engine<H> {
         left: usize,
         levels: u32,
     ) -> Result<Acted, NoMemory>
-        ensures means { IfOk result (λ acted. (names : Names) (opened : Option OpenQuestion) → Same names H.table self.new self.old (acted_next names H.table acted opened) (λ k. (nested names H.table levels).run (unread walk.value.body) (in_loop (walk_on (nested names H.table levels) walk.value.names walk.value.body left (drop (length walk.value.names) (drop at walk.value.values)) k) k))) }
+        ensures means { IfOk result (λ acted.
+            (names : Names) (opened : Option OpenQuestion)
+            → Same names H.table self.new self.old (acted_next names H.table acted opened) (λ k.
+            (nested names H.table levels).run (unread walk.value.body)
+            (in_loop
+            (walk_on (nested names H.table levels) walk.value.names walk.value.body left
+            (drop (length walk.value.names) (drop at walk.value.values)) k)
+            k))) }
         ensures lower { OnOk result (Lower self.new self.old 1) }
         ensures opens { IfOk result (λ acted. Opens acted self.new self.old) }
-        ensures enters { IfOk result (λ acted. Enters acted (credit self.new ≤ credit self.old + 1)) }
+        ensures enters { IfOk result (λ acted.
+            Enters acted (credit self.new ≤ credit self.old + 1)) }
         ensures holds { Holds self.new self.old }
     {
         let next = place_behind(at, walk.names.len(), walk.values.len());
@@ -359,10 +408,15 @@ impl<H: Host> Engine<H> {
         levels: u32,
         value: Ended,
     ) -> Result<Acted, NoMemory>
-        ensures means { IfOk result (λ acted. (names : Names) (opened : Option OpenQuestion) → Same names H.table self.new self.old (acted_next names H.table acted opened) (λ k. branch_next names H.table (Branch.Each walk at left levels) k value.code value.result)) }
+        ensures means { IfOk result (λ acted.
+            (names : Names) (opened : Option OpenQuestion)
+            → Same names H.table self.new self.old (acted_next names H.table acted opened) (λ k.
+            branch_next names H.table (Branch.Each walk at left levels) k value.code value.result)) }
         ensures lower { OnOk result (Lower self.new self.old 1) }
         ensures opens { IfOk result (λ acted. Opens acted self.new self.old) }
-        ensures enters { IfOk result (λ acted. Enters acted (credit self.new < credit self.old + branch_free (Branch.Each walk at left levels))) }
+        ensures enters { IfOk result (λ acted.
+            Enters acted
+            (credit self.new < credit self.old + branch_free (Branch.Each walk at left levels))) }
         ensures holds { Holds self.new self.old }
     {
         match flow_from(self.alloc, value) {
@@ -377,7 +431,10 @@ impl<H: Host> Engine<H> {
     /// Begins the turns over values, of which there are as many as it takes for all of them.
     fn begin_walk(&mut self, walk: Walk, levels: u32) -> Result<Acted, NoMemory>
         requires { 0 < length walk.names }
-        ensures means { IfOk result (λ acted. (names : Names) (opened : Option OpenQuestion) → Same names H.table self.new self.old (acted_next names H.table acted opened) (walk_all (nested names H.table levels) walk.names walk.values walk.body)) }
+        ensures means { IfOk result (λ acted.
+            (names : Names) (opened : Option OpenQuestion)
+            → Same names H.table self.new self.old (acted_next names H.table acted opened)
+            (walk_all (nested names H.table levels) walk.names walk.values walk.body)) }
         ensures lower { OnOk result (Lower self.new self.old 1) }
         ensures opens { IfOk result (λ acted. Opens acted self.new self.old) }
         ensures holds { Holds self.new self.old }
@@ -390,7 +447,10 @@ impl<H: Host> Engine<H> {
 
     /// `foreach names list body`.
     pub(crate) fn do_foreach(&mut self, words: &Words, levels: u32) -> Result<Acted, NoMemory>
-        ensures means { IfOk result (λ acted. (names : Names) (opened : Option OpenQuestion) → Same names H.table self.new self.old (acted_next names H.table acted opened) (do_foreach (nested names H.table levels) words.now)) }
+        ensures means { IfOk result (λ acted.
+            (names : Names) (opened : Option OpenQuestion)
+            → Same names H.table self.new self.old (acted_next names H.table acted opened)
+            (do_foreach (nested names H.table levels) words.now)) }
         ensures lower { OnOk result (Lower self.new self.old 1) }
         ensures opens { IfOk result (λ acted. Opens acted self.new self.old) }
         ensures holds { Holds self.new self.old }
@@ -433,10 +493,14 @@ impl<H: Host> Engine<H> {
 
     /// Gives a choice, a loop or a page what it waited for.
     pub(crate) fn go_on(&mut self, branch: Branch, value: Ended) -> Result<Acted, NoMemory>
-        ensures means { IfOk result (λ acted. (names : Names) (opened : Option OpenQuestion) → Same names H.table self.new self.old (acted_next names H.table acted opened) (λ k. branch_next names H.table branch k value.code value.result)) }
+        ensures means { IfOk result (λ acted.
+            (names : Names) (opened : Option OpenQuestion)
+            → Same names H.table self.new self.old (acted_next names H.table acted opened) (λ k.
+            branch_next names H.table branch k value.code value.result)) }
         ensures lower { OnOk result (self.new.budget ≤ self.old.budget) }
         ensures opens { IfOk result (λ acted. Opens acted self.new self.old) }
-        ensures enters { IfOk result (λ acted. Enters acted (credit self.new < credit self.old + branch_free branch)) }
+        ensures enters { IfOk result (λ acted.
+            Enters acted (credit self.new < credit self.old + branch_free branch)) }
         ensures holds { Holds self.new self.old }
     {
         let acted = match branch {

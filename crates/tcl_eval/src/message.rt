@@ -2,7 +2,7 @@
 
 ghost use Rattle.std.specs.Prelude.{◌≡◌, ◌++◌, [], IfOk};
 ghost use Rattle.tcl_expr.specs.declared.operator.ExprFault.{ExprFault};
-ghost use Rattle.tcl_eval.specs.Messages.{quoted, no_command, command_exists, fault_name, fault_text, variable_fault, no_procedure, bad_expression, no_boolean, operator_name, operator_fault};
+ghost use Rattle.tcl_eval.specs.Messages.{quoted, no_command, command_exists, fault_name, script_fault, variable_fault, no_procedure, bad_expression, no_boolean, operator_name, operator_fault};
 
 use std::alloc::Global;
 use tcl_expr::{ExprFault, Op};
@@ -59,8 +59,8 @@ fn fault_name(kind: Kind) -> &'static [u8]
 /// A text is no script: this is wrong with it, at this byte.
 #[cold]
 #[inline(never)]
-pub fn fault_text(alloc: Global, kind: Kind, place: u64) -> Result<Text, NoMemory>
-    ensures { IfOk result (λ message. message ≡ fault_text kind place) }
+pub fn script_fault(alloc: Global, kind: Kind, place: u64) -> Result<Text, NoMemory>
+    ensures { IfOk result (λ message. message ≡ script_fault kind place) }
 {
     let mut message = Text::new(alloc, fault_name(kind))?;
     message.append(b" at ")?;

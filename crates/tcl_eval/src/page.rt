@@ -1,7 +1,7 @@
 //! Pages under way.
 
 ghost use Rattle.std.specs.Prelude.{◌≡◌, ◌<◌, ◌≤◌, ◌+◌, IfOk, OnOk, Option, drop, length};
-ghost use Rattle.tcl_eval.specs.Natives.{Names};
+ghost use Rattle.txt_core.specs.Names.{Names};
 ghost use Rattle.tcl_eval.specs.Eval.{nested, give};
 ghost use Rattle.tcl_eval.specs.Pages.{words_script, page_end, text_end, run_piece, run_pieces, run_page};
 ghost use Rattle.tcl_eval.specs.Stack.{branch_next, branch_free};
@@ -42,7 +42,10 @@ fn copy_piece(alloc: Global, piece: &Piece) -> Result<Piece, NoMemory>
 impl<H: Host> Engine<H> {
     /// Begins a page, in a frame of variables of its own.
     pub(crate) fn enter_page(&mut self, pieces: Pieces, levels: u32) -> Result<Acted, NoMemory>
-        ensures means { IfOk result (λ acted. (names : Names) (opened : Option OpenQuestion) → Same names H.table self.new self.old (acted_next names H.table acted opened) (run_page H.table (nested names H.table levels) pieces)) }
+        ensures means { IfOk result (λ acted.
+            (names : Names) (opened : Option OpenQuestion)
+            → Same names H.table self.new self.old (acted_next names H.table acted opened)
+            (run_page H.table (nested names H.table levels) pieces)) }
         ensures lower { OnOk result (self.new.budget ≤ self.old.budget) }
         ensures opens { IfOk result (λ acted. Opens acted self.new self.old) }
         ensures host { OnOk result (self.new.host ≡ self.old.host) }
@@ -61,7 +64,10 @@ impl<H: Host> Engine<H> {
 
     /// Has the host take a text of a page.
     fn send(&mut self, text: &Text) -> Result<Ended, NoMemory>
-        ensures means { IfOk result (λ value. (names : Names) → Same names H.table self.new self.old (give value) (λ k state. text_end (H.table.texts text.now state.host) k state)) }
+        ensures means { IfOk result (λ value.
+            (names : Names)
+            → Same names H.table self.new self.old (give value) (λ k state.
+            text_end (H.table.texts text.now state.host) k state)) }
         ensures keeps { OnOk result (Keeps self.new self.old) }
         ensures holds { Holds self.new self.old }
     {
@@ -78,7 +84,10 @@ impl<H: Host> Engine<H> {
 
     /// Runs a piece of a page.
     fn run_piece(&mut self, piece: Piece, levels: u32) -> Result<Acted, NoMemory>
-        ensures means { IfOk result (λ acted. (names : Names) (opened : Option OpenQuestion) → Same names H.table self.new self.old (acted_next names H.table acted opened) (run_piece H.table (nested names H.table levels) piece)) }
+        ensures means { IfOk result (λ acted.
+            (names : Names) (opened : Option OpenQuestion)
+            → Same names H.table self.new self.old (acted_next names H.table acted opened)
+            (run_piece H.table (nested names H.table levels) piece)) }
         ensures lower { OnOk result (Lower self.new self.old 0) }
         ensures opens { IfOk result (λ acted. Opens acted self.new self.old) }
         ensures enters { IfOk result (λ acted. Enters acted (credit self.new ≤ credit self.old)) }
@@ -103,7 +112,9 @@ impl<H: Host> Engine<H> {
 
     /// Ends a page with this code. Its frame of variables goes.
     fn end_page(&mut self, code: u8) -> Acted
-        ensures means { (names : Names) (opened : Option OpenQuestion) → Same names H.table self.new self.old (acted_next names H.table result opened) (page_end code) }
+        ensures means { (names : Names) (opened : Option OpenQuestion)
+            → Same names H.table self.new self.old (acted_next names H.table result opened)
+            (page_end code) }
         ensures lower { Lower self.new self.old 0 }
         ensures opens { Opens result self.new self.old }
         ensures enters { Enters result (credit self.new ≤ credit self.old) }
@@ -122,10 +133,14 @@ impl<H: Host> Engine<H> {
 
     /// Goes on with the piece at a place of a page; where none is there, the page ends.
     fn run_pieces(&mut self, pieces: PieceList, at: usize, levels: u32) -> Result<Acted, NoMemory>
-        ensures means { IfOk result (λ acted. (names : Names) (opened : Option OpenQuestion) → Same names H.table self.new self.old (acted_next names H.table acted opened) (run_pieces H.table (nested names H.table levels) (drop at pieces))) }
+        ensures means { IfOk result (λ acted.
+            (names : Names) (opened : Option OpenQuestion)
+            → Same names H.table self.new self.old (acted_next names H.table acted opened)
+            (run_pieces H.table (nested names H.table levels) (drop at pieces))) }
         ensures lower { OnOk result (self.new.budget ≤ self.old.budget) }
         ensures opens { IfOk result (λ acted. Opens acted self.new self.old) }
-        ensures enters { IfOk result (λ acted. Enters acted (credit self.new ≤ credit self.old + length (drop at pieces))) }
+        ensures enters { IfOk result (λ acted.
+            Enters acted (credit self.new ≤ credit self.old + length (drop at pieces))) }
         ensures holds { Holds self.new self.old }
     {
         match pieces.get(at) {
@@ -155,10 +170,15 @@ impl<H: Host> Engine<H> {
         levels: u32,
         value: Ended,
     ) -> Result<Acted, NoMemory>
-        ensures means { IfOk result (λ acted. (names : Names) (opened : Option OpenQuestion) → Same names H.table self.new self.old (acted_next names H.table acted opened) (λ k. branch_next names H.table (Branch.Page pieces next levels) k value.code value.result)) }
+        ensures means { IfOk result (λ acted.
+            (names : Names) (opened : Option OpenQuestion)
+            → Same names H.table self.new self.old (acted_next names H.table acted opened) (λ k.
+            branch_next names H.table (Branch.Page pieces next levels) k value.code value.result)) }
         ensures lower { OnOk result (self.new.budget ≤ self.old.budget) }
         ensures opens { IfOk result (λ acted. Opens acted self.new self.old) }
-        ensures enters { IfOk result (λ acted. Enters acted (credit self.new < credit self.old + branch_free (Branch.Page pieces next levels))) }
+        ensures enters { IfOk result (λ acted.
+            Enters acted
+            (credit self.new < credit self.old + branch_free (Branch.Page pieces next levels))) }
         ensures holds { Holds self.new self.old }
     {
         if value.code == OK {

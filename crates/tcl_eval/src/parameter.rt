@@ -118,7 +118,8 @@ fn bind(alloc: Global, parameters: &[Parameter], words: &[Text]) -> Result<Optio
 
 /// The values of a procedure's parameters, for the words of a call, or the text of the error.
 pub fn bound(alloc: Global, params: &Text, words: &Words) -> Result<Result<Pairs, Text>, NoMemory>
-    ensures { IfOk result (λ found. ValuesAre found (bound params.now (arg words.now 0) (drop 1 words.now))) }
+    ensures { IfOk result (λ found.
+        ValuesAre found (bound params.now (arg words.now 0) (drop 1 words.now))) }
 {
     let all = match parameters(alloc, params)? {
         Err(message) => return Ok(Err(message)),

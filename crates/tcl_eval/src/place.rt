@@ -89,7 +89,10 @@ pub fn first_piece(alloc: Global, script: Rc<Script>) -> Place
 
 /// The pieces of the word at a place of a command, if it has one there.
 pub fn pieces_at(all: &[Word], at: usize) -> Option<&[Piece]>
-    ensures { MatchOption result (words_from at (words (map word_of all.now)) ≡ no_words) (λ pieces. words_from at (words (map word_of all.now)) ≡ word (parts (map part_of pieces.now)) (words_from (at + 1) (words (map word_of all.now)))) }
+    ensures { MatchOption result (words_from at (words (map word_of all.now)) ≡ no_words) (λ pieces.
+        words_from at (words (map word_of all.now))
+        ≡ word (parts (map part_of pieces.now))
+        (words_from (at + 1) (words (map word_of all.now)))) }
 {
     match item_at(all, at) {
         None => None,
@@ -131,7 +134,8 @@ fn index_of(piece: &Piece) -> &[Piece]
 
 /// The pieces of the index of the piece at a place; none where that is no element of an array.
 fn index_pieces(pieces: &[Piece], at: usize) -> &[Piece]
-    ensures { parts (map part_of result.now) ≡ inside (parts_from at (parts (map part_of pieces.now))) }
+    ensures { parts (map part_of result.now)
+        ≡ inside (parts_from at (parts (map part_of pieces.now))) }
 {
     match item_at(pieces, at) {
         None => &[],
@@ -153,7 +157,8 @@ fn follow<'a>(pieces: &'a [Piece], path: &[usize]) -> &'a [Piece]
 impl Place {
     /// What the piece is that stands here, if any.
     pub fn piece(&self) -> Option<Seen<'_>>
-        ensures found { MatchOption result (place_parts self.now ≡ no_parts) (λ seen. SeenAt seen (place_parts self.now) (place_parts (behind self.now))) }
+        ensures found { MatchOption result (place_parts self.now ≡ no_parts) (λ seen.
+            SeenAt seen (place_parts self.now) (place_parts (behind self.now))) }
         ensures small { IsSome result → self.now.next < 2 ^ 63 }
     {
         let pieces = word_pieces(&self.script, self.command, self.word);

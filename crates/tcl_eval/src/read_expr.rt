@@ -35,11 +35,11 @@ pub struct ReadExpr {
 }
 
 impl Model for ReadExpr {
-    ghost use Rattle.std.specs.Prelude.{ℕ, List};
     ghost use Rattle.std.specs.Coded.{coded_list, coded_ℕ};
+    ghost use Rattle.txt_core.specs.Names.{Bytes};
     ghost use Rattle.tcl_eval.specs.ExprReadings.{IsReading};
 
-    ghost Value = { List ℕ };
+    ghost Value = { Bytes };
 
     ghost coded = { coded_list coded_ℕ };
 

@@ -1,14 +1,14 @@
 //! What an engine keeps of the texts that it read.
 
-ghost use Rattle.std.specs.Prelude.{◌≡◌, ◌≤◌, ℕ, List, IfOk, OnOk, Option, length};
+ghost use Rattle.std.specs.Prelude.{◌≡◌, ◌≤◌, IfOk, OnOk, Option, length};
+ghost use Rattle.txt_core.specs.Names.{Bytes, Names};
 ghost use Rattle.parse_cache.specs.Readings.{IsReading};
-ghost use Rattle.tcl_eval.specs.Natives.{Names};
 ghost use Rattle.tcl_eval.specs.Eval.{arg, run_script, unread};
 ghost use Rattle.tcl_eval.specs.Engine.{Same, Holds, Enters, Opens, Lower, credit, acted_next};
 ghost use Rattle.tcl_eval.specs.declared.engine.OpenQuestion.{OpenQuestion};
 
 use crate::engine::Engine;
-use crate::message::fault_text;
+use crate::message::script_fault;
 use crate::stack::{Acted, Frame};
 use crate::value::{done, error};
 use crate::words::copy_word;
@@ -110,7 +110,11 @@ fn read_short(scripts: &mut Cache, text: &Text) -> Result<Reading, NoMemory>
 impl<H: Host> Engine<H> {
     /// Runs what a text is as a script.
     fn enter_reading(&mut self, reading: Reading, levels: u32) -> Result<Acted, NoMemory>
-        ensures means { IfOk result (λ acted. (text : List ℕ) → IsReading text reading → (names : Names) (opened : Option OpenQuestion) → Same names H.table self.new self.old (acted_next names H.table acted opened) (run_script names H.table levels (unread text))) }
+        ensures means { IfOk result (λ acted.
+            (text : Bytes) → IsReading text reading
+            → (names : Names) (opened : Option OpenQuestion)
+            → Same names H.table self.new self.old (acted_next names H.table acted opened)
+            (run_script names H.table levels (unread text))) }
         ensures lower { OnOk result (Lower self.new self.old 0) }
         ensures enters { IfOk result (λ acted. Enters acted (credit self.new ≤ credit self.old)) }
         ensures opens { IfOk result (λ acted. Opens acted self.new self.old) }
@@ -121,7 +125,7 @@ impl<H: Host> Engine<H> {
         }
         match reading {
             Reading::Fault { at, kind } => {
-                let message = fault_text(self.alloc, kind, at)?;
+                let message = script_fault(self.alloc, kind, at)?;
                 Ok(Acted::Gives(error(self.alloc, message)?))
             }
             Reading::Script(script) => {
@@ -137,7 +141,10 @@ impl<H: Host> Engine<H> {
 
     /// Runs a text as a script.
     pub(crate) fn enter_text(&mut self, text: &Text, levels: u32) -> Result<Acted, NoMemory>
-        ensures means { IfOk result (λ acted. (names : Names) (opened : Option OpenQuestion) → Same names H.table self.new self.old (acted_next names H.table acted opened) (run_script names H.table levels (unread text.now))) }
+        ensures means { IfOk result (λ acted.
+            (names : Names) (opened : Option OpenQuestion)
+            → Same names H.table self.new self.old (acted_next names H.table acted opened)
+            (run_script names H.table levels (unread text.now))) }
         ensures lower { OnOk result (Lower self.new self.old 0) }
         ensures enters { IfOk result (λ acted. Enters acted (credit self.new ≤ credit self.old)) }
         ensures opens { IfOk result (λ acted. Opens acted self.new self.old) }
@@ -150,7 +157,10 @@ impl<H: Host> Engine<H> {
 
     /// Runs a text that was read.
     pub(crate) fn enter_read(&mut self, text: &ReadScript, levels: u32) -> Result<Acted, NoMemory>
-        ensures means { IfOk result (λ acted. (names : Names) (opened : Option OpenQuestion) → Same names H.table self.new self.old (acted_next names H.table acted opened) (run_script names H.table levels (unread text.now))) }
+        ensures means { IfOk result (λ acted.
+            (names : Names) (opened : Option OpenQuestion)
+            → Same names H.table self.new self.old (acted_next names H.table acted opened)
+            (run_script names H.table levels (unread text.now))) }
         ensures lower { OnOk result (Lower self.new self.old 0) }
         ensures enters { IfOk result (λ acted. Enters acted (credit self.new ≤ credit self.old)) }
         ensures opens { IfOk result (λ acted. Opens acted self.new self.old) }

@@ -14,7 +14,7 @@ ghost use Rattle.tcl_eval.specs.declared.outcome.Outcome.TheVariants.{Asks};
 use crate::act::{MOST_LEVELS, answer_cost};
 use crate::engine::Engine;
 use crate::outcome::{Outcome, Work};
-use crate::stack::{Acted, Frame, Ready, Settled, Step};
+use crate::stack::{Acted, AtRest, Frame, Ready, Step};
 use crate::words::command_cost;
 use cmd_table::Steps;
 use natives::Natives;
@@ -33,7 +33,11 @@ impl<H: Host> Engine<H> {
         levels: u32,
         steps: &mut Steps<L>,
     ) -> Result<Acted, NoMemory>
-        ensures means { IfOk result (λ acted. Same (names_of natives.now) H.table self.new self.old (acted_next (names_of natives.now) H.table acted self.new.question) (command (names_of natives.now) H.table (nested (names_of natives.now) H.table levels) words)) }
+        ensures means { IfOk result (λ acted.
+            Same (names_of natives.now) H.table self.new self.old
+            (acted_next (names_of natives.now) H.table acted self.new.question)
+            (command (names_of natives.now) H.table (nested (names_of natives.now) H.table levels)
+            words)) }
         ensures pays { IfOk result (λ acted. PaidFor acted self.new self.old) }
         ensures opens { IfOk result (λ acted. Opens acted self.new self.old) }
         ensures steps { steps.old ≤ steps.new }
@@ -55,7 +59,10 @@ impl<H: Host> Engine<H> {
         ready: Ready,
         steps: &mut Steps<L>,
     ) -> Result<Acted, NoMemory>
-        ensures means { IfOk result (λ acted. Same (names_of natives.now) H.table self.new self.old (acted_next (names_of natives.now) H.table acted self.new.question) (ready_next (names_of natives.now) H.table ready)) }
+        ensures means { IfOk result (λ acted.
+            Same (names_of natives.now) H.table self.new self.old
+            (acted_next (names_of natives.now) H.table acted self.new.question)
+            (ready_next (names_of natives.now) H.table ready)) }
         ensures moves { IfOk result (λ acted. Moves acted (ready_free ready) self.new self.old) }
         ensures opens { IfOk result (λ acted. Opens acted self.new self.old) }
         ensures steps { steps.old ≤ steps.new }
@@ -84,22 +91,28 @@ impl<H: Host> Engine<H> {
         steps: &mut Steps<L>,
     ) -> Result<Outcome, NoMemory>
         requires { self.old.question ≡ None }
-        ensures means { IfOk result (λ outcome. Same (names_of natives.now) H.table self.new self.old (outcome_next (names_of natives.now) H.table outcome self.new.question) (step_next (names_of natives.now) H.table step)) }
+        ensures means { IfOk result (λ outcome.
+            Same (names_of natives.now) H.table self.new self.old
+            (outcome_next (names_of natives.now) H.table outcome self.new.question)
+            (step_next (names_of natives.now) H.table step)) }
         ensures leaves { IfOk result (λ outcome. Leaves outcome self.new) }
         ensures falls { IfOk result (λ outcome. FellTo outcome self.new self.old.budget) }
         ensures steps { steps.old ≤ steps.new }
         ensures counts { Counts steps.new steps.old self.new self.old }
-        ensures front { OnErr result ((given : Given) → IsFront self.new.made (state_in (gives (names_of natives.now) H.table (step_next (names_of natives.now) H.table step) self.old given)).made) }
+        ensures front { OnErr result
+            ((given : Given)
+            → IsFront self.new.made
+            (state_in (gives (names_of natives.now) H.table (step_next (names_of natives.now) H.table step) self.old given)).made) }
     {
         'steps: loop {
             let ready = match self.settle(step)? {
-                Settled::Ended(value) => {
+                AtRest::Ended(value) => {
                     return Ok(Outcome::Done {
                         code: value.code,
                         result: value.result,
                     });
                 }
-                Settled::Ready(ready) => ready,
+                AtRest::Ready(ready) => ready,
             };
             match self.do_ready(natives, ready, steps)? {
                 Acted::Gives(value) => step = Step::Value(value),
@@ -118,12 +131,18 @@ impl<H: Host> Engine<H> {
         steps: &mut Steps<L>,
     ) -> Result<Outcome, NoMemory>
         requires { Begins acted self.old }
-        ensures means { IfOk result (λ outcome. Same (names_of natives.now) H.table self.new self.old (outcome_next (names_of natives.now) H.table outcome self.new.question) (acted_next (names_of natives.now) H.table acted self.old.question)) }
+        ensures means { IfOk result (λ outcome.
+            Same (names_of natives.now) H.table self.new self.old
+            (outcome_next (names_of natives.now) H.table outcome self.new.question)
+            (acted_next (names_of natives.now) H.table acted self.old.question)) }
         ensures leaves { IfOk result (λ outcome. Leaves outcome self.new) }
         ensures falls { IfOk result (λ outcome. FellFrom acted outcome self.new self.old) }
         ensures steps { steps.old ≤ steps.new }
         ensures counts { Counts steps.new steps.old self.new self.old }
-        ensures front { OnErr result ((given : Given) → IsFront self.new.made (state_in (gives (names_of natives.now) H.table (acted_next (names_of natives.now) H.table acted self.old.question) self.old given)).made) }
+        ensures front { OnErr result
+            ((given : Given)
+            → IsFront self.new.made
+            (state_in (gives (names_of natives.now) H.table (acted_next (names_of natives.now) H.table acted self.old.question) self.old given)).made) }
     {
         match acted {
             Acted::Gives(value) => {
@@ -146,7 +165,10 @@ impl<H: Host> Engine<H> {
     ) -> Result<Acted, NoMemory>
         requires least { 1 ≤ depth }
         requires most { depth ≤ 200 }
-        ensures means { IfOk result (λ acted. Same (names_of natives.now) H.table self.new self.old (acted_next (names_of natives.now) H.table acted self.new.question) (run_work (names_of natives.now) H.table depth work)) }
+        ensures means { IfOk result (λ acted.
+            Same (names_of natives.now) H.table self.new self.old
+            (acted_next (names_of natives.now) H.table acted self.new.question)
+            (run_work (names_of natives.now) H.table depth work)) }
         ensures fell { IfOk result (λ acted. Fell acted self.new self.old.budget) }
         ensures opens { IfOk result (λ acted. Opens acted self.new self.old) }
         ensures steps { steps.old ≤ steps.new }
@@ -181,12 +203,19 @@ impl<H: Host> Engine<H> {
         requires idle { IsIdle self.old }
         requires least { 1 ≤ depth }
         requires most { depth ≤ 200 }
-        ensures stands { IfOk result (λ outcome. Stands (names_of natives.now) H.table outcome self.new (record { work = work; depth = depth; budget = self.old.budget; state = state_of self.old }) []) }
+        ensures stands { IfOk result (λ outcome.
+            Stands (names_of natives.now) H.table outcome self.new
+            (record
+            { work = work; depth = depth; budget = self.old.budget; state = state_of self.old })
+            []) }
         ensures leaves { IfOk result (λ outcome. Leaves outcome self.new) }
         ensures falls { IfOk result (λ outcome. FellTo outcome self.new self.old.budget) }
         ensures steps { steps.old ≤ steps.new }
         ensures counts { Counts steps.new steps.old self.new self.old }
-        ensures front { OnErr result ((given : Given) → IsFront self.new.made (state_in (eval (names_of natives.now) H.table depth work (state_of self.old) self.old.budget given)).made) }
+        ensures front { OnErr result
+            ((given : Given)
+            → IsFront self.new.made
+            (state_in (eval (names_of natives.now) H.table depth work (state_of self.old) self.old.budget given)).made) }
     {
         let acted = self.first(natives, work, depth, steps)?;
         let outcome = self.run_on(natives, acted, steps)?;
@@ -201,12 +230,16 @@ impl<H: Host> Engine<H> {
         steps: &mut Steps<L>,
     ) -> Result<Outcome, NoMemory>
         requires { IsSome self.old.question }
-        ensures step { IfOk result (λ outcome. AnsweredAt (names_of natives.now) H.table outcome self.new self.old answer) }
+        ensures step { IfOk result (λ outcome.
+            AnsweredAt (names_of natives.now) H.table outcome self.new self.old answer) }
         ensures leaves { IfOk result (λ outcome. Leaves outcome self.new) }
         ensures falls { IfOk result (λ outcome. Falls H.table outcome self.new self.old answer) }
         ensures steps { steps.old ≤ steps.new }
         ensures counts { Counts steps.new steps.old self.new self.old }
-        ensures front { OnErr result ((question : Question) (further : Given) → IsFront self.new.made (state_in (comes_to (names_of natives.now) H.table (Asks question) self.old ((answer, 0) ∷ further))).made) }
+        ensures front { OnErr result
+            ((question : Question) (further : Given)
+            → IsFront self.new.made
+            (state_in (comes_to (names_of natives.now) H.table (Asks question) self.old ((answer, 0) ∷ further))).made) }
     {
         let Some(open) = self.question.take() else {
             unreachable!()

@@ -1,19 +1,19 @@
 //! What goes on before the next text is run.
 
 ghost use Rattle.std.specs.Prelude.{◌≡◌, ◌<◌, ◌≤◌, ◌+◌, ◌^◌, [], length, IfOk, OnOk};
+ghost use Rattle.txt_core.specs.Names.{Names};
 ghost use Rattle.tcl_eval.specs.Eval.{give, read_as, read_variable, command_end, proc_end, catch_end, run_parts, run_words, run_script, nested, read};
 ghost use Rattle.tcl_eval.specs.Kept.{judged, run_kept, run_costly};
 ghost use Rattle.tcl_eval.specs.Places.{tree_of, command_at, words_from, place_parts, inside, behind, parts_size, words_size, commands_size};
 ghost use Rattle.tcl_eval.specs.Stack.{frame_next, step_next, settled_next, frame_weight, stack_weight, step_weight, frame_free, stack_free, step_free, settled_free};
 ghost use Rattle.tcl_eval.specs.Engine.{Holds, Same, Pays, Stays, Remains, Emptied};
-ghost use Rattle.tcl_eval.specs.Natives.{Names};
 ghost use Rattle.tcl_eval.specs.declared.stack.Frame.{Frame};
 
 use crate::engine::Engine;
 use crate::gather::{Gathered, SoFar};
 use crate::place::{Place, Seen, has_command, has_word, words_of};
 use crate::simple::{Simple, variable_value};
-use crate::stack::{Ended, Frame, Ready, Settled, Step};
+use crate::stack::{AtRest, Ended, Frame, Ready, Step};
 use crate::value::{done, kept_value, returned, too_long};
 use crate::words::BYTES_FOR_ONE;
 use std::rc::Rc;
@@ -51,8 +51,17 @@ impl<H: Host> Engine<H> {
         levels: u32,
     ) -> Result<Step, NoMemory>
         requires { place.next < 2 ^ 63 }
-        ensures means { IfOk result (λ step. (names : Names) → Same names H.table self.new self.old (step_next names H.table step) (λ k. run_parts (nested names H.table levels) (inside (place_parts place)) [] (judged (frame_next names H.table (Frame.Index array) (frame_next names H.table (Frame.Word (behind place) so_far levels) k))))) }
-        ensures weighs { IfOk result (λ step. stack_weight self.new.stack.items + step_weight step ≤ stack_weight self.old.stack.items + (parts_size (inside (place_parts place)) + parts_size (place_parts (behind place)) + 4)) }
+        ensures means { IfOk result (λ step.
+            (names : Names)
+            → Same names H.table self.new self.old (step_next names H.table step) (λ k.
+            run_parts (nested names H.table levels) (inside (place_parts place)) []
+            (judged
+            (frame_next names H.table (Frame.Index array)
+            (frame_next names H.table (Frame.Word (behind place) so_far levels) k))))) }
+        ensures weighs { IfOk result (λ step.
+            stack_weight self.new.stack.items + step_weight step ≤ stack_weight self.old.stack.items
+            +
+            (parts_size (inside (place_parts place)) + parts_size (place_parts (behind place)) + 4)) }
         ensures keeps { IfOk result (λ step. Stays step self.new self.old) }
         ensures holds { Holds self.new self.old }
     {
@@ -80,8 +89,15 @@ impl<H: Host> Engine<H> {
         levels: u32,
     ) -> Result<Step, NoMemory>
         requires { place.next < 2 ^ 63 }
-        ensures means { IfOk result (λ step. (names : Names) → Same names H.table self.new self.old (step_next names H.table step) (λ k. run_script names H.table levels (read (tree_of script.value)) (frame_next names H.table (Frame.Word (behind place) so_far levels) k))) }
-        ensures weighs { IfOk result (λ step. stack_weight self.new.stack.items + step_weight step ≤ stack_weight self.old.stack.items + (commands_size (tree_of script.value) + parts_size (place_parts (behind place)) + 3)) }
+        ensures means { IfOk result (λ step.
+            (names : Names)
+            → Same names H.table self.new self.old (step_next names H.table step) (λ k.
+            run_script names H.table levels (read (tree_of script.value))
+            (frame_next names H.table (Frame.Word (behind place) so_far levels) k))) }
+        ensures weighs { IfOk result (λ step.
+            stack_weight self.new.stack.items + step_weight step ≤ stack_weight self.old.stack.items
+            +
+            (commands_size (tree_of script.value) + parts_size (place_parts (behind place)) + 3)) }
         ensures keeps { IfOk result (λ step. Stays step self.new self.old) }
         ensures holds { Holds self.new self.old }
     {
@@ -109,8 +125,13 @@ impl<H: Host> Engine<H> {
         so_far: SoFar,
         levels: u32,
     ) -> Result<Step, NoMemory>
-        ensures means { IfOk result (λ step. (names : Names) → Same names H.table self.new self.old (step_next names H.table step) (λ k. read_variable name.now (frame_next names H.table (Frame.Word place so_far levels) k))) }
-        ensures weighs { IfOk result (λ step. stack_weight self.new.stack.items + step_weight step ≤ stack_weight self.old.stack.items + (parts_size (place_parts place) + 1)) }
+        ensures means { IfOk result (λ step.
+            (names : Names)
+            → Same names H.table self.new self.old (step_next names H.table step) (λ k.
+            read_variable name.now (frame_next names H.table (Frame.Word place so_far levels) k))) }
+        ensures weighs { IfOk result (λ step.
+            stack_weight self.new.stack.items + step_weight step ≤ stack_weight self.old.stack.items
+            + (parts_size (place_parts place) + 1)) }
         ensures keeps { IfOk result (λ step. Stays step self.new self.old) }
         ensures holds { Holds self.new self.old }
     {
@@ -128,8 +149,13 @@ impl<H: Host> Engine<H> {
 
     /// Goes on with the next piece of a word.
     fn next_piece(&mut self, place: Place, so_far: SoFar, levels: u32) -> Result<Step, NoMemory>
-        ensures means { IfOk result (λ step. (names : Names) → Same names H.table self.new self.old (step_next names H.table step) (run_kept (nested names H.table levels) (place_parts place) so_far)) }
-        ensures falls { IfOk result (λ step. stack_weight self.new.stack.items + step_weight step < stack_weight self.old.stack.items + (parts_size (place_parts place) + 1)) }
+        ensures means { IfOk result (λ step.
+            (names : Names)
+            → Same names H.table self.new self.old (step_next names H.table step)
+            (run_kept (nested names H.table levels) (place_parts place) so_far)) }
+        ensures falls { IfOk result (λ step.
+            stack_weight self.new.stack.items + step_weight step < stack_weight self.old.stack.items
+            + (parts_size (place_parts place) + 1)) }
         ensures keeps { IfOk result (λ step. Stays step self.new self.old) }
         ensures holds { Holds self.new self.old }
     {
@@ -169,8 +195,15 @@ impl<H: Host> Engine<H> {
         mut values: Gathered,
         levels: u32,
     ) -> Result<Step, NoMemory>
-        ensures means { IfOk result (λ step. (names : Names) → Same names H.table self.new self.old (step_next names H.table step) (run_words names H.table (nested names H.table levels) (words_from (length values) (command_at at (tree_of script.value))) values)) }
-        ensures falls { IfOk result (λ step. stack_weight self.new.stack.items + step_weight step ≤ stack_weight self.old.stack.items + words_size (words_from (length values) (command_at at (tree_of script.value)))) }
+        ensures means { IfOk result (λ step.
+            (names : Names)
+            → Same names H.table self.new self.old (step_next names H.table step)
+            (run_words names H.table (nested names H.table levels)
+            (words_from (length values) (command_at at (tree_of script.value))) values)) }
+        ensures falls { IfOk result (λ step.
+            stack_weight self.new.stack.items + step_weight step ≤ stack_weight self.old.stack.items
+            + words_size
+            (words_from (length values) (command_at at (tree_of script.value)))) }
         ensures keeps { IfOk result (λ step. Stays step self.new self.old) }
         ensures holds { Holds self.new self.old }
     {
@@ -196,8 +229,15 @@ impl<H: Host> Engine<H> {
         values: Gathered,
         levels: u32,
     ) -> Result<Step, NoMemory>
-        ensures means { IfOk result (λ step. (names : Names) → Same names H.table self.new self.old (step_next names H.table step) (run_words names H.table (nested names H.table levels) (words_from (length values) (command_at at (tree_of script.value))) values)) }
-        ensures falls { IfOk result (λ step. stack_weight self.new.stack.items + step_weight step ≤ stack_weight self.old.stack.items + words_size (words_from (length values) (command_at at (tree_of script.value)))) }
+        ensures means { IfOk result (λ step.
+            (names : Names)
+            → Same names H.table self.new self.old (step_next names H.table step)
+            (run_words names H.table (nested names H.table levels)
+            (words_from (length values) (command_at at (tree_of script.value))) values)) }
+        ensures falls { IfOk result (λ step.
+            stack_weight self.new.stack.items + step_weight step ≤ stack_weight self.old.stack.items
+            + words_size
+            (words_from (length values) (command_at at (tree_of script.value)))) }
         ensures keeps { IfOk result (λ step. Stays step self.new self.old) }
         ensures holds { Holds self.new self.old }
     {
@@ -237,8 +277,14 @@ impl<H: Host> Engine<H> {
         levels: u32,
         value: Ended,
     ) -> Result<Step, NoMemory>
-        ensures means { IfOk result (λ step. (names : Names) → Same names H.table self.new self.old (step_next names H.table step) (λ k. frame_next names H.table (Frame.Command script at values levels) k value.code value.result)) }
-        ensures falls { IfOk result (λ step. stack_weight self.new.stack.items + step_weight step < stack_weight self.old.stack.items + frame_weight (Frame.Command script at values levels)) }
+        ensures means { IfOk result (λ step.
+            (names : Names)
+            → Same names H.table self.new self.old (step_next names H.table step) (λ k.
+            frame_next names H.table (Frame.Command script at values levels) k value.code
+            value.result)) }
+        ensures falls { IfOk result (λ step.
+            stack_weight self.new.stack.items + step_weight step < stack_weight self.old.stack.items
+            + frame_weight (Frame.Command script at values levels)) }
         ensures keeps { IfOk result (λ step. Stays step self.new self.old) }
         ensures holds { Holds self.new self.old }
     {
@@ -263,8 +309,15 @@ impl<H: Host> Engine<H> {
         word: usize,
         levels: u32,
     ) -> Result<Step, NoMemory>
-        ensures means { IfOk result (λ step. (names : Names) → Same names H.table self.new self.old (step_next names H.table step) (run_costly (nested names H.table levels) (words_from word (command_at at (tree_of script.value))))) }
-        ensures falls { IfOk result (λ step. stack_weight self.new.stack.items + step_weight step ≤ stack_weight self.old.stack.items + words_size (words_from word (command_at at (tree_of script.value)))) }
+        ensures means { IfOk result (λ step.
+            (names : Names)
+            → Same names H.table self.new self.old (step_next names H.table step)
+            (run_costly (nested names H.table levels)
+            (words_from word (command_at at (tree_of script.value))))) }
+        ensures falls { IfOk result (λ step.
+            stack_weight self.new.stack.items + step_weight step ≤ stack_weight self.old.stack.items
+            + words_size
+            (words_from word (command_at at (tree_of script.value)))) }
         ensures keeps { IfOk result (λ step. Stays step self.new self.old) }
         ensures holds { Holds self.new self.old }
     {
@@ -301,8 +354,13 @@ impl<H: Host> Engine<H> {
         levels: u32,
         value: Ended,
     ) -> Result<Step, NoMemory>
-        ensures means { IfOk result (λ step. (names : Names) → Same names H.table self.new self.old (step_next names H.table step) (λ k. frame_next names H.table (Frame.Costly script at next levels) k value.code value.result)) }
-        ensures falls { IfOk result (λ step. stack_weight self.new.stack.items + step_weight step < stack_weight self.old.stack.items + frame_weight (Frame.Costly script at next levels)) }
+        ensures means { IfOk result (λ step.
+            (names : Names)
+            → Same names H.table self.new self.old (step_next names H.table step) (λ k.
+            frame_next names H.table (Frame.Costly script at next levels) k value.code value.result)) }
+        ensures falls { IfOk result (λ step.
+            stack_weight self.new.stack.items + step_weight step < stack_weight self.old.stack.items
+            + frame_weight (Frame.Costly script at next levels)) }
         ensures keeps { IfOk result (λ step. Stays step self.new self.old) }
         ensures holds { Holds self.new self.old }
     {
@@ -321,8 +379,13 @@ impl<H: Host> Engine<H> {
         levels: u32,
         value: Ended,
     ) -> Result<Step, NoMemory>
-        ensures means { IfOk result (λ step. (names : Names) → Same names H.table self.new self.old (step_next names H.table step) (λ k. frame_next names H.table (Frame.Word place so_far levels) k value.code value.result)) }
-        ensures falls { IfOk result (λ step. stack_weight self.new.stack.items + step_weight step < stack_weight self.old.stack.items + frame_weight (Frame.Word place so_far levels)) }
+        ensures means { IfOk result (λ step.
+            (names : Names)
+            → Same names H.table self.new self.old (step_next names H.table step) (λ k.
+            frame_next names H.table (Frame.Word place so_far levels) k value.code value.result)) }
+        ensures falls { IfOk result (λ step.
+            stack_weight self.new.stack.items + step_weight step < stack_weight self.old.stack.items
+            + frame_weight (Frame.Word place so_far levels)) }
         ensures keeps { IfOk result (λ step. Stays step self.new self.old) }
         ensures holds { Holds self.new self.old }
     {
@@ -345,8 +408,13 @@ impl<H: Host> Engine<H> {
         levels: u32,
         value: Ended,
     ) -> Result<Step, NoMemory>
-        ensures means { IfOk result (λ step. (names : Names) → Same names H.table self.new self.old (step_next names H.table step) (λ k. frame_next names H.table (Frame.Script script next levels) k value.code value.result)) }
-        ensures falls { IfOk result (λ step. stack_weight self.new.stack.items + step_weight step < stack_weight self.old.stack.items + frame_weight (Frame.Script script next levels)) }
+        ensures means { IfOk result (λ step.
+            (names : Names)
+            → Same names H.table self.new self.old (step_next names H.table step) (λ k.
+            frame_next names H.table (Frame.Script script next levels) k value.code value.result)) }
+        ensures falls { IfOk result (λ step.
+            stack_weight self.new.stack.items + step_weight step < stack_weight self.old.stack.items
+            + frame_weight (Frame.Script script next levels)) }
         ensures keeps { IfOk result (λ step. Stays step self.new self.old) }
         ensures holds { Holds self.new self.old }
     {
@@ -369,8 +437,13 @@ impl<H: Host> Engine<H> {
     /// Reads an element of an array, by its index.
     #[inline(never)]
     fn give_index(&mut self, array: Text, value: Ended) -> Result<Step, NoMemory>
-        ensures means { IfOk result (λ step. (names : Names) → Same names H.table self.new self.old (step_next names H.table step) (λ k. frame_next names H.table (Frame.Index array) k value.code value.result)) }
-        ensures falls { IfOk result (λ step. stack_weight self.new.stack.items + step_weight step < stack_weight self.old.stack.items + frame_weight (Frame.Index array)) }
+        ensures means { IfOk result (λ step.
+            (names : Names)
+            → Same names H.table self.new self.old (step_next names H.table step) (λ k.
+            frame_next names H.table (Frame.Index array) k value.code value.result)) }
+        ensures falls { IfOk result (λ step.
+            stack_weight self.new.stack.items + step_weight step < stack_weight self.old.stack.items
+            + frame_weight (Frame.Index array)) }
         ensures keeps { IfOk result (λ step. Stays step self.new self.old) }
         ensures holds { Holds self.new self.old }
     {
@@ -386,8 +459,12 @@ impl<H: Host> Engine<H> {
 
     /// Pays for the result of a command.
     fn end_command(&mut self, value: Ended) -> Result<Step, NoMemory>
-        ensures means { IfOk result (λ step. (names : Names) → Same names H.table self.new self.old (step_next names H.table step) (λ k. command_end k value.code value.result)) }
-        ensures falls { IfOk result (λ step. stack_weight self.new.stack.items + step_weight step ≤ stack_weight self.old.stack.items) }
+        ensures means { IfOk result (λ step.
+            (names : Names)
+            → Same names H.table self.new self.old (step_next names H.table step) (λ k.
+            command_end k value.code value.result)) }
+        ensures falls { IfOk result (λ step.
+            stack_weight self.new.stack.items + step_weight step ≤ stack_weight self.old.stack.items) }
         ensures keeps { IfOk result (λ step. Stays step self.new self.old) }
         ensures holds { Holds self.new self.old }
     {
@@ -403,8 +480,12 @@ impl<H: Host> Engine<H> {
     /// Ends a procedure, whose frame of variables goes.
     #[inline(never)]
     fn end_procedure(&mut self, value: Ended) -> Result<Step, NoMemory>
-        ensures means { IfOk result (λ step. (names : Names) → Same names H.table self.new self.old (step_next names H.table step) (λ k. proc_end k value.code value.result)) }
-        ensures falls { IfOk result (λ step. stack_weight self.new.stack.items + step_weight step ≤ stack_weight self.old.stack.items) }
+        ensures means { IfOk result (λ step.
+            (names : Names)
+            → Same names H.table self.new self.old (step_next names H.table step) (λ k.
+            proc_end k value.code value.result)) }
+        ensures falls { IfOk result (λ step.
+            stack_weight self.new.stack.items + step_weight step ≤ stack_weight self.old.stack.items) }
         ensures keeps { IfOk result (λ step. Stays step self.new self.old) }
         ensures holds { Holds self.new self.old }
     {
@@ -419,8 +500,12 @@ impl<H: Host> Engine<H> {
     /// Ends a `catch`: the code is the result, and the result goes to the variable, where one is named.
     #[inline(never)]
     fn end_catch(&mut self, name: Option<Text>, value: Ended) -> Result<Step, NoMemory>
-        ensures means { IfOk result (λ step. (names : Names) → Same names H.table self.new self.old (step_next names H.table step) (λ k. catch_end name k value.code value.result)) }
-        ensures falls { IfOk result (λ step. stack_weight self.new.stack.items + step_weight step ≤ stack_weight self.old.stack.items) }
+        ensures means { IfOk result (λ step.
+            (names : Names)
+            → Same names H.table self.new self.old (step_next names H.table step) (λ k.
+            catch_end name k value.code value.result)) }
+        ensures falls { IfOk result (λ step.
+            stack_weight self.new.stack.items + step_weight step ≤ stack_weight self.old.stack.items) }
         ensures keeps { IfOk result (λ step. Stays step self.new self.old) }
         ensures holds { Holds self.new self.old }
     {
@@ -440,10 +525,17 @@ impl<H: Host> Engine<H> {
 
     /// Gives a frame, which stood on top, the code and result for which it waited.
     fn give(&mut self, frame: Frame, value: Ended) -> Result<Step, NoMemory>
-        ensures means { IfOk result (λ step. (names : Names) → Same names H.table self.new self.old (step_next names H.table step) (λ k. frame_next names H.table frame k value.code value.result)) }
-        ensures falls { IfOk result (λ step. stack_weight self.new.stack.items + step_weight step < stack_weight self.old.stack.items + frame_weight frame) }
+        ensures means { IfOk result (λ step.
+            (names : Names)
+            → Same names H.table self.new self.old (step_next names H.table step) (λ k.
+            frame_next names H.table frame k value.code value.result)) }
+        ensures falls { IfOk result (λ step.
+            stack_weight self.new.stack.items + step_weight step < stack_weight self.old.stack.items
+            + frame_weight frame) }
         ensures keeps { OnOk result (Remains self.new self.old) }
-        ensures free { IfOk result (λ step. stack_free self.new.stack.items + step_free step ≤ stack_free self.old.stack.items + frame_free frame) }
+        ensures free { IfOk result (λ step.
+            stack_free self.new.stack.items + step_free step ≤ stack_free self.old.stack.items +
+            frame_free frame) }
         ensures holds { Holds self.new self.old }
     {
         let step = match frame {
@@ -489,23 +581,28 @@ impl<H: Host> Engine<H> {
     }
 
     /// Goes on until a text may be run, or nothing is left to do.
-    pub(crate) fn settle(&mut self, mut step: Step) -> Result<Settled, NoMemory>
-        ensures means { IfOk result (λ settled. (names : Names) → Same names H.table self.new self.old (settled_next names H.table settled) (step_next names H.table step)) }
+    pub(crate) fn settle(&mut self, mut step: Step) -> Result<AtRest, NoMemory>
+        ensures means { IfOk result (λ settled.
+            (names : Names)
+            → Same names H.table self.new self.old (settled_next names H.table settled)
+            (step_next names H.table step)) }
         ensures empty { IfOk result (λ settled. Emptied settled self.new) }
         ensures keeps { OnOk result (Remains self.new self.old) }
-        ensures free { IfOk result (λ settled. stack_free self.new.stack.items + settled_free settled ≤ stack_free self.old.stack.items + step_free step) }
+        ensures free { IfOk result (λ settled.
+            stack_free self.new.stack.items + settled_free settled ≤ stack_free self.old.stack.items
+            + step_free step) }
         ensures holds { Holds self.new self.old }
     {
         'steps: loop {
             step = match step {
-                Step::Stop(ready) => return Ok(Settled::Ready(ready)),
+                Step::Stop(ready) => return Ok(AtRest::Ready(ready)),
                 Step::Pieces {
                     place,
                     so_far,
                     levels,
                 } => self.next_piece(place, so_far, levels)?,
                 Step::Value(value) => match self.stack.pop() {
-                    None => return Ok(Settled::Ended(value)),
+                    None => return Ok(AtRest::Ended(value)),
                     Some(frame) => self.give(frame, value)?,
                 },
             };

@@ -1,13 +1,13 @@
 //! Words that are made of bytes and of scalar variables, for which nothing is run.
 
 ghost use Rattle.std.specs.Prelude.{◌≡◌, ◌≤◌, ℕ, [], length, map, IfOk, Some};
+ghost use Rattle.txt_core.specs.Names.{Names};
 ghost use Rattle.tcl_parse.specs.Tree.{variable, no_parts, part, parts, words};
 ghost use Rattle.tcl_parse.specs.View.{part_of, word_of};
 ghost use Rattle.tcl_eval.specs.Eval.{read_as, run_words, nested};
 ghost use Rattle.tcl_eval.specs.Places.{words_from, words_size};
 ghost use Rattle.tcl_eval.specs.Simple.{simple_parts, simple_next, PieceKept, Comes};
 ghost use Rattle.tcl_eval.specs.Engine.{Same};
-ghost use Rattle.tcl_eval.specs.Natives.{Names};
 ghost use Rattle.tcl_eval.specs.declared.gather.SoFar.{SoFar};
 
 use crate::engine::Engine;
@@ -64,7 +64,8 @@ pub fn variable_value(alloc: Global, frames: &Frames, name: &Text) -> Result<End
 
 /// What a word comes to that is the value of this variable.
 fn variable_word(alloc: Global, frames: &Frames, name: &Text) -> Result<Ended, NoMemory>
-    ensures { IfOk result (λ word. Some word ≡ simple_parts frames.now (part (variable name.now) no_parts) (SoFar.Kept [])) }
+    ensures { IfOk result (λ word.
+        Some word ≡ simple_parts frames.now (part (variable name.now) no_parts) (SoFar.Kept [])) }
 {
     let value = variable_value(alloc, frames, name)?;
     if value.code != OK {
@@ -76,7 +77,8 @@ fn variable_word(alloc: Global, frames: &Frames, name: &Text) -> Result<Ended, N
 
 /// What a word comes to that is this piece.
 fn piece_word(alloc: Global, frames: &Frames, piece: &Piece) -> Result<Plain, NoMemory>
-    ensures { IfOk result (λ plain. Comes plain frames.now (part (part_of piece.now) no_parts) (SoFar.Kept [])) }
+    ensures { IfOk result (λ plain.
+        Comes plain frames.now (part (part_of piece.now) no_parts) (SoFar.Kept [])) }
 {
     match look(piece) {
         Seen::Bytes(bytes) => {
@@ -143,7 +145,8 @@ fn grow(alloc: Global, frames: &Frames, so_far: SoFar, piece: &Piece) -> Result<
 
 /// What a word of these pieces comes to.
 fn joined_word(alloc: Global, frames: &Frames, pieces: &[Piece]) -> Result<Plain, NoMemory>
-    ensures { IfOk result (λ plain. Comes plain frames.now (parts (map part_of pieces.now)) (SoFar.Kept [])) }
+    ensures { IfOk result (λ plain.
+        Comes plain frames.now (parts (map part_of pieces.now)) (SoFar.Kept [])) }
 {
     let mut so_far = SoFar::Kept(Text::empty(alloc));
     'pieces: for piece in pieces {
@@ -159,7 +162,8 @@ fn joined_word(alloc: Global, frames: &Frames, pieces: &[Piece]) -> Result<Plain
 
 /// What a word of these pieces comes to. Where something is run for a piece, nothing is looked at.
 pub fn simple_word(alloc: Global, frames: &Frames, pieces: &[Piece]) -> Result<Plain, NoMemory>
-    ensures { IfOk result (λ plain. Comes plain frames.now (parts (map part_of pieces.now)) (SoFar.Kept [])) }
+    ensures { IfOk result (λ plain.
+        Comes plain frames.now (parts (map part_of pieces.now)) (SoFar.Kept [])) }
 {
     match pieces {
         [] => Ok(Plain::Gives(done(alloc))),
@@ -185,8 +189,16 @@ impl<H: Host> Engine<H> {
         all: &[Word],
         values: &mut Gathered,
     ) -> Result<Simple, NoMemory>
-        ensures means { IfOk result (λ simple. (names : Names) (levels : ℕ) → Same names H.table self.now self.now (simple_next names H.table (nested names H.table levels) simple (words_from (length values.new) (words (map word_of all.now))) values.new) (run_words names H.table (nested names H.table levels) (words_from (length values.old) (words (map word_of all.now))) values.old)) }
-        ensures shorter { IfOk result (λ simple. words_size (words_from (length values.new) (words (map word_of all.now))) ≤ words_size (words_from (length values.old) (words (map word_of all.now)))) }
+        ensures means { IfOk result (λ simple.
+            (names : Names) (levels : ℕ)
+            → Same names H.table self.now self.now
+            (simple_next names H.table (nested names H.table levels) simple
+            (words_from (length values.new) (words (map word_of all.now))) values.new)
+            (run_words names H.table (nested names H.table levels)
+            (words_from (length values.old) (words (map word_of all.now))) values.old)) }
+        ensures shorter { IfOk result (λ simple.
+            words_size (words_from (length values.new) (words (map word_of all.now))) ≤ words_size
+            (words_from (length values.old) (words (map word_of all.now)))) }
     {
         'words: while let Some(pieces) = pieces_at(all, values.len()) {
             match simple_word(self.alloc, &self.frames, pieces)? {

@@ -7,6 +7,7 @@ ghost use Rattle.tcl_parse.specs.Tree.{parts};
 ghost use Rattle.tcl_parse.specs.View.{part_of};
 ghost use Rattle.tcl_expr.specs.View.{tree_of};
 ghost use Rattle.tcl_expr.specs.Trees.{unary, binary, choice};
+ghost use Rattle.tcl_host.specs.Codes as code_of;
 ghost use Rattle.tcl_eval.specs.Results.{ended, error_of, read_as};
 ghost use Rattle.tcl_eval.specs.Messages.{no_boolean};
 ghost use Rattle.tcl_eval.specs.Expressions.{way_of};
@@ -27,7 +28,8 @@ use txt_core::{MOST_BYTES, NoMemory, Text, read_truth};
 
 /// The value of a variable that is there, and isn't too long for a word, without a copy.
 fn variable<'a>(frames: &'a Frames, name: &Text) -> Option<&'a Text>
-    ensures value { IfSome result (λ text. read_as frames.now name.now ≡ ended 0 text.now) }
+    ensures value { IfSome result (λ text.
+        read_as frames.now name.now ≡ ended code_of.ok text.now) }
     ensures short { IfSome result (λ text. length text.now ≤ most_bytes) }
 {
     match frames.value(name) {
@@ -45,7 +47,9 @@ fn variable<'a>(frames: &'a Frames, name: &Text) -> Option<&'a Text>
 /// says nothing.
 #[tactic(auto, using(crate::proofs::Values::variable_at_once))]
 fn variable_word<'a>(frames: &'a Frames, pieces: &[Piece]) -> Option<&'a Text>
-    ensures { IfSome result (λ text. word_at_once frames.now (parts (map part_of pieces.now)) ≡ Some (ended 0 text.now)) }
+    ensures { IfSome result (λ text.
+        word_at_once frames.now (parts (map part_of pieces.now))
+        ≡ Some (ended code_of.ok text.now)) }
 {
     let (piece, behind) = pieces.split_first()?;
     if !behind.is_empty() {
@@ -62,7 +66,8 @@ fn variable_word<'a>(frames: &'a Frames, pieces: &[Piece]) -> Option<&'a Text>
 /// The value of an expression that is a literal, or a variable that is there, without a copy. Of any
 /// other one this says nothing.
 fn leaf<'a>(frames: &'a Frames, expr: &'a Expr) -> Option<&'a Text>
-    ensures { IfSome result (λ text. at_once frames.now (tree_of expr.now) ≡ Some (ended 0 text.now)) }
+    ensures { IfSome result (λ text.
+        at_once frames.now (tree_of expr.now) ≡ Some (ended code_of.ok text.now)) }
 {
     match expr {
         Expr::Value(text) => Some(text),
@@ -101,7 +106,9 @@ fn with_variable(
 
 /// What a word comes to that has neither a bracket nor an element. Of any other one this says nothing.
 fn simple_word(alloc: Global, frames: &Frames, pieces: &[Piece]) -> Result<Option<Ended>, NoMemory>
-    ensures { IfOk result (λ found. IfSome found (λ value. word_at_once frames.now (parts (map part_of pieces.now)) ≡ Some value)) }
+    ensures { IfOk result (λ found.
+        IfSome found (λ value.
+        word_at_once frames.now (parts (map part_of pieces.now)) ≡ Some value)) }
 {
     let mut so_far = SoFar::Kept(Text::empty(alloc));
     let mut left = pieces;
@@ -129,7 +136,7 @@ fn untrue(alloc: Global, value: &Text) -> Result<Ended, NoMemory>
 
 /// This text as a value.
 fn value_of(alloc: Global, text: &[u8]) -> Result<Ended, NoMemory>
-    ensures { IfOk result (λ value. value ≡ ended 0 text.now) }
+    ensures { IfOk result (λ value. value ≡ ended code_of.ok text.now) }
 {
     let result = Text::new(alloc, text)?;
     Ok(Ended { code: OK, result })
@@ -145,7 +152,8 @@ pub fn simple_value(
     expr: &Expr,
     room: u32,
 ) -> Result<Option<Ended>, NoMemory>
-    ensures { IfOk result (λ found. IfSome found (λ value. at_once frames.now (tree_of expr.now) ≡ Some value)) }
+    ensures { IfOk result (λ found.
+        IfSome found (λ value. at_once frames.now (tree_of expr.now) ≡ Some value)) }
 {
     if room == 0 {
         return Ok(None);
@@ -184,7 +192,8 @@ fn simple_unary(
     operand: &Expr,
     room: u32,
 ) -> Result<Option<Ended>, NoMemory>
-    ensures { IfOk result (λ found. IfSome found (λ value. at_once frames.now (unary op (tree_of operand.now)) ≡ Some value)) }
+    ensures { IfOk result (λ found.
+        IfSome found (λ value. at_once frames.now (unary op (tree_of operand.now)) ≡ Some value)) }
 {
     if let Some(text) = leaf(frames, operand) {
         let value = with_one(alloc, op, text)?;
@@ -213,7 +222,9 @@ fn simple_binary(
     right: &Expr,
     room: u32,
 ) -> Result<Option<Ended>, NoMemory>
-    ensures { IfOk result (λ found. IfSome found (λ value. at_once frames.now (binary op (tree_of left.now) (tree_of right.now)) ≡ Some value)) }
+    ensures { IfOk result (λ found.
+        IfSome found (λ value.
+        at_once frames.now (binary op (tree_of left.now) (tree_of right.now)) ≡ Some value)) }
 {
     if let Some(text) = leaf(frames, left) {
         let found = simple_left(alloc, frames, op, text, right, room)?;
@@ -242,7 +253,10 @@ fn simple_left(
     right: &Expr,
     room: u32,
 ) -> Result<Option<Ended>, NoMemory>
-    ensures { IfOk result (λ found. IfSome found (λ value. left_at_once (way_of op) op left.now (at_once frames.now (tree_of right.now)) ≡ Some value)) }
+    ensures { IfOk result (λ found.
+        IfSome found (λ value.
+        left_at_once (way_of op) op left.now (at_once frames.now (tree_of right.now))
+        ≡ Some value)) }
 {
     match way_of(op) {
         Way::Both => {
@@ -279,7 +293,9 @@ fn simple_right(
     right: &Expr,
     room: u32,
 ) -> Result<Option<Ended>, NoMemory>
-    ensures { IfOk result (λ found. IfSome found (λ value. right_at_once op left.now (at_once frames.now (tree_of right.now)) ≡ Some value)) }
+    ensures { IfOk result (λ found.
+        IfSome found (λ value.
+        right_at_once op left.now (at_once frames.now (tree_of right.now)) ≡ Some value)) }
 {
     if let Some(text) = leaf(frames, right) {
         let value = with_two(alloc, op, left, text)?;
@@ -308,7 +324,10 @@ fn simple_choice(
     second: &Expr,
     room: u32,
 ) -> Result<Option<Ended>, NoMemory>
-    ensures { IfOk result (λ found. IfSome found (λ value. at_once frames.now (choice (tree_of test.now) (tree_of first.now) (tree_of second.now)) ≡ Some value)) }
+    ensures { IfOk result (λ found.
+        IfSome found (λ value.
+        at_once frames.now (choice (tree_of test.now) (tree_of first.now) (tree_of second.now))
+        ≡ Some value)) }
 {
     match simple_value(alloc, frames, test, room)? {
         None => Ok(None),
@@ -333,7 +352,11 @@ fn simple_chosen(
     second: &Expr,
     room: u32,
 ) -> Result<Option<Ended>, NoMemory>
-    ensures { IfOk result (λ found. IfSome found (λ ended. on_truth (truth value.now) value.now (at_once frames.now (tree_of first.now)) (at_once frames.now (tree_of second.now)) ≡ Some ended)) }
+    ensures { IfOk result (λ found.
+        IfSome found (λ ended.
+        on_truth (truth value.now) value.now (at_once frames.now (tree_of first.now))
+        (at_once frames.now (tree_of second.now))
+        ≡ Some ended)) }
 {
     match read_truth(value) {
         None => Ok(Some(untrue(alloc, value)?)),

@@ -105,7 +105,7 @@ pub enum Ready {
 
 /// What comes before the next text may be run.
 #[derive(Drop)]
-pub enum Settled {
+pub enum AtRest {
     /// All is done.
     Ended(Ended),
     Ready(Ready),

@@ -2,7 +2,7 @@
 
 ghost use Rattle.std.specs.Prelude.{◌≡◌, ◌-◌, IfOk, OnOk, Option, false, length, bytes_eq, codes};
 ghost use Rattle.std.specs.Option.{option_copied};
-ghost use Rattle.tcl_eval.specs.Natives.{Names};
+ghost use Rattle.txt_core.specs.Names.{Names};
 ghost use Rattle.tcl_eval.specs.Words.{arg};
 ghost use Rattle.tcl_eval.specs.Eval.{nested, do_switch};
 ghost use Rattle.tcl_eval.specs.Switch.{options, fits, body_or_next, body_for, by_pairs, by_words};
@@ -114,7 +114,10 @@ impl<H: Host> Engine<H> {
         pairs: &[Text],
         levels: u32,
     ) -> Result<Acted, NoMemory>
-        ensures means { IfOk result (λ acted. (names : Names) (opened : Option OpenQuestion) → Same names H.table self.new self.old (acted_next names H.table acted opened) (by_pairs (nested names H.table levels) globs text.now pairs.now)) }
+        ensures means { IfOk result (λ acted.
+            (names : Names) (opened : Option OpenQuestion)
+            → Same names H.table self.new self.old (acted_next names H.table acted opened)
+            (by_pairs (nested names H.table levels) globs text.now pairs.now)) }
         ensures lower { OnOk result (Lower self.new self.old 1) }
         ensures opens { IfOk result (λ acted. Opens acted self.new self.old) }
         ensures holds { Holds self.new self.old }
@@ -141,7 +144,10 @@ impl<H: Host> Engine<H> {
         words: &Words,
         levels: u32,
     ) -> Result<Acted, NoMemory>
-        ensures means { IfOk result (λ acted. (names : Names) (opened : Option OpenQuestion) → Same names H.table self.new self.old (acted_next names H.table acted opened) (by_words (nested names H.table levels) globs text.now behind.now words.now)) }
+        ensures means { IfOk result (λ acted.
+            (names : Names) (opened : Option OpenQuestion)
+            → Same names H.table self.new self.old (acted_next names H.table acted opened)
+            (by_words (nested names H.table levels) globs text.now behind.now words.now)) }
         ensures lower { OnOk result (Lower self.new self.old 1) }
         ensures opens { IfOk result (λ acted. Opens acted self.new self.old) }
         ensures holds { Holds self.new self.old }
@@ -176,7 +182,10 @@ impl<H: Host> Engine<H> {
 
     /// `switch ?-exact? ?-glob? ?--? text pairs`.
     pub(crate) fn do_switch(&mut self, words: &Words, levels: u32) -> Result<Acted, NoMemory>
-        ensures means { IfOk result (λ acted. (names : Names) (opened : Option OpenQuestion) → Same names H.table self.new self.old (acted_next names H.table acted opened) (do_switch (nested names H.table levels) words.now)) }
+        ensures means { IfOk result (λ acted.
+            (names : Names) (opened : Option OpenQuestion)
+            → Same names H.table self.new self.old (acted_next names H.table acted opened)
+            (do_switch (nested names H.table levels) words.now)) }
         ensures lower { OnOk result (Lower self.new self.old 1) }
         ensures opens { IfOk result (λ acted. Opens acted self.new self.old) }
         ensures holds { Holds self.new self.old }

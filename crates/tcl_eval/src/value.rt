@@ -1,6 +1,7 @@
 //! Codes with results.
 
 ghost use Rattle.std.specs.Prelude.{◌≡◌, [], IfOk};
+ghost use Rattle.tcl_host.specs.Codes as code_of;
 ghost use Rattle.tcl_eval.specs.Messages.{too_long};
 ghost use Rattle.tcl_eval.specs.Kept.{kept_value};
 ghost use Rattle.tcl_eval.specs.declared.gather.SoFar.{SoFar};
@@ -15,7 +16,7 @@ use txt_core::{MOST_BYTES, NoMemory, Text, Words, error_text};
 
 /// A good end with the empty result.
 pub fn done(alloc: Global) -> Ended
-    ensures { result ≡ ended 0 [] }
+    ensures { result ≡ ended code_of.ok [] }
 {
     Ended {
         code: OK,
@@ -27,7 +28,7 @@ pub fn done(alloc: Global) -> Ended
 #[cold]
 #[inline(never)]
 pub fn too_long(alloc: Global) -> Result<Ended, NoMemory>
-    ensures { IfOk result (λ value. value ≡ ended 1 too_long) }
+    ensures { IfOk result (λ value. value ≡ ended code_of.error too_long) }
 {
     Ok(Ended {
         code: ERROR,
@@ -60,7 +61,7 @@ pub fn judged(alloc: Global, text: Text) -> Result<Ended, NoMemory>
 
 /// An error with this text, which isn't too long.
 pub fn failed(message: Text) -> Ended
-    ensures { result ≡ ended 1 message }
+    ensures { result ≡ ended code_of.error message }
 {
     Ended {
         code: ERROR,

@@ -1,10 +1,11 @@
 -- The table of the operators: from an operator and its operands, which are texts, to a text or the first fault that fits.
-use Rattle.std.specs.Prelude.{◌≡◌, ℕ, List, Bool, true, false, not, ◌&&◌, ◌||◌, ◌==◌, nat_lt, if◌then◌else◌, ℤ, pos, negsuc, neg_ℤ, ◌+ℤ◌, ◌-ℤ◌, ◌*ℤ◌, Option, None, Some, Result, Ok, Err, codes, bytes_eq}
+use Rattle.std.specs.Prelude.{◌≡◌, ℕ, Bool, true, false, not, ◌&&◌, ◌||◌, ◌==◌, nat_lt, if◌then◌else◌, ℤ, pos, negsuc, neg_ℤ, ◌+ℤ◌, ◌-ℤ◌, ◌*ℤ◌, Option, None, Some, Result, Ok, Err, codes, bytes_eq}
 use Rattle.std.specs.Int.{w64, int_bit_and, int_bit_or, int_bit_xor, int_bit_not}
 use Rattle.std.specs.declared.cmp.Ordering.{Ordering}
 use Rattle.std.specs.Ordering.{int_cmp, nat_cmp, is_eq, is_ne, is_lt, is_gt, is_le, is_ge}
 use Rattle.std.specs.Cmp.Lexicographic.{slice_cmp}
 use Rattle.std.specs.Fmt.{signed_decimal}
+use Rattle.txt_core.specs.Names.{Bytes}
 use Rattle.txt_core.specs.Number.{number}
 use Rattle.txt_core.specs.Truth.{truth}
 use Rattle.tcl_expr.specs.declared.operator.Op.{Op}
@@ -15,7 +16,7 @@ use Rattle.tcl_expr.specs.Arithmetic.{quotient, remainder, shifted_left, shifted
 
 -- What an operator gives: a text, or a fault.
 abbrev pub Applied : Type 0
-Applied = Result (List ℕ) ExprFault
+Applied = Result Bytes ExprFault
 
 -- a number, where 64 bits hold it
 abbrev pub held : ℤ → Result ℤ ExprFault
@@ -62,7 +63,7 @@ on_number by (Some n) = in_decimal (by n)
 on_number by None = Err NotNumber
 
 -- a truth as a text: 1 or 0
-abbrev pub told : Bool → List ℕ
+abbrev pub told : Bool → Bytes
 told true = codes "1"
 told false = codes "0"
 
@@ -88,11 +89,11 @@ by_number (Some m) (Some n) o = int_cmp m n
 by_number (Some m) None o = o
 by_number None n o = o
 
-abbrev pub compared : List ℕ → List ℕ → Ordering
+abbrev pub compared : Bytes → Bytes → Ordering
 compared l r = by_number (number l) (number r) (slice_cmp nat_cmp l r)
 
 -- The operators before one operand.
-abbrev pub unary : Op → List ℕ → Applied
+abbrev pub unary : Op → Bytes → Applied
 unary Minus v = on_number (λ n. held (neg_ℤ n)) (number v)
 unary Plus v = on_number Ok (number v)
 unary Invert v = on_number (λ n. Ok (int_bit_not w64 n)) (number v)
@@ -100,7 +101,7 @@ unary Not v = on_truth not (truth v)
 unary _ v = Err NotNumber
 
 -- The operators between two operands. Comparisons, `&&` and `||` give 1 or 0; `eq` and `ne` compare bytes.
-abbrev pub binary : Op → List ℕ → List ℕ → Applied
+abbrev pub binary : Op → Bytes → Bytes → Applied
 binary Lt l r = Ok (told (is_lt (compared l r)))
 binary Gt l r = Ok (told (is_gt (compared l r)))
 binary Le l r = Ok (told (is_le (compared l r)))
@@ -114,11 +115,11 @@ binary Or l r = on_truths (joined Or) (truth l) (truth r)
 binary op l r = on_numbers (combined op) (number l) (number r)
 
 -- The value of a whole expression: its decimal form where it is a number, else its text.
-abbrev pub value_by : Option ℤ → List ℕ → List ℕ
+abbrev pub value_by : Option ℤ → Bytes → Bytes
 value_by (Some n) t = signed_decimal n
 value_by None t = t
 
-abbrev pub value_of : List ℕ → List ℕ
+abbrev pub value_of : Bytes → Bytes
 value_of t = value_by (number t) t
 
 -- What a call answers is what the table gives, unless memory ran out.

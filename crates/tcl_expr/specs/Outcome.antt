@@ -1,12 +1,13 @@
 -- What reading a part of an expression gives.
-use Rattle.std.specs.Prelude.{ℕ, List}
+use Rattle.std.specs.Prelude.{ℕ}
+use Rattle.txt_core.specs.Names.{Bytes}
 use Rattle.tcl_expr.specs.declared.operator.Op.{Op}
 use Rattle.tcl_expr.specs.Trees.{Tree, unary, choice}
 
 -- Reading gives a tree, how many operators may still come in this text, and what is left behind it and the blanks after it;
 -- or the bad place: how many bytes are left from it on.
 pub data Outcome : Type 0 where
-  done : Tree → ℕ → List ℕ → Outcome
+  done : Tree → ℕ → Bytes → Outcome
   bad : ℕ → Outcome
 
 -- an operator before what is read

@@ -1,11 +1,12 @@
 -- How what waits while a text is read goes on: the meaning of the program's stacks, innermost first.
 use Rattle.std.specs.Prelude.{◌≡◌, ℕ, zero, suc, ◌+◌, ◌-◌, ◌<◌, ◌≤◌, List, [], ◌∷◌, map, reverse, Option, None, Some}
+use Rattle.txt_core.specs.Names.{Bytes}
 use Rattle.tcl_expr.specs.declared.operator.Op.{Op}
 use Rattle.tcl_expr.specs.declared.reading.Pending.{Pending}
 use Rattle.tcl_expr.specs.declared.reading.Asked.{Asked}
 use Rattle.tcl_expr.specs.declared.reading.Asked.TheVariants as waiting
-use Rattle.tcl_expr.specs.declared.reading.Settled.{Settled}
-use Rattle.tcl_expr.specs.declared.reading.Settled.TheVariants as settled
+use Rattle.tcl_expr.specs.declared.reading.Taken.{Taken}
+use Rattle.tcl_expr.specs.declared.reading.Taken.TheVariants as settled
 use Rattle.tcl_expr.specs.Trees.{Tree, unary, binary}
 use Rattle.tcl_expr.specs.Outcome.{Outcome, done, bad, chosen}
 use Rattle.tcl_expr.specs.Tokens.{level, loosest, next_colon, stuck}
@@ -48,11 +49,11 @@ IsLoose l [] = Unit {0}
 IsLoose l (p ∷ ps) = l < level p.0
 
 -- the operator that comes next, if any, binds as loosely as a level or looser
-abbrev pub AtLeast : ℕ → Option (Op × ℕ × List ℕ) → Type 0
+abbrev pub AtLeast : ℕ → Option (Op × ℕ × Bytes) → Type 0
 AtLeast l None = Unit {0}
 AtLeast l (Some x) = l ≤ level x.0
 
-module _ (Signed : ℕ → List ℕ → Outcome → Type 0) where
+module _ (Signed : ℕ → Bytes → Outcome → Type 0) where
   -- v was read at level j; going on over the next d levels gives w
   abbrev pub Up : ℕ → ℕ → Outcome → Outcome → Type 0
   Up zero j v w = v ≡ w
@@ -84,8 +85,8 @@ part_of (waiting.Else x y) = for_last (tree_of x) (tree_of y)
 abbrev pub parts : List Asked → List Part
 parts ps = reverse (map part_of ps)
 
-module _ (Choice : ℕ → List ℕ → Outcome → Type 0) where
-  abbrev pub Last : Tree → Tree → ℕ → List ℕ → Option (List ℕ) → Outcome → Type 0
+module _ (Choice : ℕ → Bytes → Outcome → Type 0) where
+  abbrev pub Last : Tree → Tree → ℕ → Bytes → Option Bytes → Outcome → Type 0
   Last x y j u None w = w ≡ bad (stuck j u)
   Last x y j u (Some s) w = (z : Outcome) × Choice j s z × (w ≡ chosen x y z)
 
@@ -101,6 +102,6 @@ module _ (Choice : ℕ → List ℕ → Outcome → Type 0) where
   Waits (for_last x y ∷ ps) v o = Waits ps (chosen x y v) o
 
   -- an expression whose end has been read; all gives o
-  abbrev pub IsSettled : Settled → List Part → ℕ → List ℕ → Outcome → Type 0
+  abbrev pub IsSettled : Taken → List Part → ℕ → Bytes → Outcome → Type 0
   IsSettled (settled.Whole x) ps n t o = done (tree_of x) n t ≡ o
   IsSettled (settled.Middle x y) ps n t o = Waits (for_middle (tree_of x) ∷ ps) (done (tree_of y) n t) o

@@ -1,6 +1,7 @@
 -- What stands between operands.
-use Rattle.std.specs.Prelude.{ℕ, zero, suc, ◌≤◌, List, [], ◌∷◌, length, Bool, ◌==◌, ◌&&◌, ◌||◌, if◌then◌else◌, Option, None, Some}
+use Rattle.std.specs.Prelude.{ℕ, zero, suc, ◌≤◌, [], ◌∷◌, length, Bool, ◌==◌, ◌&&◌, ◌||◌, if◌then◌else◌, Option, None, Some}
 use Rattle.std.specs.Option.{option_map}
+use Rattle.txt_core.specs.Names.{Bytes}
 use Rattle.txt_core.specs.Number.{trimmed_front}
 use Rattle.tcl_expr.specs.declared.operator.Op.{Op}
 use Rattle.tcl_expr.specs.declared.operator.Op.TheVariants.{Minus, Plus, Invert, Not, Mul, Div, Rem, Add, Sub, Shl, Shr, Lt, Gt, Le, Ge, EqNumber, NeNumber, EqText, NeText, BitAnd, BitXor, BitOr, And, Or}
@@ -80,51 +81,51 @@ abbrev pub Binds : Op → Type 0
 Binds op = (1 ≤ level op) × (level op ≤ loosest)
 
 -- an operator, where there is one, and what is left behind it
-abbrev pub before : Option Op → List ℕ → Option (Op × List ℕ)
+abbrev pub before : Option Op → Bytes → Option (Op × Bytes)
 before None t = None
 before (Some op) t = Some (op, t)
 
 -- the first of two, where it is one, else the second
-abbrev pub either : Option (Op × List ℕ) → Option (Op × List ℕ) → Option (Op × List ℕ)
+abbrev pub either : Option (Op × Bytes) → Option (Op × Bytes) → Option (Op × Bytes)
 either None o = o
 either (Some x) o = Some x
 
 -- the binary operator at the front, of two bytes where it can be, and what is left behind it
-abbrev pub operator_at : List ℕ → Option (Op × List ℕ)
+abbrev pub operator_at : Bytes → Option (Op × Bytes)
 operator_at [] = None
 operator_at (b ∷ []) = before (single b) []
 operator_at (b ∷ c ∷ t) = either (before (double b c) t) (before (single b) (c ∷ t))
 
 -- the unary operator at the front
-abbrev pub sign_at : List ℕ → Option (Op × List ℕ)
+abbrev pub sign_at : Bytes → Option (Op × Bytes)
 sign_at [] = None
 sign_at (b ∷ t) = before (sign b) t
 
 -- this byte at the front, and what is left behind it and the blanks after it
-abbrev pub behind : ℕ → List ℕ → Option (List ℕ)
+abbrev pub behind : ℕ → Bytes → Option Bytes
 behind c [] = None
 behind c (b ∷ t) = if b == c then Some (trimmed_front t) else None
 
 -- What is taken as one more operator: with how many may still come behind it, and what is left behind it and the blanks after it. Where no more may come, none is taken.
-abbrev pub counted : ℕ → Option (Op × List ℕ) → Option (Op × ℕ × List ℕ)
+abbrev pub counted : ℕ → Option (Op × Bytes) → Option (Op × ℕ × Bytes)
 counted zero o = None
 counted (suc n) o = option_map (λ x. (x.0, n, trimmed_front x.1)) o
 
 -- the binary operator that comes next
-abbrev pub next_operator : ℕ → List ℕ → Option (Op × ℕ × List ℕ)
+abbrev pub next_operator : ℕ → Bytes → Option (Op × ℕ × Bytes)
 next_operator n t = counted n (operator_at t)
 
 -- the unary operator that comes next
-abbrev pub next_sign : ℕ → List ℕ → Option (Op × ℕ × List ℕ)
+abbrev pub next_sign : ℕ → Bytes → Option (Op × ℕ × Bytes)
 next_sign n t = counted n (sign_at t)
 
 -- the question mark that comes next; it counts as an operator
-abbrev pub next_question : ℕ → List ℕ → Option (ℕ × List ℕ)
+abbrev pub next_question : ℕ → Bytes → Option (ℕ × Bytes)
 next_question zero t = None
 next_question (suc n) t = option_map (λ r. (n, r)) (behind 63 t)
 
 -- the colon that comes next; it doesn't count
-abbrev pub next_colon : List ℕ → Option (List ℕ)
+abbrev pub next_colon : Bytes → Option Bytes
 next_colon t = behind 58 t
 
 -- half of an operator of two bytes: `=` `!` `e` `n`
@@ -133,7 +134,7 @@ is_half b = (b == 61) || (b == 33) || (b == 101) || (b == 110)
 
 -- How many bytes are left from the first one on that can't go on, where a whole operand stands before the text and none of its operators, closing parentheses and colons follow:
 -- the byte behind half of an operator, where one may still come, else the first.
-abbrev pub stuck : ℕ → List ℕ → ℕ
+abbrev pub stuck : ℕ → Bytes → ℕ
 stuck n [] = 0
 stuck zero (b ∷ t) = length (b ∷ t)
 stuck (suc n) (b ∷ t) = if is_half b then length t else length (b ∷ t)

@@ -1,11 +1,11 @@
 -- Expressions as trees.
-use Rattle.std.specs.Prelude.{ℕ, List}
+use Rattle.txt_core.specs.Names.{Bytes}
 use Rattle.tcl_parse.specs.Tree.{Word}
 use Rattle.tcl_expr.specs.declared.operator.Op.{Op}
 
 pub data Tree : Type 0 where
   -- a number or a word of truth, as it stands
-  value : List ℕ → Tree
+  value : Bytes → Tree
   -- a word in quotes or braces, a variable, an element or a bracket: the parts whose values are joined
   word : Word → Tree
   -- an operator before its operand

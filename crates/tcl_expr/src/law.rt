@@ -1,6 +1,7 @@
 //! What holds of the rules themselves.
 
-ghost use Rattle.std.specs.Prelude.{◌≡◌, ℕ, List, ◌⊎◌, ℤ, pos, ◌+ℤ◌, ◌*ℤ◌};
+ghost use Rattle.std.specs.Prelude.{◌≡◌, ℕ, ◌⊎◌, ℤ, pos, ◌+ℤ◌, ◌*ℤ◌};
+ghost use Rattle.txt_core.specs.Names.{Bytes};
 ghost use Rattle.tcl_expr.specs.Arithmetic.{quotient, remainder, IsBetween};
 ghost use Rattle.tcl_expr.specs.Trees.{Tree};
 ghost use Rattle.tcl_expr.specs.Outcome.{Answer};
@@ -10,23 +11,23 @@ ghost use Rattle.tcl_expr.specs.Places.{NoneGoesPast, SomeReaches};
 
 /// Each text is an expression or is bad at a place of it, and never two of these.
 pub fn one_answer()
-    ensures some { (t : List ℕ) → ((x : Tree) × IsTree x t) ⊎ ((place : ℕ) × IsBad place t) }
-    ensures one_tree { (t : List ℕ) (x y : Tree) → IsTree x t → IsTree y t → x ≡ y }
-    ensures one_place { (t : List ℕ) (p q : ℕ) → IsBad p t → IsBad q t → p ≡ q }
-    ensures not_both { (t : List ℕ) (x : Tree) (p : ℕ) → IsTree x t → IsBad p t → ⊥ }
+    ensures some { (t : Bytes) → ((x : Tree) × IsTree x t) ⊎ ((place : ℕ) × IsBad place t) }
+    ensures one_tree { (t : Bytes) (x y : Tree) → IsTree x t → IsTree y t → x ≡ y }
+    ensures one_place { (t : Bytes) (p q : ℕ) → IsBad p t → IsBad q t → p ≡ q }
+    ensures not_both { (t : Bytes) (x : Tree) (p : ℕ) → IsTree x t → IsBad p t → ⊥ }
 {}
 
 /// The answer of a text is what the rules give, and they give nothing else.
 pub fn one_reading()
-    ensures gives { (t : List ℕ) → Reads t (expression_of t) }
-    ensures only { (t : List ℕ) (a : Answer) → Reads t a → expression_of t ≡ a }
+    ensures gives { (t : Bytes) → Reads t (expression_of t) }
+    ensures only { (t : Bytes) (a : Answer) → Reads t a → expression_of t ≡ a }
 {}
 
 /// The bad place is the least one that no expression can go past: with the byte that stands there
 /// no expression can go on, and some expression begins with the bytes before it.
 pub fn least_place()
-    ensures none { (t : List ℕ) (place : ℕ) → IsBad place t → NoneGoesPast place t }
-    ensures some { (t : List ℕ) (place : ℕ) → IsBad place t → SomeReaches place t }
+    ensures none { (t : Bytes) (place : ℕ) → IsBad place t → NoneGoesPast place t }
+    ensures some { (t : Bytes) (place : ℕ) → IsBad place t → SomeReaches place t }
 {}
 
 /// The divisor times the quotient, and the remainder, make the number that was divided; and the

@@ -1,6 +1,7 @@
 //! Reading an expression from left to right.
 
-ghost use Rattle.std.specs.Prelude.{◌≡◌, ◌<◌, ◌≤◌, ◌∷◌, ℕ, List, length, map, IfOk, IfSome, MatchOption};
+ghost use Rattle.std.specs.Prelude.{◌≡◌, ◌<◌, ◌≤◌, ◌∷◌, ℕ, length, map, IfOk, IfSome, MatchOption};
+ghost use Rattle.txt_core.specs.Names.{Bytes};
 ghost use Rattle.tcl_parse.specs.View.{part_of};
 ghost use Rattle.tcl_expr.specs.Trees.{word, unary, binary, choice};
 ghost use Rattle.tcl_expr.specs.Outcome.{Outcome, done};
@@ -43,7 +44,7 @@ pub enum Asked {
 
 /// An expression whose end has been read: all, or the middle of a choice, behind its test.
 #[derive(Drop)]
-pub enum Settled {
+pub enum Taken {
     Whole(Expr),
     Middle(Expr, Expr),
 }
@@ -84,7 +85,8 @@ fn word_expression(alloc: Global, pieces: Vec<Piece>) -> Result<Expr, NoMemory>
 
 /// A word in quotes or braces.
 fn enclosed(alloc: Global, left: u32, bytes: &[u8]) -> Result<Option<(Expr, u32, &[u8])>, Stop>
-    ensures same { GivesAny (λ x. tree_of x.0) (λ x. x.1) (λ x. x.2.now) result (WordGives left bytes.now) }
+    ensures same { GivesAny (λ x. tree_of x.0) (λ x. x.1) (λ x. x.2.now) result
+        (WordGives left bytes.now) }
     ensures goes { IfOk result (λ found. IfSome found (λ x. length x.2.now < length bytes.now)) }
 {
     match read_enclosed(alloc, MOST_NESTED, bytes) {
@@ -100,7 +102,8 @@ fn enclosed(alloc: Global, left: u32, bytes: &[u8]) -> Result<Option<(Expr, u32,
 
 /// What begins with a dollar or a bracket.
 fn substituted(alloc: Global, left: u32, bytes: &[u8]) -> Result<(Expr, u32, &[u8]), Stop>
-    ensures same { Gives (λ x. tree_of x.0) (λ x. x.1) (λ x. x.2.now) result (PartGives left bytes.now) }
+    ensures same { Gives (λ x. tree_of x.0) (λ x. x.1) (λ x. x.2.now) result
+        (PartGives left bytes.now) }
     ensures goes { IfOk result (λ x. length x.2.now < length bytes.now) }
 {
     match read_substitution(alloc, MOST_NESTED, bytes) {
@@ -117,7 +120,8 @@ fn substituted(alloc: Global, left: u32, bytes: &[u8]) -> Result<(Expr, u32, &[u
 
 /// A number or a word of truth.
 fn value(alloc: Global, left: u32, bytes: &[u8]) -> Result<(Expr, u32, &[u8]), Stop>
-    ensures same { Gives (λ x. tree_of x.0) (λ x. x.1) (λ x. x.2.now) result (λ o. o ≡ run_operand left bytes.now) }
+    ensures same { Gives (λ x. tree_of x.0) (λ x. x.1) (λ x. x.2.now) result (λ o.
+        o ≡ run_operand left bytes.now) }
     ensures goes { IfOk result (λ x. length x.2.now < length bytes.now) }
 {
     let (run, rest) = split_run(bytes);
@@ -137,7 +141,8 @@ fn in_parentheses(
     left: u32,
     bytes: &[u8],
 ) -> Result<(Expr, u32, &[u8]), Stop>
-    ensures same { Gives (λ x. tree_of x.0) (λ x. x.1) (λ x. x.2.now) result (ClosedGives room left bytes.now) }
+    ensures same { Gives (λ x. tree_of x.0) (λ x. x.1) (λ x. x.2.now) result
+        (ClosedGives room left bytes.now) }
     ensures goes { IfOk result (λ x. length x.2.now ≤ length bytes.now) }
 {
     if room == 0 {
@@ -158,7 +163,8 @@ fn in_parentheses(
 /// An operand without unary operators.
 #[cycle(reader)]
 fn operand(alloc: Global, room: u32, left: u32, bytes: &[u8]) -> Result<(Expr, u32, &[u8]), Stop>
-    ensures same { Gives (λ x. tree_of x.0) (λ x. x.1) (λ x. x.2.now) result (OperandGives room left bytes.now) }
+    ensures same { Gives (λ x. tree_of x.0) (λ x. x.1) (λ x. x.2.now) result
+        (OperandGives room left bytes.now) }
     ensures goes { IfOk result (λ x. length x.2.now < length bytes.now) }
 {
     match enclosed(alloc, left, bytes)? {
@@ -170,7 +176,8 @@ fn operand(alloc: Global, room: u32, left: u32, bytes: &[u8]) -> Result<(Expr, u
 /// An operand that is no word in quotes or braces.
 #[cycle(reader)]
 fn bare(alloc: Global, room: u32, left: u32, bytes: &[u8]) -> Result<(Expr, u32, &[u8]), Stop>
-    ensures same { Gives (λ x. tree_of x.0) (λ x. x.1) (λ x. x.2.now) result (BareGives room left bytes.now) }
+    ensures same { Gives (λ x. tree_of x.0) (λ x. x.1) (λ x. x.2.now) result
+        (BareGives room left bytes.now) }
     ensures goes { IfOk result (λ x. length x.2.now < length bytes.now) }
 {
     match bytes.split_first() {
@@ -189,7 +196,8 @@ fn bare(alloc: Global, room: u32, left: u32, bytes: &[u8]) -> Result<(Expr, u32,
 /// An operand behind unary operators.
 #[cycle(reader)]
 fn signed(alloc: Global, room: u32, left: u32, bytes: &[u8]) -> Result<(Expr, u32, &[u8]), Stop>
-    ensures same { Gives (λ x. tree_of x.0) (λ x. x.1) (λ x. x.2.now) result (SignedAt (InParens room) left bytes.now) }
+    ensures same { Gives (λ x. tree_of x.0) (λ x. x.1) (λ x. x.2.now) result
+        (SignedAt (InParens room) left bytes.now) }
     ensures goes { IfOk result (λ x. length x.2.now < length bytes.now) }
 {
     let mut signs = Vec::new(alloc);
@@ -230,7 +238,8 @@ fn with_signs(alloc: Global, signs: Vec<Op>, expr: Expr) -> Result<Expr, NoMemor
 }
 
 fn binary(alloc: Global, waiting: Pending, right: Expr) -> Result<Expr, NoMemory>
-    ensures { IfOk result (λ e. tree_of e ≡ binary waiting.op (tree_of waiting.tree) (tree_of right)) }
+    ensures { IfOk result (λ e.
+        tree_of e ≡ binary waiting.op (tree_of waiting.tree) (tree_of right)) }
 {
     let Pending { op, tree } = waiting;
     let left = Rc::new(alloc, tree)?;
@@ -239,7 +248,10 @@ fn binary(alloc: Global, waiting: Pending, right: Expr) -> Result<Expr, NoMemory
 
 /// Takes what waits last, where its operator binds as tightly as this level or tighter.
 fn pop_tight(pending: &mut Vec<Pending>, most: u8) -> Option<Pending>
-    ensures { MatchOption result ((pending.new.items ≡ pending.old.items) × IsLoose most (stack pending.new.items)) (λ p. (stack pending.old.items ≡ frame_of p ∷ stack pending.new.items) × (level p.op ≤ most)) }
+    ensures { MatchOption result
+        ((pending.new.items ≡ pending.old.items) × IsLoose most (stack pending.new.items))
+        (λ p.
+        (stack pending.old.items ≡ frame_of p ∷ stack pending.new.items) × (level p.op ≤ most)) }
 {
     let last = pending.last()?;
     if level(last.op) > most {
@@ -255,7 +267,7 @@ fn reduced(
     pending: &mut Vec<Pending>,
     tree: Expr,
 ) -> Result<Expr, NoMemory>
-    ensures means { IsStack (stack pending.old.items) → IfOk result (λ e. (room n : ℕ) (t : List ℕ) (o : Outcome) → AtLeast most (next_operator n t) →
+    ensures means { IsStack (stack pending.old.items) → IfOk result (λ e. (room n : ℕ) (t : Bytes) (o : Outcome) → AtLeast most (next_operator n t) →
         FromOperand (SignedAt (InParens room)) (stack pending.new.items) (done (tree_of e) n t) o → FromOperand (SignedAt (InParens room)) (stack pending.old.items) (done (tree_of tree) n t) o) }
     ensures valid { IsStack (stack pending.old.items) → IsStack (stack pending.new.items) }
     ensures loose { IfOk result (λ _. IsLoose most (stack pending.new.items)) }
@@ -270,7 +282,8 @@ fn reduced(
 /// Binary operators and their operands.
 #[cycle(reader)]
 fn joined(alloc: Global, room: u32, left: u32, bytes: &[u8]) -> Result<(Expr, u32, &[u8]), Stop>
-    ensures same { Gives (λ x. tree_of x.0) (λ x. x.1) (λ x. x.2.now) result (LevelAt (SignedAt (InParens room)) loosest left bytes.now) }
+    ensures same { Gives (λ x. tree_of x.0) (λ x. x.1) (λ x. x.2.now) result
+        (LevelAt (SignedAt (InParens room)) loosest left bytes.now) }
     ensures goes { IfOk result (λ x. length x.2.now < length bytes.now) }
 {
     let mut pending = Vec::new(alloc);
@@ -293,7 +306,8 @@ fn joined(alloc: Global, room: u32, left: u32, bytes: &[u8]) -> Result<(Expr, u3
 /// A whole expression: `x ? y : z`, or binary operators and their operands.
 #[cycle(reader)]
 fn choice(alloc: Global, room: u32, left: u32, bytes: &[u8]) -> Result<(Expr, u32, &[u8]), Stop>
-    ensures same { Gives (λ x. tree_of x.0) (λ x. x.1) (λ x. x.2.now) result (ExpressionBy (InParens room) left bytes.now) }
+    ensures same { Gives (λ x. tree_of x.0) (λ x. x.1) (λ x. x.2.now) result
+        (ExpressionBy (InParens room) left bytes.now) }
     ensures goes { IfOk result (λ x. length x.2.now < length bytes.now) }
 {
     let mut asked = Vec::new(alloc);
@@ -308,8 +322,8 @@ fn choice(alloc: Global, room: u32, left: u32, bytes: &[u8]) -> Result<(Expr, u3
                 rest = middle;
             }
             None => match settle(alloc, &mut asked, tree)? {
-                Settled::Whole(tree) => return Ok((tree, after, tail)),
-                Settled::Middle(test, tree) => match next_colon(tail) {
+                Taken::Whole(tree) => return Ok((tree, after, tail)),
+                Taken::Middle(test, tree) => match next_colon(tail) {
                     None => return Err(Stop::Bad(stuck(after, tail))),
                     Some(last) => {
                         asked.push(Asked::Else(test, tree))?;
@@ -331,20 +345,20 @@ fn chosen(alloc: Global, test: Expr, middle: Expr, last: Expr) -> Result<Expr, N
 }
 
 /// Joins the choices whose last part has been read, up to the one that waits for its middle.
-fn settle(alloc: Global, asked: &mut Vec<Asked>, tree: Expr) -> Result<Settled, NoMemory>
-    ensures { IfOk result (λ x. (room n : ℕ) (t : List ℕ) (o : Outcome) →
+fn settle(alloc: Global, asked: &mut Vec<Asked>, tree: Expr) -> Result<Taken, NoMemory>
+    ensures { IfOk result (λ x. (room n : ℕ) (t : Bytes) (o : Outcome) →
         IsSettled (ExpressionBy (InParens room)) x (parts asked.new.items) n t o → Waits (ExpressionBy (InParens room)) (parts asked.old.items) (done (tree_of tree) n t) o) }
 {
     let mut tree = tree;
     'asked: while let Some(last) = asked.pop() {
         match last {
-            Asked::Then(test) => return Ok(Settled::Middle(test, tree)),
+            Asked::Then(test) => return Ok(Taken::Middle(test, tree)),
             Asked::Else(test, middle) => {
                 tree = chosen(alloc, test, middle, tree)?;
             }
         }
     }
-    Ok(Settled::Whole(tree))
+    Ok(Taken::Whole(tree))
 }
 
 /// The expression that a text is, as its tree.

@@ -1,6 +1,7 @@
 -- Base scalars: global scalars that are there whenever an interpreter's variables are cleared.
 use Rattle.std.specs.Prelude.{◌≡◌, ℕ, ◌++◌, List, [], ◌∷◌, fold, take}
 use Rattle.std.specs.FinMap as map
+use Rattle.txt_core.specs.Names.{Bytes, Pairs}
 use Rattle.tcl_frame.specs.declared.variable.Variable.TheVariants.{Scalar}
 use Rattle.tcl_frame.specs.Variables.{Table, Scalars}
 use Rattle.tcl_frame.specs.Stack.{Stack, Kept}
@@ -10,7 +11,7 @@ abbrev pub base_of : List Kept → Scalars
 base_of keeps = fold (λ base keep. map.insert base keep.0 keep.1) map.empty keeps
 
 -- the variables, in which these scalars have these values, whatever stood there
-abbrev pub with_scalars : List (List ℕ × List ℕ) → Table → Table
+abbrev pub with_scalars : Pairs → Table → Table
 with_scalars [] table = table
 with_scalars (scalar ∷ scalars) table = map.insert (with_scalars scalars table) scalar.0 (Scalar scalar.1)
 
@@ -31,7 +32,7 @@ abbrev pub cleared : Stack → Stack
 cleared stack = at_base stack.keeps
 
 -- after one more keep, of frames that are at their base
-abbrev pub kept : Stack → List ℕ → List ℕ → Stack
+abbrev pub kept : Stack → Bytes → Bytes → Stack
 kept stack name value = at_base (stack.keeps ++ (name, value) ∷ [])
 
 -- after all keeps but the first ones, so many, were taken back, of frames that are at their base

@@ -1,9 +1,10 @@
 -- What the global variables are kept as.
-use Rattle.std.specs.Prelude.{◌≡◌, ℕ, Bool, true, false, not, List, [], ◌∷◌, Option, Some, None, map, if◌then◌else◌}
+use Rattle.std.specs.Prelude.{◌≡◌, Bool, true, false, not, List, [], ◌∷◌, Option, Some, None, map, if◌then◌else◌}
 use Rattle.std.specs.Option.{option_map}
 use Rattle.std.specs.Ordering.{nat_cmp}
 use Rattle.std.specs.Cmp.Lexicographic.{slice_cmp}
 use Rattle.std.specs.FinMap as finite
+use Rattle.txt_core.specs.Names.{Bytes, Pairs}
 use Rattle.tcl_frame.specs.declared.base.Base.{Base}
 use Rattle.tcl_frame.specs.declared.keep.Keep.{Keep}
 use Rattle.tcl_frame.specs.declared.fault.VarFault.{VarFault}
@@ -28,12 +29,12 @@ stands None = false
 stands (Some base) = not base.aside
 
 -- the value of a base scalar that isn't set aside
-abbrev pub standing_value : Option Base → Option (List ℕ)
+abbrev pub standing_value : Option Base → Option Bytes
 standing_value None = None
 standing_value (Some base) = if base.aside then None else Some base.value
 
 -- names with base values
-abbrev pub valued : List (List ℕ × Base) → List (List ℕ × List ℕ)
+abbrev pub valued : List (Bytes × Base) → Pairs
 valued entries = map (λ entry. (entry.0, entry.1.value)) entries
 
 -- the base values
@@ -41,7 +42,7 @@ abbrev pub values_of : Bases → Scalars
 values_of bases = finite.from_entries (valued (finite.entries bases))
 
 -- the base scalars that aren't set aside
-abbrev pub standing : Bases → List (List ℕ × List ℕ)
+abbrev pub standing : Bases → Pairs
 standing bases = valued (finite.entries (finite.retain_keys bases (λ name. stands (finite.get bases name))))
 
 -- the variables: the base scalars that aren't set aside, and else what stands beside them
@@ -56,11 +57,11 @@ abbrev pub standing_again : Base → Base
 standing_again base = record { value = base.value; aside = false }
 
 -- with the base scalar of this name set aside, where there is one
-abbrev pub with_aside_one : Bases → List ℕ → Option Base → Bases
+abbrev pub with_aside_one : Bases → Bytes → Option Base → Bases
 with_aside_one bases name None = bases
 with_aside_one bases name (Some base) = finite.insert bases name (set_aside base)
 
-abbrev pub with_aside : Bases → List ℕ → Bases
+abbrev pub with_aside : Bases → Bytes → Bases
 with_aside bases name = with_aside_one bases name (finite.get bases name)
 
 -- the keeps, without what was there before each
@@ -68,7 +69,7 @@ abbrev pub keeps_of : List Keep → List Kept
 keeps_of keeps = map (λ keep. (keep.name, keep.value)) keeps
 
 -- the value that a base scalar had
-abbrev pub value_before : Option Base → Option (List ℕ)
+abbrev pub value_before : Option Base → Option Bytes
 value_before before = option_map (λ base. base.value) before
 
 -- each keep knows the value that its name had before it, where these base scalars were there before the first one
@@ -77,6 +78,6 @@ KnowBefore base [] = Unit {0}
 KnowBefore base (keep ∷ keeps) = (value_before keep.before ≡ finite.get base keep.name) × KnowBefore (finite.insert base keep.name keep.value) keeps
 
 -- why a name can't be meant where its variable is this scalar, if there is one: it is an element's
-abbrev pub base_fault : Option (List ℕ) → Named → Option VarFault
+abbrev pub base_fault : Option Bytes → Named → Option VarFault
 base_fault None name = None
 base_fault (Some value) name = if is_element name then Some NotArray else None

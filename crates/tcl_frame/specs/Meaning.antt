@@ -1,6 +1,7 @@
 -- What a name finds among variables, and which calls that refuses.
-use Rattle.std.specs.Prelude.{ℕ, Bool, true, false, List, [], Option, Some, None}
+use Rattle.std.specs.Prelude.{Bool, true, false, [], Option, Some, None}
 use Rattle.std.specs.FinMap as map
+use Rattle.txt_core.specs.Names.{Bytes}
 use Rattle.tcl_frame.specs.declared.variable.Variable.{Variable}
 use Rattle.tcl_frame.specs.declared.variable.Variable.TheVariants.{Scalar, Array}
 use Rattle.tcl_frame.specs.declared.fault.VarFault.{VarFault}
@@ -13,7 +14,7 @@ pub data Found : Type 0 where
   -- no variable, no array or no element of this name
   Nothing : Found
   -- the value of a scalar, or of an element
-  Value : List ℕ → Found
+  Value : Bytes → Found
   -- an array as a whole
   AnArray : Elements → Found
   -- an element's name whose array's name is a scalar
@@ -26,12 +27,12 @@ whole (Some (Scalar value)) = Value value
 whole (Some (Array elements)) = AnArray elements
 
 -- what an array has at an index
-abbrev pub value_or_nothing : Option (List ℕ) → Found
+abbrev pub value_or_nothing : Option Bytes → Found
 value_or_nothing None = Nothing
 value_or_nothing (Some value) = Value value
 
 -- what an index finds in the variable of the array's name
-abbrev pub element : Option Variable → List ℕ → Found
+abbrev pub element : Option Variable → Bytes → Found
 element None index = Nothing
 element (Some (Scalar value)) index = InScalar
 element (Some (Array elements)) index = value_or_nothing (map.get elements index)
@@ -56,7 +57,7 @@ is_array_there (AnArray elements) = true
 is_array_there InScalar = false
 
 -- the value that is there
-abbrev pub value_there : Found → List ℕ
+abbrev pub value_there : Found → Bytes
 value_there Nothing = []
 value_there (Value value) = value
 value_there (AnArray elements) = []

@@ -1,8 +1,9 @@
 //! The base scalars.
 
-ghost use Rattle.std.specs.Prelude.{◌≡◌, ℕ, List};
+ghost use Rattle.std.specs.Prelude.{◌≡◌};
 ghost use Rattle.std.specs.Option.{option_map};
 ghost use Rattle.std.specs.FinMap as map;
+ghost use Rattle.txt_core.specs.Names.{Bytes};
 ghost use Rattle.tcl_frame.specs.Globals.{standing_again, with_aside};
 
 use crate::dictionary::Dictionary;
@@ -31,7 +32,8 @@ impl Bases {
 
     /// Sets no base scalar aside any more.
     pub fn stand_again(&mut self)
-        ensures { (name : List ℕ) → map.get self.new name ≡ option_map standing_again (map.get self.old name) }
+        ensures { (name : Bytes)
+            → map.get self.new name ≡ option_map standing_again (map.get self.old name) }
     {
         self.values.retain(|_, base| {
             base.aside = false;

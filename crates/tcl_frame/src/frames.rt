@@ -240,7 +240,8 @@ impl Frames {
     pub fn append(&mut self, name: &Text, more: &[u8], known: Known) -> Result<Text, VarFault>
         requires { Holds known (read_of self.old name.now ++ more.now) }
         ensures value { IfOk result (λ value. value ≡ read_of self.old name.now ++ more.now) }
-        ensures ok { OnOk result (self.new ≡ written self.old name.now (read_of self.old name.now ++ more.now)) }
+        ensures ok { OnOk result
+            (self.new ≡ written self.old name.now (read_of self.old name.now ++ more.now)) }
         ensures refused { IsRefusedFor (write_fault self.old name.now) result }
         ensures err { OnErr result (self.new ≡ self.old) }
         ensures depth { length self.new.above ≡ length self.old.above }

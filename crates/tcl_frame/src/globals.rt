@@ -1,8 +1,9 @@
 //! The global variables, with the base scalars among them.
 
-ghost use Rattle.std.specs.Prelude.{◌≡◌, ◌≢◌, ◌≤◌, ◌<◌, ◌+◌, ◌++◌, ◌∷◌, [], ℕ, List, length, take, None, IsSome, IfOk, IfErr, OnOk, OnErr};
+ghost use Rattle.std.specs.Prelude.{◌≡◌, ◌≢◌, ◌≤◌, ◌<◌, ◌+◌, ◌++◌, ◌∷◌, [], length, take, None, IsSome, IfOk, IfErr, OnOk, OnErr};
 ghost use Rattle.std.specs.Option.{option_copied, option_map};
 ghost use Rattle.std.specs.FinMap as map;
+ghost use Rattle.txt_core.specs.Names.{Bytes};
 ghost use Rattle.txt_core.specs.Knowing.{Holds};
 ghost use Rattle.tcl_frame.specs.Names as names;
 ghost use Rattle.tcl_frame.specs.Variables.{with_value, without, with_array};
@@ -74,9 +75,14 @@ fn set_aside(
 ) -> Result<(), VarFault>
     ensures same { together base.new own.new ≡ together base.old own.old }
     ensures values { values_of base.new ≡ values_of base.old }
-    ensures aside { OnOk result (standing_value (map.get base.new (names.variable_name (name_seen name.now))) ≡ None) }
-    ensures refused { IsRefusedFor (base_fault (standing_value (map.get base.old (names.variable_name (name_seen name.now)))) (name_seen name.now)) result }
-    ensures stood { OnErr result (IsSome (standing_value (map.get base.old (names.variable_name (name_seen name.now))))) }
+    ensures aside { OnOk result
+        (standing_value (map.get base.new (names.variable_name (name_seen name.now))) ≡ None) }
+    ensures refused { IsRefusedFor
+        (base_fault (standing_value (map.get base.old (names.variable_name (name_seen name.now))))
+        (name_seen name.now))
+        result }
+    ensures stood { OnErr result
+        (IsSome (standing_value (map.get base.old (names.variable_name (name_seen name.now))))) }
 {
     let Some(value) = base_value(base, name.variable()) else {
         return Ok(());
@@ -93,10 +99,13 @@ fn set_aside(
 /// Takes a base scalar that isn't set aside away from the variables. An element of it isn't there. It
 /// takes no memory.
 fn take_base(base: &mut Bases, own: &mut Table, name: &Name<'_>) -> Result<(), VarFault>
-    requires { IsSome (standing_value (map.get base.old (names.variable_name (name_seen name.now)))) }
-    ensures ok { OnOk result (together base.new own.new ≡ without (together base.old own.old) (name_seen name.now)) }
+    requires { IsSome
+        (standing_value (map.get base.old (names.variable_name (name_seen name.now)))) }
+    ensures ok { OnOk result
+        (together base.new own.new ≡ without (together base.old own.old) (name_seen name.now)) }
     ensures values { values_of base.new ≡ values_of base.old }
-    ensures refused { IsRefusedFor (no_removal (found (together base.old own.old) (name_seen name.now))) result }
+    ensures refused { IsRefusedFor
+        (no_removal (found (together base.old own.old) (name_seen name.now))) result }
     ensures err { OnErr result (together base.new own.new ≡ together base.old own.old) }
     ensures memory { IfErr result (λ fault. fault ≢ VarFault.NoMemory) }
 {
@@ -115,7 +124,8 @@ fn clear(base: &mut Bases, own: &mut Table)
     ensures table { together base.new own.new ≡ as_variables (values_of base.old) }
     ensures values { values_of base.new ≡ values_of base.old }
     ensures own { own.new ≡ map.empty }
-    ensures stands { (name : List ℕ) → map.get base.new name ≡ option_map standing_again (map.get base.old name) }
+    ensures stands { (name : Bytes)
+        → map.get base.new name ≡ option_map standing_again (map.get base.old name) }
 {
     own.clear();
     base.stand_again();
@@ -141,7 +151,8 @@ fn take_back_last(base: &mut Bases, keeps: &mut Vec<Keep>)
     requires base { values_of base.old ≡ base_of (keeps_of keeps.old.items) }
     requires known { KnowBefore map.empty keeps.old.items }
     ensures fewer { length keeps.new.items + 1 ≡ length keeps.old.items }
-    ensures keeps { keeps_of keeps.new.items ≡ take (length keeps.new.items) (keeps_of keeps.old.items) }
+    ensures keeps { keeps_of keeps.new.items
+        ≡ take (length keeps.new.items) (keeps_of keeps.old.items) }
     ensures base { values_of base.new ≡ base_of (keeps_of keeps.new.items) }
     ensures known { KnowBefore map.empty keeps.new.items }
 {
@@ -183,7 +194,9 @@ impl Globals {
 
     /// Gives a scalar or an element this value. What is absent is made.
     pub fn write(&mut self, name: &Name<'_>, value: Text) -> Result<(), VarFault>
-        ensures ok { OnOk result (self.new ≡ record self.old { table = with_value self.old.table (name_seen name.now) value }) }
+        ensures ok { OnOk result
+            (self.new
+            ≡ record self.old { table = with_value self.old.table (name_seen name.now) value }) }
         ensures refused { IsRefusedFor (no_write (found self.old.table (name_seen name.now))) result }
         ensures err { OnErr result (self.new ≡ self.old) }
     {
@@ -195,8 +208,11 @@ impl Globals {
     /// gives the new value. What is absent is made.
     pub fn append(&mut self, name: &Name<'_>, more: &[u8], known: Known) -> Result<Text, VarFault>
         requires { Holds known (longer self.old.table (name_seen name.now) more.now) }
-        ensures value { IfOk result (λ value. value ≡ longer self.old.table (name_seen name.now) more.now) }
-        ensures ok { OnOk result (self.new ≡ record self.old { table = with_longer self.old.table (name_seen name.now) more.now }) }
+        ensures value { IfOk result (λ value.
+            value ≡ longer self.old.table (name_seen name.now) more.now) }
+        ensures ok { OnOk result
+            (self.new
+            ≡ record self.old { table = with_longer self.old.table (name_seen name.now) more.now }) }
         ensures refused { IsRefusedFor (no_write (found self.old.table (name_seen name.now))) result }
         ensures err { OnErr result (self.new ≡ self.old) }
     {
@@ -207,8 +223,10 @@ impl Globals {
     /// Takes a variable or an element away. An array stays when its last element goes. It takes no
     /// memory.
     pub fn take_away(&mut self, name: &Name<'_>) -> Result<(), VarFault>
-        ensures ok { OnOk result (self.new ≡ record self.old { table = without self.old.table (name_seen name.now) }) }
-        ensures refused { IsRefusedFor (no_removal (found self.old.table (name_seen name.now))) result }
+        ensures ok { OnOk result
+            (self.new ≡ record self.old { table = without self.old.table (name_seen name.now) }) }
+        ensures refused { IsRefusedFor (no_removal (found self.old.table (name_seen name.now)))
+            result }
         ensures err { OnErr result (self.new ≡ self.old) }
         ensures memory { IfErr result (λ fault. fault ≢ VarFault.NoMemory) }
     {
@@ -221,8 +239,10 @@ impl Globals {
     /// Gives each index of a list the value behind it, in the array of this name, which is made where
     /// it is absent.
     pub fn write_array(&mut self, name: &[u8], pairs: &[Text]) -> Result<(), VarFault>
-        ensures ok { OnOk result (self.new ≡ record self.old { table = with_array self.old.table name.now pairs.now }) }
-        ensures refused { IsRefusedFor (no_array (found self.old.table (names.Whole name.now))) result }
+        ensures ok { OnOk result
+            (self.new ≡ record self.old { table = with_array self.old.table name.now pairs.now }) }
+        ensures refused { IsRefusedFor (no_array (found self.old.table (names.Whole name.now)))
+            result }
         ensures err { OnErr result (self.new ≡ self.old) }
     {
         match base_value(&self.base, name) {
@@ -250,7 +270,8 @@ impl Globals {
     /// condition is that the variables are exactly the base scalars with their base values.
     pub fn keep(&mut self, name: Text, value: Text) -> Result<(), NoMemory>
         requires { self.old.table ≡ as_variables (base_of self.old.keeps) }
-        ensures table { OnOk result (self.new.table ≡ as_variables (base_of (self.old.keeps ++ (name, value) ∷ []))) }
+        ensures table { OnOk result
+            (self.new.table ≡ as_variables (base_of (self.old.keeps ++ (name, value) ∷ []))) }
         ensures keeps { OnOk result (self.new.keeps ≡ self.old.keeps ++ (name, value) ∷ []) }
         ensures err { OnErr result (self.new ≡ self.old) }
     {

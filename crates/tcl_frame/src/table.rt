@@ -71,7 +71,8 @@ impl Table {
     /// Gives an element this value, in an array that is made where the name has none.
     fn write_element(&mut self, array: &[u8], index: &[u8], value: Text) -> Result<(), NoMemory>
         requires { no_write (found self.old (names.Element array.now index.now)) ≡ None }
-        ensures ok { OnOk result (self.new ≡ with_value self.old (names.Element array.now index.now) value) }
+        ensures ok { OnOk result
+            (self.new ≡ with_value self.old (names.Element array.now index.now) value) }
         ensures err { OnErr result (self.new ≡ self.old) }
     {
         match self.get_mut(array) {
@@ -88,7 +89,8 @@ impl Table {
     /// gives the new value. What is absent is made.
     pub fn append(&mut self, name: &Name<'_>, more: &[u8], known: Known) -> Result<Text, VarFault>
         requires { Holds known (longer self.old (name_seen name.now) more.now) }
-        ensures value { IfOk result (λ value. value ≡ longer self.old (name_seen name.now) more.now) }
+        ensures value { IfOk result (λ value.
+            value ≡ longer self.old (name_seen name.now) more.now) }
         ensures ok { OnOk result (self.new ≡ with_longer self.old (name_seen name.now) more.now) }
         ensures refused { IsRefusedFor (no_write (found self.old (name_seen name.now))) result }
         ensures err { OnErr result (self.new ≡ self.old) }
@@ -108,7 +110,8 @@ impl Table {
     fn append_whole(&mut self, name: &[u8], more: &[u8], known: Known) -> Result<Text, NoMemory>
         requires open { no_write (found self.old (names.Whole name.now)) ≡ None }
         requires holds { Holds known (longer self.old (names.Whole name.now) more.now) }
-        ensures value { IfOk result (λ value. value ≡ longer self.old (names.Whole name.now) more.now) }
+        ensures value { IfOk result (λ value.
+            value ≡ longer self.old (names.Whole name.now) more.now) }
         ensures ok { OnOk result (self.new ≡ with_longer self.old (names.Whole name.now) more.now) }
         ensures err { OnErr result (self.new ≡ self.old) }
     {
@@ -133,9 +136,12 @@ impl Table {
         known: Known,
     ) -> Result<Text, NoMemory>
         requires open { no_write (found self.old (names.Element array.now index.now)) ≡ None }
-        requires holds { Holds known (longer self.old (names.Element array.now index.now) more.now) }
-        ensures value { IfOk result (λ value. value ≡ longer self.old (names.Element array.now index.now) more.now) }
-        ensures ok { OnOk result (self.new ≡ with_longer self.old (names.Element array.now index.now) more.now) }
+        requires holds { Holds known
+            (longer self.old (names.Element array.now index.now) more.now) }
+        ensures value { IfOk result (λ value.
+            value ≡ longer self.old (names.Element array.now index.now) more.now) }
+        ensures ok { OnOk result
+            (self.new ≡ with_longer self.old (names.Element array.now index.now) more.now) }
         ensures err { OnErr result (self.new ≡ self.old) }
     {
         let alloc = self.alloc;

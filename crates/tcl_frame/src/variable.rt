@@ -97,8 +97,11 @@ impl Elements {
     /// text. Where memory wants, nothing changes.
     pub fn append(&mut self, index: &[u8], more: &[u8], known: Known) -> Result<Text, NoMemory>
         requires { Holds known (text_of (map.get self.old index.now) ++ more.now) }
-        ensures value { IfOk result (λ text. text ≡ text_of (map.get self.old index.now) ++ more.now) }
-        ensures ok { OnOk result (self.new ≡ map.insert self.old index.now (text_of (map.get self.old index.now) ++ more.now)) }
+        ensures value { IfOk result (λ text.
+            text ≡ text_of (map.get self.old index.now) ++ more.now) }
+        ensures ok { OnOk result
+            (self.new
+            ≡ map.insert self.old index.now (text_of (map.get self.old index.now) ++ more.now)) }
         ensures err { OnErr result (self.new ≡ self.old) }
     {
         let alloc = self.alloc;

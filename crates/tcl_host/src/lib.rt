@@ -11,7 +11,9 @@ mod paths;
 mod refusal;
 mod reply;
 
-pub use code::{BREAK, CONTINUE, ERROR, OK, PAGE_ABORT, PAGE_BREAK, PAGE_RETURN, RETURN};
+pub use code::{
+    BREAK, CONTINUE, ERROR, OK, PAGE_ABORT, PAGE_BREAK, PAGE_RETURN, RETURN, codes_have_their_names,
+};
 pub use host::{Host, HostReply};
 pub use paths::{is_page_path, page_path};
 pub use refusal::{Refusal, refuse};

@@ -1,6 +1,7 @@
 //! What commands and texts come to, as replies of a host.
 
 ghost use Rattle.std.specs.Prelude.{◌≡◌, MatchResult, Ok, Err, []};
+ghost use Rattle.tcl_host.specs.Codes as code_of;
 ghost use Rattle.tcl_host.specs.Outcomes.{refused};
 
 use crate::code::{ERROR, OK};
@@ -11,7 +12,7 @@ use txt_core::Text;
 
 /// A good end with this result.
 pub fn done(result_text: Text) -> HostReply
-    ensures { result ≡ HostReply.Done 0 result_text }
+    ensures { result ≡ HostReply.Done code_of.ok result_text }
 {
     HostReply::Done {
         code: OK,
@@ -34,7 +35,8 @@ fn refused(refusal: Refusal) -> HostReply
 
 /// What a command came to that ends with a result, unless it was refused.
 pub fn ended(came: Result<Text, Refusal>) -> Result<HostReply, Refusal>
-    ensures { MatchResult came (λ text. result ≡ Ok (HostReply.Done 0 text)) (λ refusal. result ≡ Err refusal) }
+    ensures { MatchResult came (λ text. result ≡ Ok (HostReply.Done code_of.ok text)) (λ refusal.
+        result ≡ Err refusal) }
 {
     Ok(done(came?))
 }
@@ -51,7 +53,8 @@ pub fn reply_of(came: Result<HostReply, Refusal>) -> HostReply
 
 /// The reply to a text of a page, by what it came to: a good end has no result.
 pub fn text_reply(alloc: Global, came: Result<(), Refusal>) -> HostReply
-    ensures { MatchResult came (λ _. result ≡ HostReply.Done 0 []) (λ refusal. result ≡ refused refusal) }
+    ensures { MatchResult came (λ _. result ≡ HostReply.Done code_of.ok []) (λ refusal.
+        result ≡ refused refusal) }
 {
     match came {
         Ok(()) => done(Text::empty(alloc)),

@@ -1,5 +1,6 @@
 -- What the program answers, in the words of the rules.
-use Rattle.std.specs.Prelude.{◌≡◌, ℕ, ◌+◌, ◌<◌, List, [], ◌∷◌, ◌++◌, true, length, Result, Ok, Err}
+use Rattle.std.specs.Prelude.{◌≡◌, ℕ, ◌+◌, ◌<◌, [], ◌∷◌, ◌++◌, true, length, Result, Ok, Err}
+use Rattle.txt_core.specs.Names.{Bytes, Words}
 use Rattle.txt_core.specs.Forms.{form_of}
 use Rattle.txt_core.specs.Lists.{Outcome, done, bad, Step, ends, bytes, BytesAt, elements, bad_at}
 use Rattle.txt_core.specs.Listing.{close_quote, listing}
@@ -12,15 +13,15 @@ use Rattle.tcl_list.specs.declared.fault.ListFault.{ListFault}
 use Rattle.tcl_list.specs.declared.fault.ListFault.TheVariants as list_fault
 
 -- What split answers: the list of the text, or the place where it is bad. Want of memory is free.
-abbrev pub SplitsAs : List ℕ → Result (List (List ℕ)) ListFault → Type 0
+abbrev pub SplitsAs : Bytes → Result Words ListFault → Type 0
 SplitsAs t (Ok v) = listing t ≡ elements v
 SplitsAs t (Err (list_fault.Bad at)) = listing t ≡ bad_at at
 SplitsAs t (Err list_fault.NoMemory) = Unit {0}
 
 -- What append_elements answers: the text of the list's elements and, behind them, of these, or the place where the list
 -- is bad. Want of memory is free.
-abbrev pub AppendsTo : List ℕ → List (List ℕ) → Result (List ℕ) ListFault → Type 0
-AppendsTo t v (Ok out) = (w : List (List ℕ)) × (listing t ≡ elements w) × (out ≡ quoting (w ++ v))
+abbrev pub AppendsTo : Bytes → Words → Result Bytes ListFault → Type 0
+AppendsTo t v (Ok out) = (w : Words) × (listing t ≡ elements w) × (out ≡ quoting (w ++ v))
 AppendsTo t v (Err (list_fault.Bad at)) = listing t ≡ bad_at at
 AppendsTo t v (Err list_fault.NoMemory) = Unit {0}
 
@@ -42,10 +43,10 @@ Stopped stop.Memory P = Unit {0}
 Stopped (stop.Bad n) P = P (bad n)
 
 -- a value with what is left of it, or where reading stopped, as an outcome
-abbrev pub Gives : {X Y : Type 0} → (X → Y) → (X → List ℕ) → Result X Stop → (Outcome Y → Type 0) → Type 0
+abbrev pub Gives : {X Y : Type 0} → (X → Y) → (X → Bytes) → Result X Stop → (Outcome Y → Type 0) → Type 0
 Gives view rest (Ok x) P = P (done (view x) (rest x))
 Gives view rest (Err e) P = Stopped e P
 
 -- what comes of an element in quotes, by its bytes and what is left behind them
-abbrev pub QuoteGives : List ℕ → Outcome (List ℕ) → Type 0
-QuoteGives t o = (x : List ℕ) × (r : List ℕ) × BytesAt true t x r × (o ≡ close_quote (length t + 1) x r)
+abbrev pub QuoteGives : Bytes → Outcome Bytes → Type 0
+QuoteGives t o = (x : Bytes) × (r : Bytes) × BytesAt true t x r × (o ≡ close_quote (length t + 1) x r)

@@ -13,7 +13,8 @@ use txt_core::{Form, read_escape};
 /// What stands before the brace that closes, and what is left behind it; `None` where none closes.
 #[tactic(auto, using(crate::proofs::Braces::braced_steps))]
 pub fn in_braces(alloc: Global, bytes: &[u8]) -> Result<Option<(Vec<u8>, &[u8])>, AllocError>
-    ensures same { IfOk result (λ found. option_map (λ x. (x.0.items, x.1.now)) found ≡ braced false 0 bytes.now) }
+    ensures same { IfOk result (λ found.
+        option_map (λ x. (x.0.items, x.1.now)) found ≡ braced false 0 bytes.now) }
     ensures goes { IfOk result (λ found. IfSome found (λ x. length x.1.now ≤ length bytes.now)) }
 {
     let mut text = Vec::new(alloc);
@@ -73,7 +74,8 @@ fn next(quoted: bool, bytes: &[u8]) -> Step<'_>
 pub fn bytes_of(alloc: Global, quoted: bool, bytes: &[u8]) -> Result<(Vec<u8>, &[u8]), AllocError>
     ensures same { IfOk result (λ x. BytesAt quoted bytes.now x.0.items x.1.now) }
     ensures goes { IfOk result (λ x. length x.1.now ≤ length bytes.now) }
-    ensures moves { quoted ≡ false → ends_element bytes.now ≡ false → IfOk result (λ x. length x.1.now < length bytes.now) }
+    ensures moves { quoted ≡ false → ends_element bytes.now ≡ false
+        → IfOk result (λ x. length x.1.now < length bytes.now) }
 {
     let mut text = Vec::new(alloc);
     let mut rest = bytes;

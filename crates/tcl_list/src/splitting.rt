@@ -33,7 +33,8 @@ fn closed(text: Vec<u8>, rest: &[u8]) -> Result<(Text, &[u8]), Stop>
 
 /// An element behind the brace that opens it.
 fn braced_element(alloc: Global, bytes: &[u8]) -> Result<(Text, &[u8]), Stop>
-    ensures same { Gives (λ x. x.0) (λ x. x.1.now) result (λ o. close_brace (length bytes.now + 1) (braced false 0 bytes.now) ≡ o) }
+    ensures same { Gives (λ x. x.0) (λ x. x.1.now) result (λ o.
+        close_brace (length bytes.now + 1) (braced false 0 bytes.now) ≡ o) }
     ensures goes { IfOk result (λ x. length x.1.now ≤ length bytes.now) }
 {
     match in_braces(alloc, bytes)? {

@@ -130,7 +130,8 @@ pub(crate) fn put_element(out: &mut Vec<u8>, text: &[u8]) -> Result<(), AllocErr
 #[tactic(auto, using(crate::proofs::Slashes::quote_steps))]
 fn put_more(out: &mut Vec<u8>, words: &Words) -> Result<(), AllocError>
     requires { 0 < length words.now }
-    ensures { OnOk result (out.old.items ≡ quoting (take 1 words.now) → out.new.items ≡ quoting words.now) }
+    ensures { OnOk result
+        (out.old.items ≡ quoting (take 1 words.now) → out.new.items ≡ quoting words.now) }
 {
     'words: for i in 1..words.len() {
         match words.get(i) {

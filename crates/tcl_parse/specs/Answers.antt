@@ -1,5 +1,6 @@
 -- The steps of the program are those of the rules, and what the program answers.
-use Rattle.std.specs.Prelude.{◌≡◌, ℕ, ◌+◌, ◌<◌, List, [], ◌∷◌, length, Option, Result, Ok, Err}
+use Rattle.std.specs.Prelude.{◌≡◌, ℕ, ◌+◌, ◌<◌, [], ◌∷◌, length, Option, Result, Ok, Err}
+use Rattle.txt_core.specs.Names.{Bytes}
 use Rattle.txt_core.specs.Forms.{form_of}
 use Rattle.tcl_parse.specs.declared.step.Mode as code_mode
 use Rattle.tcl_parse.specs.declared.step.Mode.TheVariants as code_modes
@@ -19,7 +20,7 @@ use Rattle.tcl_parse.specs.Reading.{reading}
 use Rattle.tcl_parse.specs.Tree.{Part, Word, Script}
 
 -- What parse answers: the script of the text's reading, or the reading's fault and its place, unless memory ran out.
-abbrev pub Answers : List ℕ → Result script_type.Script ParseFault → Type 0
+abbrev pub Answers : Bytes → Result script_type.Script ParseFault → Type 0
 Answers t (Ok s) = reading t ≡ done (script_of s) []
 Answers t (Err (parse_fault.Unclosed at kind)) = (left : ℕ) × (at + left ≡ length t) × (reading t ≡ fault kind left)
 Answers t (Err parse_fault.NoMemory) = Unit {0}
@@ -55,17 +56,17 @@ IsShorter n (code_steps.Escaped f t) = length t.now < n
 IsShorter n (code_steps.Substituted s) = LeavesLess n s
 
 -- A bracket as a part, from behind its opening byte on.
-abbrev pub BracketGives : ℕ → List ℕ → Outcome Part → Type 0
+abbrev pub BracketGives : ℕ → Bytes → Outcome Part → Type 0
 BracketGives room t o = (s : Outcome Script) × InBracket room t s × (o ≡ close_bracket (length t + 1) s)
 
 -- An element as a part, from its index on, where left bytes are left from its dollar on.
-abbrev pub IndexGives : ℕ → ℕ → List ℕ → List ℕ → Outcome Part → Type 0
+abbrev pub IndexGives : ℕ → ℕ → Bytes → Bytes → Outcome Part → Type 0
 IndexGives room left x t o = (i : Outcome Word) × InIndex room t i × (o ≡ close_index left x i)
 
 -- A word in quotes, from behind its opening byte on.
-abbrev pub QuoteGives : ℕ → List ℕ → Outcome Word → Type 0
+abbrev pub QuoteGives : ℕ → Bytes → Outcome Word → Type 0
 QuoteGives room t o = (w : Outcome Word) × PartsAt (InBracket room) (InIndex room) quotes t w × (o ≡ close_quote (length t + 1) w)
 
 -- A word in braces, from behind its opening byte on.
-abbrev pub BraceGives : List ℕ → Outcome Word → Type 0
-BraceGives t o = (x : Option (List ℕ × List ℕ)) × BracedAt t x × (o ≡ close_brace (length t + 1) x)
+abbrev pub BraceGives : Bytes → Outcome Word → Type 0
+BraceGives t o = (x : Option (Bytes × Bytes)) × BracedAt t x × (o ≡ close_brace (length t + 1) x)

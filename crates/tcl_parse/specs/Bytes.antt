@@ -1,5 +1,6 @@
 -- Bytes by their names, and kinds of bytes.
-use Rattle.std.specs.Prelude.{ℕ, List, [], ◌∷◌, Bool, false, ◌&&◌, ◌||◌, ◌==◌, nat_le}
+use Rattle.std.specs.Prelude.{ℕ, [], ◌∷◌, Bool, false, ◌&&◌, ◌||◌, ◌==◌, nat_le}
+use Rattle.txt_core.specs.Names.{Bytes}
 
 abbrev pub tab : ℕ
 tab = 9
@@ -77,10 +78,10 @@ abbrev pub is_name : ℕ → Bool
 is_name b = (nat_le 97 b && nat_le b 122) || (nat_le 65 b && nat_le b 90) || (nat_le 48 b && nat_le b 57) || (b == underscore)
 
 -- the byte at the front is such a byte
-abbrev pub begins_with : ℕ → List ℕ → Bool
+abbrev pub begins_with : ℕ → Bytes → Bool
 begins_with c [] = false
 begins_with c (b ∷ t) = b == c
 
 -- Backslash-newline: the byte is a backslash, and a newline stands behind it.
-abbrev pub joins_lines : ℕ → List ℕ → Bool
+abbrev pub joins_lines : ℕ → Bytes → Bool
 joins_lines b t = (b == backslash) && begins_with newline t

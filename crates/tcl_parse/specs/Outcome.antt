@@ -1,5 +1,6 @@
 -- What reading a text gives.
 use Rattle.std.specs.Prelude.{ℕ, List, ◌∷◌, Option, Some, None, Result, Ok, Err}
+use Rattle.txt_core.specs.Names.{Bytes}
 use Rattle.tcl_parse.specs.declared.fault.Kind.{Kind}
 use Rattle.tcl_parse.specs.declared.fault.Stop.{Stop}
 use Rattle.tcl_parse.specs.declared.fault.Stop.TheVariants as stop
@@ -7,7 +8,7 @@ use Rattle.tcl_parse.specs.Tree.{Word, literal}
 
 -- Reading gives a value and what is left behind it, or a fault and how many bytes are left where it stands, with its own byte.
 pub data Outcome (A : Type 0) : Type 0 where
-  done : A → List ℕ → Outcome A
+  done : A → Bytes → Outcome A
   fault : Kind → ℕ → Outcome A
 
 -- One more item in front of what is read behind it; a fault there is a fault of all.
@@ -16,7 +17,7 @@ put x (done xs r) = done (x ∷ xs) r
 put x (fault k n) = fault k n
 
 -- Bytes in front of the parts that are read behind them.
-abbrev pub put_text : List ℕ → Outcome Word → Outcome Word
+abbrev pub put_text : Bytes → Outcome Word → Outcome Word
 put_text bs (done w r) = done (literal bs w) r
 put_text bs (fault k n) = fault k n
 
@@ -26,12 +27,12 @@ Stopped stop.NoMemory P = Unit {0}
 Stopped (stop.Fault k n) P = P (fault k n)
 
 -- The outcome that a function returned, whose value is seen by view and what is left by rest, is as P says, unless memory ran out.
-abbrev pub Gives : {X Y : Type 0} → (X → Y) → (X → List ℕ) → Result X Stop → (Outcome Y → Type 0) → Type 0
+abbrev pub Gives : {X Y : Type 0} → (X → Y) → (X → Bytes) → Result X Stop → (Outcome Y → Type 0) → Type 0
 Gives view rest (Ok x) P = P (done (view x) (rest x))
 Gives view rest (Err e) P = Stopped e P
 
 -- The same for a function that returns None exactly where no outcome is as P says.
-abbrev pub GivesAny : {X Y : Type 0} → (X → Y) → (X → List ℕ) → Result (Option X) Stop → (Outcome Y → Type 0) → Type 0
+abbrev pub GivesAny : {X Y : Type 0} → (X → Y) → (X → Bytes) → Result (Option X) Stop → (Outcome Y → Type 0) → Type 0
 GivesAny {X} {Y} view rest (Ok None) P = (o : Outcome Y) → P o → ⊥
 GivesAny {X} {Y} view rest (Ok (Some x)) P = P (done (view x) (rest x))
 GivesAny {X} {Y} view rest (Err e) P = Stopped e P

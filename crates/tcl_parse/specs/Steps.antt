@@ -1,5 +1,6 @@
 -- What comes next in a word that isn't in braces: its parts one by one.
-use Rattle.std.specs.Prelude.{ℕ, List, [], ◌∷◌, Bool, true, Option, Some, None, ◌==◌, if◌then◌else◌}
+use Rattle.std.specs.Prelude.{[], ◌∷◌, Bool, true, Option, Some, None, ◌==◌, if◌then◌else◌}
+use Rattle.txt_core.specs.Names.{Bytes}
 use Rattle.tcl_parse.specs.Bytes.{quote_mark, dollar, left_parenthesis, right_parenthesis, left_bracket, backslash, left_brace, right_brace}
 use Rattle.tcl_parse.specs.Gaps.{ends_word}
 use Rattle.tcl_parse.specs.Names.{name_at, up_to}
@@ -16,7 +17,7 @@ pub data Mode : Type 0 where
 
 -- The parts end: a bare word's where a word ends, those in quotes at the next quote, and those of an index at the next closing parenthesis.
 -- All end at the end of the text.
-abbrev pub stops : Mode → List ℕ → Bool
+abbrev pub stops : Mode → Bytes → Bool
 stops (bare_word nested) t = ends_word nested t
 stops quotes [] = true
 stops quotes (b ∷ t) = b == quote_mark
@@ -26,11 +27,11 @@ stops index (b ∷ t) = b == right_parenthesis
 -- What is substituted.
 pub data Substitution : Type 0 where
   -- a variable of this name, behind which this is left
-  named : List ℕ → List ℕ → Substitution
+  named : Bytes → Bytes → Substitution
   -- an element of the array of this name, whose index begins where this is left
-  indexed : List ℕ → List ℕ → Substitution
+  indexed : Bytes → Bytes → Substitution
   -- a script in a bracket, which begins where this is left
-  opened : List ℕ → Substitution
+  opened : Bytes → Substitution
   -- a name in braces that isn't closed
   unnamed : Substitution
 
@@ -39,32 +40,32 @@ pub data Step : Type 0 where
   -- the parts end
   ends : Step
   -- these bytes, behind which this is left
-  bytes : List ℕ → List ℕ → Step
+  bytes : Bytes → Bytes → Step
   -- something that is substituted
   substituted : Substitution → Step
 
 -- `${name}`: the name ends at the next closing brace.
-abbrev pub between_braces : Option (List ℕ × List ℕ) → Step
+abbrev pub between_braces : Option (Bytes × Bytes) → Step
 between_braces None = substituted unnamed
 between_braces (Some x) = substituted (named x.0 x.1)
 
 -- `$name` is an element where an opening parenthesis comes next, else a variable.
-abbrev pub behind_name : List ℕ → List ℕ → Step
+abbrev pub behind_name : Bytes → Bytes → Step
 behind_name x [] = substituted (named x [])
 behind_name x (b ∷ t) = if b == left_parenthesis then substituted (indexed x t) else substituted (named x (b ∷ t))
 
 -- A dollar with no name behind it is itself.
-abbrev pub by_name : List ℕ → List ℕ → Step
+abbrev pub by_name : Bytes → Bytes → Step
 by_name [] t = bytes (dollar ∷ []) t
 by_name (b ∷ x) t = behind_name (b ∷ x) t
 
 -- Behind a dollar a name in braces may stand, or a bare one.
-abbrev pub behind_dollar : List ℕ → Step
+abbrev pub behind_dollar : Bytes → Step
 behind_dollar [] = bytes (dollar ∷ []) []
 behind_dollar (b ∷ t) = if b == left_brace then between_braces (up_to right_brace t) else by_name (name_at (b ∷ t)).0 (name_at (b ∷ t)).1
 
 -- What stands at the front, wherever the parts end: a backslash form, what begins with a dollar, a bracket, or a byte that is itself.
-abbrev pub step_at : List ℕ → Step
+abbrev pub step_at : Bytes → Step
 step_at [] = ends
 step_at (b ∷ t) =
     if b == backslash then bytes (escape_of t).0 (escape_of t).1
@@ -73,5 +74,5 @@ step_at (b ∷ t) =
     else bytes (b ∷ []) t
 
 -- What comes next.
-abbrev pub next : Mode → List ℕ → Step
+abbrev pub next : Mode → Bytes → Step
 next m t = if stops m t then ends else step_at t

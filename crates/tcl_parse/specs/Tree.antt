@@ -1,17 +1,18 @@
 -- Scripts as trees: a script is a list of commands, a command a list of words, and a word a list of parts.
 -- The tree of a script is canonical: no text in it is empty, and no text stands next to another one in a word or an index.
 -- So each way to write the same parts has one tree, and `{}` and `""` are words without parts.
-use Rattle.std.specs.Prelude.{ℕ, List, [], ◌∷◌, ◌++◌}
+use Rattle.std.specs.Prelude.{List, [], ◌∷◌, ◌++◌}
+use Rattle.txt_core.specs.Names.{Bytes}
 
 mutual
   -- A part of a word.
   pub data Part : Type 0 where
     -- these bytes
-    text : List ℕ → Part
+    text : Bytes → Part
     -- the value of the variable of this name
-    variable : List ℕ → Part
+    variable : Bytes → Part
     -- the value of the element of the array of this name, whose index is made of these parts
-    element : List ℕ → Parts → Part
+    element : Bytes → Parts → Part
     -- the result of this script
     bracket : Commands → Part
 
@@ -53,7 +54,7 @@ commands [] = no_commands
 commands (c ∷ cs) = command (words c) (commands cs)
 
 -- These bytes, which are some, in front of a word: they join the text that the word begins with.
-abbrev pub lead : List ℕ → Word → Word
+abbrev pub lead : Bytes → Word → Word
 lead bs [] = text bs ∷ []
 lead bs (text cs ∷ w) = text (bs ++ cs) ∷ w
 lead bs (variable x ∷ w) = text bs ∷ variable x ∷ w
@@ -61,6 +62,6 @@ lead bs (element x i ∷ w) = text bs ∷ element x i ∷ w
 lead bs (bracket s ∷ w) = text bs ∷ bracket s ∷ w
 
 -- Bytes in front of a word: no bytes add no part.
-abbrev pub literal : List ℕ → Word → Word
+abbrev pub literal : Bytes → Word → Word
 literal [] w = w
 literal (b ∷ bs) w = lead (b ∷ bs) w

@@ -10,7 +10,8 @@ use txt_core::after_margin;
 /// What stands before the brace that closes, and what is left behind it.
 #[tactic(auto, using(crate::specs::Laws::Braces::braced_steps), unfolding(crate::specs::Laws::Braces::braced))]
 pub fn in_braces(alloc: Global, bytes: &[u8]) -> Result<Option<(Vec<u8>, &[u8])>, AllocError>
-    ensures same { IfOk result (λ found. option_map (λ x. (x.0.items, x.1.now)) found ≡ braced plain 0 bytes.now) }
+    ensures same { IfOk result (λ found.
+        option_map (λ x. (x.0.items, x.1.now)) found ≡ braced plain 0 bytes.now) }
     ensures goes { IfOk result (λ found. IfSome found (λ x. length x.1.now ≤ length bytes.now)) }
 {
     let mut text = Vec::new(alloc);

@@ -13,7 +13,8 @@ use txt_core::{NoMemory, Text};
 
 /// Makes a piece of the bytes that were gathered, if there are any.
 fn flush(alloc: Global, pieces: &mut Vec<Piece>, text: &mut Vec<u8>) -> Result<(), NoMemory>
-    ensures ok { OnOk result (map part_of pieces.new.items ≡ map part_of pieces.old.items ++ literal text.old.items []) }
+    ensures ok { OnOk result
+        (map part_of pieces.new.items ≡ map part_of pieces.old.items ++ literal text.old.items []) }
     ensures empty { OnOk result (text.new.items ≡ []) }
 {
     if !text.is_empty() {
@@ -30,7 +31,9 @@ pub fn add_piece(
     text: &mut Vec<u8>,
     piece: Piece,
 ) -> Result<(), NoMemory>
-    ensures ok { OnOk result (map part_of pieces.new.items ≡ map part_of pieces.old.items ++ literal text.old.items [] ++ (part_of piece ∷ [])) }
+    ensures ok { OnOk result
+        (map part_of pieces.new.items
+        ≡ map part_of pieces.old.items ++ literal text.old.items [] ++ (part_of piece ∷ [])) }
     ensures empty { OnOk result (text.new.items ≡ []) }
 {
     flush(alloc, pieces, text)?;

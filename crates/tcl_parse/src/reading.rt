@@ -81,7 +81,8 @@ fn index<'a>(
     name: &[u8],
     bytes: &'a [u8],
 ) -> Result<(Piece, &'a [u8]), Stop>
-    ensures same { Gives (λ x. part_of x.0) (λ x. x.1.now) result (IndexGives room left name.now bytes.now) }
+    ensures same { Gives (λ x. part_of x.0) (λ x. x.1.now) result
+        (IndexGives room left name.now bytes.now) }
     ensures goes { IfOk result (λ x. length x.1.now ≤ length bytes.now) }
 {
     if room == 0 {
@@ -111,7 +112,8 @@ fn substitution<'a>(
     left: usize,
     found: Substitution<'a>,
 ) -> Result<(Piece, &'a [u8]), Stop>
-    ensures same { Gives (λ x. part_of x.0) (λ x. x.1.now) result (PartIs (InBracket room) (InIndex room) left (substitution_of found.entry)) }
+    ensures same { Gives (λ x. part_of x.0) (λ x. x.1.now) result
+        (PartIs (InBracket room) (InIndex room) left (substitution_of found.entry)) }
     ensures goes { (n : ℕ) → LeavesLess n found.entry → IfOk result (λ x. length x.1.now < n) }
 {
     match found {
@@ -131,9 +133,11 @@ fn substitution<'a>(
 /// The parts of a word.
 #[cycle(reader)]
 fn parts(alloc: Global, room: u32, mode: Mode, bytes: &[u8]) -> Result<(Word, &[u8]), Stop>
-    ensures same { Gives (λ x. word_of x.0) (λ x. x.1.now) result (PartsAt (InBracket room) (InIndex room) (mode_of mode) bytes.now) }
+    ensures same { Gives (λ x. word_of x.0) (λ x. x.1.now) result
+        (PartsAt (InBracket room) (InIndex room) (mode_of mode) bytes.now) }
     ensures goes { IfOk result (λ x. length x.1.now ≤ length bytes.now) }
-    ensures moves { stops (mode_of mode) bytes.now ≡ false → IfOk result (λ x. length x.1.now < length bytes.now) }
+    ensures moves { stops (mode_of mode) bytes.now ≡ false
+        → IfOk result (λ x. length x.1.now < length bytes.now) }
 {
     let mut pieces = Vec::new(alloc);
     let mut text = Vec::new(alloc);
@@ -188,7 +192,8 @@ fn quoted_word(alloc: Global, room: u32, bytes: &[u8]) -> Result<(Word, &[u8]), 
 /// its place on; `Stop::NoMemory` where memory ran out.
 #[cycle(reader)]
 pub fn read_enclosed(alloc: Global, room: u32, bytes: &[u8]) -> Result<Option<(Word, &[u8])>, Stop>
-    ensures same { GivesAny (λ x. word_of x.0) (λ x. x.1.now) result (EnclosedAt (InBracket room) (InIndex room) bytes.now) }
+    ensures same { GivesAny (λ x. word_of x.0) (λ x. x.1.now) result
+        (EnclosedAt (InBracket room) (InIndex room) bytes.now) }
     ensures goes { IfOk result (λ found. IfSome found (λ x. length x.1.now < length bytes.now)) }
 {
     match bytes.split_first() {
@@ -211,7 +216,8 @@ pub fn read_enclosed(alloc: Global, room: u32, bytes: &[u8]) -> Result<Option<(W
 #[cycle(reader)]
 fn word(alloc: Global, room: u32, nested: bool, bytes: &[u8]) -> Result<(Word, &[u8]), Stop>
     requires { ends_word nested bytes.now ≡ false }
-    ensures same { Gives (λ x. word_of x.0) (λ x. x.1.now) result (WordAt (InBracket room) (InIndex room) nested bytes.now) }
+    ensures same { Gives (λ x. word_of x.0) (λ x. x.1.now) result
+        (WordAt (InBracket room) (InIndex room) nested bytes.now) }
     ensures goes { IfOk result (λ x. length x.1.now < length bytes.now) }
 {
     match read_enclosed(alloc, room, bytes)? {
@@ -232,8 +238,10 @@ fn word(alloc: Global, room: u32, nested: bool, bytes: &[u8]) -> Result<(Word, &
 #[cycle(reader)]
 fn command(alloc: Global, room: u32, nested: bool, bytes: &[u8]) -> Result<(Command, &[u8]), Stop>
     requires { ends_word nested bytes.now ≡ at_end nested bytes.now }
-    ensures same { Gives (λ x. command_of x.0) (λ x. x.1.now) result (WordsAt (InBracket room) (InIndex room) nested bytes.now) }
-    ensures goes { at_end nested bytes.now ≡ false → IfOk result (λ x. length x.1.now < length bytes.now) }
+    ensures same { Gives (λ x. command_of x.0) (λ x. x.1.now) result
+        (WordsAt (InBracket room) (InIndex room) nested bytes.now) }
+    ensures goes { at_end nested bytes.now ≡ false
+        → IfOk result (λ x. length x.1.now < length bytes.now) }
 {
     let mut words = Vec::new(alloc);
     let mut rest = bytes;
@@ -248,7 +256,8 @@ fn command(alloc: Global, room: u32, nested: bool, bytes: &[u8]) -> Result<(Comm
 /// The commands of a script.
 #[cycle(reader)]
 fn script(alloc: Global, room: u32, nested: bool, bytes: &[u8]) -> Result<(Script, &[u8]), Stop>
-    ensures same { Gives (λ x. script_of x.0) (λ x. x.1.now) result (ScriptAt (InBracket room) (InIndex room) nested (skip between bytes.now)) }
+    ensures same { Gives (λ x. script_of x.0) (λ x. x.1.now) result
+        (ScriptAt (InBracket room) (InIndex room) nested (skip between bytes.now)) }
     ensures goes { IfOk result (λ x. length x.1.now ≤ length bytes.now) }
     ensures whole { nested ≡ false → IfOk result (λ x. x.1.now ≡ []) }
 {
@@ -275,7 +284,8 @@ pub fn read_substitution(
     room: u32,
     bytes: &[u8],
 ) -> Result<Option<(Piece, &[u8])>, Stop>
-    ensures same { GivesAny (λ x. part_of x.0) (λ x. x.1.now) result (SubstitutedAt (InBracket room) (InIndex room) bytes.now) }
+    ensures same { GivesAny (λ x. part_of x.0) (λ x. x.1.now) result
+        (SubstitutedAt (InBracket room) (InIndex room) bytes.now) }
     ensures goes { IfOk result (λ found. IfSome found (λ x. length x.1.now < length bytes.now)) }
 {
     match first(bytes) {

@@ -1,5 +1,6 @@
 -- The subcommands of `string`.
-use Rattle.std.specs.Prelude.{ℕ, List, Option, None, Some, codes, bytes_eq, if◌then◌else◌, Err}
+use Rattle.std.specs.Prelude.{ℕ, Option, None, Some, codes, bytes_eq, if◌then◌else◌, Err}
+use Rattle.txt_core.specs.Names.{Bytes, Words}
 use Rattle.natives.specs.Answers.{Reply}
 use Rattle.txt_core.specs.ErrorTexts.{unknown_subcommand}
 use Rattle.natives.specs.Strings.{counted, length_reply, index_reply, range_reply, compare_reply, equal_reply, first_reply, last_reply, match_reply, tolower_reply, toupper_reply, trim_reply, trimleft_reply, trimright_reply, repeat_reply}
@@ -7,7 +8,7 @@ use Rattle.tcl_string.specs.declared.subcommand.Subcommand.{Subcommand}
 use Rattle.tcl_string.specs.declared.subcommand.Subcommand.TheVariants.{Length, Index, Range, Compare, Equal, First, Last, Match, Tolower, Toupper, Trim, Trimleft, Trimright, Repeat}
 
 -- the subcommand that looks at texts, of a name
-abbrev pub looking_named : List ℕ → Option Subcommand
+abbrev pub looking_named : Bytes → Option Subcommand
 looking_named name =
     if bytes_eq name (codes "length") then Some Length
     else if bytes_eq name (codes "index") then Some Index
@@ -20,7 +21,7 @@ looking_named name =
     else None
 
 -- the subcommand that changes a text, of a name
-abbrev pub changing_named : List ℕ → Option Subcommand
+abbrev pub changing_named : Bytes → Option Subcommand
 changing_named name =
     if bytes_eq name (codes "tolower") then Some Tolower
     else if bytes_eq name (codes "toupper") then Some Toupper
@@ -35,7 +36,7 @@ or_else None later = later
 or_else (Some subcommand) later = Some subcommand
 
 -- the subcommand of a name
-abbrev pub subcommand_named : List ℕ → Option Subcommand
+abbrev pub subcommand_named : Bytes → Option Subcommand
 subcommand_named name = or_else (looking_named name) (changing_named name)
 
 -- the least and the most words that it takes, the two names among them
@@ -72,7 +73,7 @@ most_words Trimright = 4
 most_words Repeat = 4
 
 -- what it comes to on words of a right number
-abbrev pub reply_by : Subcommand → List (List ℕ) → Reply
+abbrev pub reply_by : Subcommand → Words → Reply
 reply_by Length words = length_reply words
 reply_by Index words = index_reply words
 reply_by Range words = range_reply words
@@ -89,6 +90,6 @@ reply_by Trimright words = trimright_reply words
 reply_by Repeat words = repeat_reply words
 
 -- what a name comes to, by the subcommand that it has
-abbrev pub reply_named : Option Subcommand → List ℕ → List (List ℕ) → Reply
+abbrev pub reply_named : Option Subcommand → Bytes → Words → Reply
 reply_named None name words = Err (unknown_subcommand name (codes "string"))
 reply_named (Some subcommand) name words = counted (least_words subcommand) (most_words subcommand) words (reply_by subcommand words)

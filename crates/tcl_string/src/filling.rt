@@ -1,7 +1,8 @@
 //! What the parts of a pattern write.
 
-ghost use Rattle.std.specs.Prelude.{◌≡◌, ℕ, List, ◌-◌, ◌<◌, ◌++◌, ◌∷◌, [], true, false, length, None, Some, OnOk, replicate, decimal, unsigned_abs, encode_utf8, if◌then◌else◌};
+ghost use Rattle.std.specs.Prelude.{◌≡◌, ◌-◌, ◌<◌, ◌++◌, ◌∷◌, [], true, false, length, None, Some, OnOk, replicate, decimal, unsigned_abs, encode_utf8, if◌then◌else◌};
 ghost use Rattle.std.specs.Fmt.{digits};
+ghost use Rattle.txt_core.specs.Names.{Bytes};
 ghost use Rattle.natives.specs.Answers.{Tried};
 ghost use Rattle.natives.specs.Checks.{integer, integer_error};
 ghost use Rattle.natives.specs.Parts.{form as form_part};
@@ -67,7 +68,8 @@ fn sign_of(n: i64) -> &'static [u8]
 
 /// Puts a number in decimal at the end.
 fn put_number(alloc: Global, out: &mut Text, form: Form, n: i64) -> Result<(), NoMemory>
-    ensures { OnOk result (out.new ≡ out.old ++ filled (form_of form) (sign_of n) (decimal (unsigned_abs n))) }
+    ensures { OnOk result
+        (out.new ≡ out.old ++ filled (form_of form) (sign_of n) (decimal (unsigned_abs n))) }
 {
     let size = n.unsigned_abs();
     let digits = format!(in alloc; "{size}")?;
@@ -76,7 +78,8 @@ fn put_number(alloc: Global, out: &mut Text, form: Form, n: i64) -> Result<(), N
 
 /// Puts the 64 bits of a number in hexadecimal at the end.
 fn put_bits(alloc: Global, out: &mut Text, form: Form, n: i64) -> Result<(), NoMemory>
-    ensures { OnOk result (out.new ≡ out.old ++ filled (form_of form) [] (digits 16 false (in_64_bits n))) }
+    ensures { OnOk result
+        (out.new ≡ out.old ++ filled (form_of form) [] (digits 16 false (in_64_bits n))) }
 {
     let bits = n.cast_unsigned();
     let digits = format!(in alloc; "{bits:x}")?;
@@ -101,7 +104,10 @@ fn put_utf8(out: &mut Text, form: Form, character: char) -> Result<(), NoMemory>
 
 /// Puts a word that must be a number at the end, in decimal.
 fn put_decimal(alloc: Global, out: &mut Text, form: Form, word: &Text) -> Result<(), Fault>
-    ensures { Puts (integer_error word.now) out.old (filled (form_of form) (sign_of (integer word.now)) (decimal (unsigned_abs (integer word.now)))) out.new result }
+    ensures { Puts (integer_error word.now) out.old
+        (filled (form_of form) (sign_of (integer word.now))
+        (decimal (unsigned_abs (integer word.now))))
+        out.new result }
 {
     let n = number_in(alloc, word)?;
     Ok(put_number(alloc, out, form, n)?)
@@ -109,7 +115,8 @@ fn put_decimal(alloc: Global, out: &mut Text, form: Form, word: &Text) -> Result
 
 /// Puts the 64 bits of a word that must be a number at the end, in hexadecimal.
 fn put_hexadecimal(alloc: Global, out: &mut Text, form: Form, word: &Text) -> Result<(), Fault>
-    ensures { Puts (integer_error word.now) out.old (filled (form_of form) [] (digits 16 false (in_64_bits (integer word.now)))) out.new result }
+    ensures { Puts (integer_error word.now) out.old
+        (filled (form_of form) [] (digits 16 false (in_64_bits (integer word.now)))) out.new result }
 {
     let n = number_in(alloc, word)?;
     Ok(put_bits(alloc, out, form, n)?)
@@ -117,7 +124,8 @@ fn put_hexadecimal(alloc: Global, out: &mut Text, form: Form, word: &Text) -> Re
 
 /// The character whose number a word must be.
 fn character_in(alloc: Global, word: &Text) -> Result<char, Fault>
-    ensures { Tried (form_error 99 word.now) (λ found. found ≡ unsigned_abs (integer word.now)) result }
+    ensures { Tried (form_error 99 word.now) (λ found. found ≡ unsigned_abs (integer word.now))
+        result }
 {
     let n = number_in(alloc, word)?;
     match character(n) {
@@ -128,7 +136,8 @@ fn character_in(alloc: Global, word: &Text) -> Result<char, Fault>
 
 /// Puts the character whose number a word must be at the end.
 fn put_character(alloc: Global, out: &mut Text, form: Form, word: &Text) -> Result<(), Fault>
-    ensures { Puts (form_error 99 word.now) out.old (filled (form_of form) [] (encode_utf8 (unsigned_abs (integer word.now)))) out.new result }
+    ensures { Puts (form_error 99 word.now) out.old
+        (filled (form_of form) [] (encode_utf8 (unsigned_abs (integer word.now)))) out.new result }
 {
     let character = character_in(alloc, word)?;
     Ok(put_utf8(out, form, character)?)
@@ -159,7 +168,8 @@ fn first_word(words: &[Text]) -> &Text
 /// Puts what a form writes at the end; each but `%%` takes the first word.
 fn put_form(alloc: Global, out: &mut Text, form: Form, words: &[Text]) -> Result<(), Fault>
     requires { takes_word (form_part (form_of form)) ≡ true → 0 < length words.now }
-    ensures { Puts (part_error (form_part (form_of form)) (arg words.now 0)) out.old (part_text (form_part (form_of form)) (arg words.now 0)) out.new result }
+    ensures { Puts (part_error (form_part (form_of form)) (arg words.now 0)) out.old
+        (part_text (form_part (form_of form)) (arg words.now 0)) out.new result }
 {
     match form.letter {
         Letter::Percent => put_text(out, form, b"%"),
@@ -173,7 +183,8 @@ fn put_form(alloc: Global, out: &mut Text, form: Form, words: &[Text]) -> Result
 /// Puts what a part writes at the end; where it takes a word, it takes the first one.
 fn put_part(alloc: Global, out: &mut Text, part: Part, words: &[Text]) -> Result<(), Fault>
     requires { takes_word (part_of part) ≡ true → 0 < length words.now }
-    ensures { Puts (part_error (part_of part) (arg words.now 0)) out.old (part_text (part_of part) (arg words.now 0)) out.new result }
+    ensures { Puts (part_error (part_of part) (arg words.now 0)) out.old
+        (part_text (part_of part) (arg words.now 0)) out.new result }
 {
     match part {
         Part::Itself(byte) => put_byte(out, byte),
@@ -226,7 +237,8 @@ fn check_part(alloc: Global, part: Part, words: &[Text]) -> Result<(), Fault>
 /// first one.
 fn put_behind(alloc: Global, mut text: Text, part: Part, words: &[Text]) -> Result<Output, Fault>
     requires { takes_word (part_of part) ≡ true → 0 < length words.now }
-    ensures { PutsNext (part_error (part_of part) (arg words.now 0)) text (part_text (part_of part) (arg words.now 0)) result }
+    ensures { PutsNext (part_error (part_of part) (arg words.now 0)) text
+        (part_text (part_of part) (arg words.now 0)) result }
 {
     put_part(alloc, &mut text, part, words)?;
     Ok(Output::of(text))
@@ -246,7 +258,9 @@ fn pass_over(alloc: Global, part: Part, words: &[Text]) -> Result<Output, Fault>
 /// first one.
 pub fn put_next(alloc: Global, out: Output, part: Part, words: &[Text]) -> Result<Output, Fault>
     requires { takes_word (part_of part) ≡ true → 0 < length words.now }
-    ensures { (text : List ℕ) → Keeps out text → PutsNext (part_error (part_of part) (arg words.now 0)) text (part_text (part_of part) (arg words.now 0)) result }
+    ensures { (text : Bytes) → Keeps out text
+        → PutsNext (part_error (part_of part) (arg words.now 0)) text
+        (part_text (part_of part) (arg words.now 0)) result }
 {
     match out {
         Output::Whole(kept) => put_behind(alloc, kept, part, words),

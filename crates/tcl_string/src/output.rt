@@ -1,6 +1,7 @@
 //! A text under way that may come to be over the limit of a value.
 
-ghost use Rattle.std.specs.Prelude.{ℕ, List, [], Ok};
+ghost use Rattle.std.specs.Prelude.{[], Ok};
+ghost use Rattle.txt_core.specs.Names.{Bytes};
 ghost use Rattle.tcl_string.specs.Early.{Comes};
 ghost use Rattle.tcl_string.specs.Keeping.{Keeps};
 
@@ -38,7 +39,7 @@ impl Output {
 
     /// The whole text, or the error `value too long`.
     pub fn into_text(self, alloc: Global) -> Result<Text, Fault>
-        ensures { (text : List ℕ) → Keeps self text → Comes (Ok text) result }
+        ensures { (text : Bytes) → Keeps self text → Comes (Ok text) result }
     {
         match self {
             Output::Whole(text) => Ok(text),

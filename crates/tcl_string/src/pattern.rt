@@ -71,7 +71,8 @@ fn flag(flag: u8, bytes: &[u8]) -> (bool, &[u8])
 
 /// The value of a decimal digit; `None` exactly for any other byte.
 fn digit(byte: u8) -> Option<usize>
-    ensures { MatchOption result (is_digit 10 byte ≡ false) (λ d. (is_digit 10 byte ≡ true) × (d ≡ digit_of byte)) }
+    ensures { MatchOption result (is_digit 10 byte ≡ false) (λ d.
+        (is_digit 10 byte ≡ true) × (d ≡ digit_of byte)) }
 {
     match byte {
         b'0'..=b'9' => Some(usize::from(byte - b'0')),
@@ -118,7 +119,8 @@ fn form_behind(left: bool, zeros: bool, bytes: &[u8]) -> Option<(Form, &[u8])>
 
 /// The form whose flags, width and letter stand at the front, and what is behind it.
 fn form_at(bytes: &[u8]) -> Option<(Form, &[u8])>
-    ensures { option_map (λ f. (form_of f.0, f.1.now)) result ≡ with_rest bytes.now (form_at bytes.now) }
+    ensures { option_map (λ f. (form_of f.0, f.1.now)) result
+        ≡ with_rest bytes.now (form_at bytes.now) }
 {
     let (left, behind) = flag(b'-', bytes);
     let (zeros, behind) = flag(b'0', behind);

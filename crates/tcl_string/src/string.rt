@@ -44,7 +44,10 @@ fn run(alloc: Global, subcommand: Subcommand, words: &Words) -> Result<Text, Fau
 
 /// The same on any number of words.
 fn run_counted(alloc: Global, subcommand: Subcommand, words: &Words) -> Result<Text, Fault>
-    ensures { Comes (counted (least_words subcommand) (most_words subcommand) words.now (reply_by subcommand words.now)) result }
+    ensures { Comes
+        (counted (least_words subcommand) (most_words subcommand) words.now
+        (reply_by subcommand words.now))
+        result }
 {
     let count = words.len();
     if count < least_words(subcommand) {

@@ -1,5 +1,6 @@
 -- What a command comes to, and what the program answers for it.
-use Rattle.std.specs.Prelude.{◌≡◌, ℕ, List, Option, Some, None, Result, Ok, Err}
+use Rattle.std.specs.Prelude.{◌≡◌, Option, Some, None, Result, Ok, Err}
+use Rattle.txt_core.specs.Names.{Bytes}
 use Rattle.tcl_frame.specs.Stack.{Stack}
 use Rattle.natives.specs.declared.fault.Fault.{Fault}
 use Rattle.natives.specs.declared.fault.Fault.TheVariants.{Error, NoMemory}
@@ -7,17 +8,17 @@ use Rattle.natives.specs.declared.fault.Fault.TheVariants.{Error, NoMemory}
 -- what a command comes to
 pub data Came : Type 0 where
   -- a result, and the frames after it
-  gives : List ℕ → Stack → Came
+  gives : Bytes → Stack → Came
   -- an error's text, and the frames after it
-  fails : List ℕ → Stack → Came
+  fails : Bytes → Stack → Came
 
 -- where a check finds an error, the command fails with it and the frames are as they were; else it goes on
-abbrev pub unless : Option (List ℕ) → Stack → Came → Came
+abbrev pub unless : Option Bytes → Stack → Came → Came
 unless None stack came = came
 unless (Some text) stack came = fails text stack
 
 -- the answer is what the command comes to, with its frames. Want of memory is free
-abbrev pub IsAnswer : Result (List ℕ) Fault → Came → Stack → Type 0
+abbrev pub IsAnswer : Result Bytes Fault → Came → Stack → Type 0
 IsAnswer (Ok result) (gives text stack) new = (result ≡ text) × (new ≡ stack)
 IsAnswer (Ok result) (fails text stack) new = ⊥
 IsAnswer (Err (Error error)) (gives text stack) new = ⊥
@@ -25,7 +26,7 @@ IsAnswer (Err (Error error)) (fails text stack) new = (error ≡ text) × (new �
 IsAnswer (Err NoMemory) came new = Unit {0}
 
 -- the program answers what the command comes to, and leaves its frames
-abbrev pub Answers : Came → Result (List ℕ) Fault → Stack → Type 0
+abbrev pub Answers : Came → Result Bytes Fault → Stack → Type 0
 Answers came result new = IsAnswer result came new
 
 -- where memory ran out, this holds
@@ -35,12 +36,12 @@ IfNoMemory (Err (Error text)) fact = Unit {0}
 IfNoMemory (Err NoMemory) fact = fact
 
 -- a change answers its error exactly where there is one, and then changes nothing
-abbrev pub Changes : Option (List ℕ) → Stack → Stack → Result (Unit {0}) Fault → Stack → Type 0
+abbrev pub Changes : Option Bytes → Stack → Stack → Result (Unit {0}) Fault → Stack → Type 0
 Changes error after before (Ok done) new = (error ≡ None) × (new ≡ after)
 Changes error after before (Err (Error text)) new = (error ≡ Some text) × (new ≡ before)
 Changes error after before (Err NoMemory) new = new ≡ before
 
 -- what is said is this text, or memory ran out
-abbrev pub Says : Option (List ℕ) → Fault → Type 0
+abbrev pub Says : Option Bytes → Fault → Type 0
 Says message (Error text) = message ≡ Some text
 Says message NoMemory = Unit {0}

@@ -1,5 +1,6 @@
 -- The variable commands by their names.
-use Rattle.std.specs.Prelude.{ℕ, Bool, true, false, List, Option, Some, None, if◌then◌else◌, codes, bytes_eq}
+use Rattle.std.specs.Prelude.{Bool, true, false, Option, Some, None, if◌then◌else◌, codes, bytes_eq}
+use Rattle.txt_core.specs.Names.{Bytes, Words}
 use Rattle.tcl_frame.specs.Stack.{Stack}
 use Rattle.tcl_varcmd.specs.declared.command.Command.{Command}
 use Rattle.tcl_varcmd.specs.declared.command.Command.TheVariants.{Set, Unset, Incr, Append, Lappend, Global, Array, Info}
@@ -11,7 +12,7 @@ use Rattle.tcl_varcmd.specs.Scalars.{set_came, unset_came, incr_came, append_cam
 use Rattle.tcl_varcmd.specs.Arrays.{array_came, info_came}
 
 -- the command of this name
-abbrev pub command_named : List ℕ → Option Command
+abbrev pub command_named : Bytes → Option Command
 command_named name =
     if bytes_eq name (codes "set") then Some Set
     else if bytes_eq name (codes "unset") then Some Unset
@@ -24,7 +25,7 @@ command_named name =
     else None
 
 -- whether words go on as this command's: of `info` only `info exists` is a variable command
-abbrev pub goes_on : Option Command → List (List ℕ) → Bool
+abbrev pub goes_on : Option Command → Words → Bool
 goes_on None words = false
 goes_on (Some Set) words = true
 goes_on (Some Unset) words = true
@@ -36,11 +37,11 @@ goes_on (Some Array) words = true
 goes_on (Some Info) words = bytes_eq (arg words 1) (codes "exists")
 
 -- whether words begin with a variable command
-unfoldable pub begins_var_command : List (List ℕ) → Bool
+unfoldable pub begins_var_command : Words → Bool
 begins_var_command words = goes_on (command_named (arg words 0)) words
 
 -- what each comes to
-abbrev pub command_came : Stack → Option Command → List (List ℕ) → Came
+abbrev pub command_came : Stack → Option Command → Words → Came
 command_came stack (Some Set) words = set_came stack words
 command_came stack (Some Unset) words = unset_came stack words
 command_came stack (Some Incr) words = incr_came stack words
@@ -57,5 +58,5 @@ bounded (gives text stack) = if is_long text then fails too_long stack else give
 bounded (fails text stack) = if is_long text then fails too_long stack else fails text stack
 
 -- what words that begin with a variable command come to
-abbrev pub var_came : Stack → List (List ℕ) → Came
+abbrev pub var_came : Stack → Words → Came
 var_came stack words = bounded (command_came stack (command_named (arg words 0)) words)

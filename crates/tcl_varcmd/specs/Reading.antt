@@ -1,5 +1,6 @@
 -- What is said where a variable or a list can't be read.
-use Rattle.std.specs.Prelude.{◌≡◌, ℕ, List, [], Some, Result, Ok, Err}
+use Rattle.std.specs.Prelude.{◌≡◌, [], Some, Result, Ok, Err}
+use Rattle.txt_core.specs.Names.{Bytes}
 use Rattle.tcl_frame.specs.declared.fault.VarFault.{VarFault}
 use Rattle.tcl_frame.specs.declared.fault.VarFault.TheVariants.{NoVariable, IsArray, NotArray, Exists, NoMemory}
 use Rattle.tcl_list.specs.declared.fault.ListFault.{ListFault}
@@ -10,7 +11,7 @@ use Rattle.tcl_varcmd.specs.Texts.{fault_text}
 use Rattle.tcl_varcmd.specs.Answers.{Says}
 
 -- for a variable that is to be written: the empty text where the variable is absent, and the refusal elsewhere
-abbrev pub IsOrEmpty : VarFault → List ℕ → Result (List ℕ) Fault → Type 0
+abbrev pub IsOrEmpty : VarFault → Bytes → Result Bytes Fault → Type 0
 IsOrEmpty NoVariable name (Ok value) = value ≡ []
 IsOrEmpty NoVariable name (Err x) = ⊥
 IsOrEmpty IsArray name (Ok value) = ⊥

@@ -44,7 +44,8 @@ fn is_listed(pattern: Option<&Text>, index: &Text) -> bool
 
 /// The indexes and values in turn of the elements that are listed.
 fn elements_in_turn(alloc: Global, pairs: &Pairs, pattern: Option<&Text>) -> Result<Words, NoMemory>
-    ensures { IfOk result (λ words. words ≡ in_turn (picked (option_copied pattern.entry) pairs.now)) }
+    ensures { IfOk result (λ words.
+        words ≡ in_turn (picked (option_copied pattern.entry) pairs.now)) }
 {
     let mut words = Words::new(alloc);
     'pairs: for pair in pairs.as_slice() {
@@ -58,7 +59,8 @@ fn elements_in_turn(alloc: Global, pairs: &Pairs, pattern: Option<&Text>) -> Res
 
 /// The indexes of the elements that are listed.
 fn indexes(alloc: Global, pairs: &Pairs, pattern: Option<&Text>) -> Result<Words, NoMemory>
-    ensures { IfOk result (λ words. words ≡ map (λ pair. pair.0) (picked (option_copied pattern.entry) pairs.now)) }
+    ensures { IfOk result (λ words.
+        words ≡ map (λ pair. pair.0) (picked (option_copied pattern.entry) pairs.now)) }
 {
     let mut words = Words::new(alloc);
     'pairs: for pair in pairs.as_slice() {
@@ -76,7 +78,12 @@ fn get(
     name: &Text,
     pattern: Option<&Text>,
 ) -> Result<Text, NoMemory>
-    ensures { IfOk result (λ text. text ≡ quoting (in_turn (picked (option_copied pattern.entry) (finite.entries (elements_of frames.now name.now))))) }
+    ensures { IfOk result (λ text.
+        text
+        ≡ quoting
+        (in_turn
+        (picked (option_copied pattern.entry)
+        (finite.entries (elements_of frames.now name.now))))) }
 {
     let pairs = frames.elements(name)?;
     let words = elements_in_turn(alloc, &pairs, pattern)?;
@@ -90,7 +97,12 @@ fn names(
     name: &Text,
     pattern: Option<&Text>,
 ) -> Result<Text, NoMemory>
-    ensures { IfOk result (λ text. text ≡ quoting (map (λ pair. pair.0) (picked (option_copied pattern.entry) (finite.entries (elements_of frames.now name.now))))) }
+    ensures { IfOk result (λ text.
+        text
+        ≡ quoting
+        (map (λ pair. pair.0)
+        (picked (option_copied pattern.entry)
+        (finite.entries (elements_of frames.now name.now))))) }
 {
     let pairs = frames.elements(name)?;
     let words = indexes(alloc, &pairs, pattern)?;
@@ -99,7 +111,8 @@ fn names(
 
 /// `array size a`.
 fn size(alloc: Global, frames: &Frames, name: &Text) -> Result<Text, NoMemory>
-    ensures { IfOk result (λ text. text ≡ decimal (length (finite.entries (elements_of frames.now name.now)))) }
+    ensures { IfOk result (λ text.
+        text ≡ decimal (length (finite.entries (elements_of frames.now name.now)))) }
 {
     digits(alloc, frames.count(name))
 }

@@ -41,8 +41,10 @@ fn answer(
 /// An answer, or the error of one that is over the limit, whose text is handed in.
 fn within_limit(answer: Result<Text, Fault>, over: Text) -> Result<Text, Fault>
     requires { over ≡ too_long }
-    ensures answers { (came : Came) (stack : Stack) → Answers came answer stack → Answers (bounded came) result stack }
-    ensures kept { (old new : Stack) → IfNoMemory answer (new ≡ old) → IfNoMemory result (new ≡ old) }
+    ensures answers { (came : Came) (stack : Stack) → Answers came answer stack
+        → Answers (bounded came) result stack }
+    ensures kept { (old new : Stack) → IfNoMemory answer (new ≡ old)
+        → IfNoMemory result (new ≡ old) }
 {
     match answer {
         Ok(text) | Err(Fault::Error(text)) if is_too_long(&text) => Err(Fault::Error(over)),

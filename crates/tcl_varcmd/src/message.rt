@@ -1,6 +1,7 @@
 //! The texts of errors, and the checks that need no variable.
 
-ghost use Rattle.std.specs.Prelude.{◌≡◌, ◌↔◌, ◌<◌, ◌≤◌, nat_lt, ℕ, List, length, IfOk, IsTrue, Some};
+ghost use Rattle.std.specs.Prelude.{◌≡◌, ◌↔◌, ◌<◌, ◌≤◌, nat_lt, length, IfOk, IsTrue, Some};
+ghost use Rattle.txt_core.specs.Names.{Bytes};
 ghost use Rattle.natives.specs.Answers.{Tried};
 ghost use Rattle.txt_core.specs.ErrorTexts.{wrong_words, overflow};
 ghost use Rattle.tcl_varcmd.specs.Answers.{Says};
@@ -14,7 +15,7 @@ use txt_core::{NoMemory, Text, Words, error_text};
 
 /// The error of a text, or want of memory where there is no text for want of it.
 fn told(text: Result<Text, NoMemory>) -> Fault
-    ensures { (said : List ℕ) → IfOk text (λ t. t ≡ said) → Says (Some said) result }
+    ensures { (said : Bytes) → IfOk text (λ t. t ≡ said) → Says (Some said) result }
 {
     match text {
         Ok(text) => Fault::Error(text),
@@ -67,7 +68,8 @@ pub(crate) fn check_count(
     most: usize,
     command: &str,
 ) -> Result<(), Fault>
-    ensures { Tried (count_error least most words.now command.now) (λ _. (least ≤ length words.now) × (length words.now ≤ most)) result }
+    ensures { Tried (count_error least most words.now command.now)
+        (λ _. (least ≤ length words.now) × (length words.now ≤ most)) result }
 {
     if are_fewer(words, least) {
         return Err(Fault::wrong_words(alloc, command));

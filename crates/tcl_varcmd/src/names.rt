@@ -43,7 +43,8 @@ pub(crate) fn unset(alloc: Global, frames: &mut Frames, words: &Words) -> Result
 
 /// Links a name, which must have no element's form.
 fn link_name(alloc: Global, frames: &mut Frames, name: &Text) -> Result<(), Fault>
-    ensures change { Changes (global_error frames.old name.now) (linked frames.old name.now) frames.old result frames.new }
+    ensures change { Changes (global_error frames.old name.now) (linked frames.old name.now)
+        frames.old result frames.new }
     ensures depth { length frames.new.above ≡ length frames.old.above }
 {
     if is_element_name(name) {
@@ -66,8 +67,10 @@ fn link_noting<'a>(
     name: &'a Text,
     links: &mut Vec<NewLink<'a>>,
 ) -> Result<(), Fault>
-    ensures change { Changes (global_error frames.old name.now) (linked frames.old name.now) frames.old result frames.new }
-    ensures noted { unlinked_all links.new.items frames.new ≡ unlinked_all links.old.items frames.old }
+    ensures change { Changes (global_error frames.old name.now) (linked frames.old name.now)
+        frames.old result frames.new }
+    ensures noted { unlinked_all links.new.items frames.new
+        ≡ unlinked_all links.old.items frames.old }
     ensures depth { length frames.new.above ≡ length frames.old.above }
 {
     links.reserve(1)?;
@@ -88,7 +91,8 @@ fn link_all<'a>(
     links: &mut Vec<NewLink<'a>>,
 ) -> Result<Text, Fault>
     ensures came { Answers (global_all frames.old names.now) result frames.new }
-    ensures noted { unlinked_all links.new.items frames.new ≡ unlinked_all links.old.items frames.old }
+    ensures noted { unlinked_all links.new.items frames.new
+        ≡ unlinked_all links.old.items frames.old }
     ensures depth { length frames.new.above ≡ length frames.old.above }
 {
     'names: for name in names {

@@ -40,7 +40,8 @@ fn set_value(
     name: &Text,
     value: Option<&Text>,
 ) -> Result<Text, Fault>
-    ensures came { Answers (set_to frames.old name.now (option_copied value.entry)) result frames.new }
+    ensures came { Answers (set_to frames.old name.now (option_copied value.entry)) result
+        frames.new }
     ensures kept { IfNoMemory result (frames.new ≡ frames.old) }
     ensures depth { length frames.new.above ≡ length frames.old.above }
 {
@@ -65,7 +66,8 @@ pub(crate) fn set(alloc: Global, frames: &mut Frames, words: &Words) -> Result<T
 
 /// The number by which `incr` changes a variable: 1 where it is left out.
 fn step(alloc: Global, n: Option<&Text>) -> Result<i64, Fault>
-    ensures { Tried (step_error (option_copied n.entry)) (λ number. number ≡ step_of (option_copied n.entry)) result }
+    ensures { Tried (step_error (option_copied n.entry))
+        (λ number. number ≡ step_of (option_copied n.entry)) result }
 {
     match n {
         None => Ok(1),

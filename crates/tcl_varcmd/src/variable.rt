@@ -18,7 +18,8 @@ use txt_core::{Known, Text};
 
 /// The value of a variable.
 pub(crate) fn read(alloc: Global, frames: &Frames, name: &Text) -> Result<Text, Fault>
-    ensures { Tried (read_error frames.now name.now) (λ value. value ≡ read_of frames.now name.now) result }
+    ensures { Tried (read_error frames.now name.now) (λ value. value ≡ read_of frames.now name.now)
+        result }
 {
     match frames.read(name) {
         Ok(value) => Ok(value),
@@ -41,7 +42,8 @@ fn or_empty(alloc: Global, fault: VarFault, name: &Text) -> Result<Text, Fault>
 
 /// The value of a variable that is to be written, which is empty where it is absent.
 pub(crate) fn read_or_empty(alloc: Global, frames: &Frames, name: &Text) -> Result<Text, Fault>
-    ensures { Tried (write_error frames.now name.now) (λ value. value ≡ read_of frames.now name.now) result }
+    ensures { Tried (write_error frames.now name.now) (λ value. value ≡ read_of frames.now name.now)
+        result }
 {
     match frames.read(name) {
         Ok(value) => Ok(value),
@@ -51,7 +53,8 @@ pub(crate) fn read_or_empty(alloc: Global, frames: &Frames, name: &Text) -> Resu
 
 /// How many bytes the value of a variable that is to be written has, none where it is absent.
 pub(crate) fn length_or_none(alloc: Global, frames: &Frames, name: &Text) -> Result<usize, Fault>
-    ensures { Tried (write_error frames.now name.now) (λ count. count ≡ length (read_of frames.now name.now)) result }
+    ensures { Tried (write_error frames.now name.now)
+        (λ count. count ≡ length (read_of frames.now name.now)) result }
 {
     match frames.value(name) {
         Ok(value) => Ok(value.len()),
@@ -65,7 +68,8 @@ pub(crate) fn length_or_none(alloc: Global, frames: &Frames, name: &Text) -> Res
 /// The value of a variable, where it is known to be a list of at least one element, as a list is
 /// written.
 pub(crate) fn written_list<'a>(frames: &'a Frames, name: &Text) -> Option<&'a Text>
-    ensures value { IfSome result (λ list. (list.now ≡ read_of frames.now name.now) × (write_error frames.now name.now ≡ None)) }
+    ensures value { IfSome result (λ list.
+        (list.now ≡ read_of frames.now name.now) × (write_error frames.now name.now ≡ None)) }
     ensures list { IfSome result (λ list. IsWrittenList list.now) }
 {
     match frames.value(name) {
@@ -103,7 +107,8 @@ pub(crate) fn write(
     name: &Text,
     value: Text,
 ) -> Result<(), Fault>
-    ensures change { Changes (write_error frames.old name.now) (written frames.old name.now value) frames.old result frames.new }
+    ensures change { Changes (write_error frames.old name.now) (written frames.old name.now value)
+        frames.old result frames.new }
     ensures depth { length frames.new.above ≡ length frames.old.above }
 {
     match frames.write(name, value) {
@@ -114,7 +119,8 @@ pub(crate) fn write(
 
 /// Removes a variable.
 pub(crate) fn remove(alloc: Global, frames: &mut Frames, name: &Text) -> Result<(), Fault>
-    ensures change { Changes (remove_error frames.old name.now) (removed frames.old name.now) frames.old result frames.new }
+    ensures change { Changes (remove_error frames.old name.now) (removed frames.old name.now)
+        frames.old result frames.new }
     ensures depth { length frames.new.above ≡ length frames.old.above }
 {
     match frames.remove(name) {
@@ -130,7 +136,8 @@ pub(crate) fn write_array(
     name: &Text,
     pairs: &[Text],
 ) -> Result<(), Fault>
-    ensures change { Changes (array_error frames.old name.now) (pairs_written frames.old name.now pairs.now) frames.old result frames.new }
+    ensures change { Changes (array_error frames.old name.now)
+        (pairs_written frames.old name.now pairs.now) frames.old result frames.new }
     ensures depth { length frames.new.above ≡ length frames.old.above }
 {
     match frames.write_array(name, pairs) {
@@ -142,7 +149,8 @@ pub(crate) fn write_array(
 /// Links a name to the global variable.
 pub(crate) fn link(alloc: Global, frames: &mut Frames, name: &Text) -> Result<(), Fault>
     requires { is_element (named name.now) ≡ false }
-    ensures change { Changes (refused name.now (link_fault frames.old name.now)) (linked frames.old name.now) frames.old result frames.new }
+    ensures change { Changes (refused name.now (link_fault frames.old name.now))
+        (linked frames.old name.now) frames.old result frames.new }
     ensures depth { length frames.new.above ≡ length frames.old.above }
 {
     match frames.link(name) {

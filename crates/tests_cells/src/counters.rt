@@ -85,18 +85,22 @@ fn count_in_two<R: Threads + Wait + Sync>(
     second: Pass<Counter>,
 ) -> (Counted, Counted)
     requires { IsOf cell.now first × IsOf cell.now second }
-    ensures first { IsOf cell.now result.0.pass × TakesCount (pass_view first) 100 (pass_view result.0.pass) }
-    ensures second { IsOf cell.now result.1.pass × TakesCount (pass_view second) 100 (pass_view result.1.pass) }
+    ensures first { IsOf cell.now result.0.pass
+        × TakesCount (pass_view first) 100 (pass_view result.0.pass) }
+    ensures second { IsOf cell.now result.1.pass
+        × TakesCount (pass_view second) 100 (pass_view result.1.pass) }
 {
     join(
         rt,
         move ||
             requires { IsOf cell.now first }
-            ensures { IsOf cell.entry.now result.pass × TakesCount (pass_view first) 100 (pass_view result.pass) }
+            ensures { IsOf cell.entry.now result.pass
+                × TakesCount (pass_view first) 100 (pass_view result.pass) }
         { count(rt, cell, first, 100) },
         move ||
             requires { IsOf cell.now second }
-            ensures { IsOf cell.entry.now result.pass × TakesCount (pass_view second) 100 (pass_view result.pass) }
+            ensures { IsOf cell.entry.now result.pass
+                × TakesCount (pass_view second) 100 (pass_view result.pass) }
         { count(rt, cell, second, 100) },
     )
 }
@@ -115,11 +119,17 @@ fn count_in_four<R: Threads + Wait + Sync>(rt: &R, alloc: Global) -> Result<(u64
         rt,
         move ||
             requires { IsOf shared.now first × IsOf shared.now second }
-            ensures { (IsOf shared.entry.now result.0.pass × TakesCount (pass_view first) 100 (pass_view result.0.pass)) × (IsOf shared.entry.now result.1.pass × TakesCount (pass_view second) 100 (pass_view result.1.pass)) }
+            ensures { (IsOf shared.entry.now result.0.pass
+                × TakesCount (pass_view first) 100 (pass_view result.0.pass))
+                × (IsOf shared.entry.now result.1.pass
+                × TakesCount (pass_view second) 100 (pass_view result.1.pass)) }
         { count_in_two(rt, shared, first, second) },
         move ||
             requires { IsOf shared.now third × IsOf shared.now fourth }
-            ensures { (IsOf shared.entry.now result.0.pass × TakesCount (pass_view third) 100 (pass_view result.0.pass)) × (IsOf shared.entry.now result.1.pass × TakesCount (pass_view fourth) 100 (pass_view result.1.pass)) }
+            ensures { (IsOf shared.entry.now result.0.pass
+                × TakesCount (pass_view third) 100 (pass_view result.0.pass))
+                × (IsOf shared.entry.now result.1.pass
+                × TakesCount (pass_view fourth) 100 (pass_view result.1.pass)) }
         { count_in_two(rt, shared, third, fourth) },
     );
     let rising = first.rising && second.rising && third.rising && fourth.rising;

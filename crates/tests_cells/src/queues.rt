@@ -98,7 +98,8 @@ fn parts_of(
     requires queue { IsOf queue.now pass.old }
     requires units { exchange.threads + 2 ≤ (pass_view pass.old).units }
     ensures queue { IsOf queue.now pass.new }
-    ensures units { IfOk result (λ parts. (pass_view pass.new).units + exchange.threads ≡ (pass_view pass.old).units) }
+    ensures units { IfOk result (λ parts.
+        (pass_view pass.new).units + exchange.threads ≡ (pass_view pass.old).units) }
     ensures parts { IfOk result (λ parts. All (λ part. IsOf queue.now part.pass) parts.items) }
 {
     let mut parts = Vec::new(alloc);
@@ -155,7 +156,8 @@ fn put_and_take<R: Threads + Wait + Clock + Sync>(
     join(
         rt,
         move ||
-            requires { IsOf queue.now pass.now × All (λ part. IsOf queue.now part.pass) putting.now }
+            requires { IsOf queue.now pass.now
+                × All (λ part. IsOf queue.now part.pass) putting.now }
         { put_all(rt, queue, pass, putting, workers) },
         move ||
             requires { All (λ part. IsOf queue.now part.pass) working.now }

@@ -7,6 +7,7 @@ ghost use Rattle.tcl_host.specs.Answers.{Replies, RepliesTo, Ends};
 ghost use Rattle.tcl_host.specs.Leaf.{says, wants, defines, stores, goes, enters};
 ghost use Rattle.tests_language.specs.Echo.{sent, calls, answers};
 ghost use Rattle.cmd_table.specs.declared.definition.Def.{Def};
+ghost use Rattle.tcl_host.specs.Codes as code_of;
 
 use adp_parse::pieces;
 use cmd_table::Def;
@@ -59,8 +60,12 @@ impl Echo {
     }
 
     fn ask(&self, service: Service, words: &Words) -> Result<HostReply, NoMemory>
-        ensures call { IfOk result (λ reply. Replies reply self.now (wants (record { service = service; words = words.now }) self.now)) }
-        ensures answer { IfOk result (λ reply. RepliesTo reply self.now (goes (wants (record { service = service; words = words.now }) self.now))) }
+        ensures call { IfOk result (λ reply.
+            Replies reply self.now
+            (wants (record { service = service; words = words.now }) self.now)) }
+        ensures answer { IfOk result (λ reply.
+            RepliesTo reply self.now
+            (goes (wants (record { service = service; words = words.now }) self.now))) }
     {
         Ok(HostReply::Ask(Question {
             service,
@@ -69,7 +74,9 @@ impl Echo {
     }
 
     fn keep(&self, words: &Words) -> Result<HostReply, NoMemory>
-        ensures { IfOk result (λ reply. Replies reply self.now (stores (arg words.now 1) (arg words.now 2) (arg words.now 2) self.now)) }
+        ensures { IfOk result (λ reply.
+            Replies reply self.now
+            (stores (arg words.now 1) (arg words.now 2) (arg words.now 2) self.now)) }
     {
         Ok(HostReply::Store {
             name: copy_word(self.alloc, words, 1)?,
@@ -79,7 +86,8 @@ impl Echo {
     }
 
     fn note(&self, words: &Words) -> Result<HostReply, NoMemory>
-        ensures { IfOk result (λ reply. Replies reply self.now (defines (Def.Cleanup (arg words.now 1)) self.now)) }
+        ensures { IfOk result (λ reply.
+            Replies reply self.now (defines (Def.Cleanup (arg words.now 1)) self.now)) }
     {
         Ok(HostReply::Define(Def::Cleanup {
             script: copy_word(self.alloc, words, 1)?,
@@ -88,7 +96,8 @@ impl Echo {
 
     fn say(&self, code: u8, text: &[u8]) -> Result<HostReply, NoMemory>
         ensures call { IfOk result (λ reply. Replies reply self.now (says code text.now self.now)) }
-        ensures answer { IfOk result (λ reply. RepliesTo reply self.now (goes (says code text.now self.now))) }
+        ensures answer { IfOk result (λ reply.
+            RepliesTo reply self.now (goes (says code text.now self.now))) }
     {
         Ok(HostReply::Done {
             code,
@@ -98,8 +107,10 @@ impl Echo {
 
     /// Puts a text at the end of the output.
     fn send(&mut self, text: &[u8]) -> Result<HostReply, NoMemory>
-        ensures call { IfOk result (λ reply. Replies reply self.new (says 0 [] (sent self.old text.now))) }
-        ensures end { IfOk result (λ reply. Ends reply self.new (record { code = 0; result = []; host = sent self.old text.now })) }
+        ensures call { IfOk result (λ reply.
+            Replies reply self.new (says code_of.ok [] (sent self.old text.now))) }
+        ensures end { IfOk result (λ reply.
+            Ends reply self.new (record { code = 0; result = []; host = sent self.old text.now })) }
     {
         match self.output.append(text) {
             Ok(()) => Ok(HostReply::Done {
@@ -144,7 +155,9 @@ impl Echo {
 
     /// A page that is entered.
     fn enter(&self, words: &Words, page: &Text) -> Result<HostReply, NoMemory>
-        ensures { IfOk result (λ reply. RepliesTo reply self.now (enters (record { list = pieces_of page.now; args = words.now }) self.now)) }
+        ensures { IfOk result (λ reply.
+            RepliesTo reply self.now
+            (enters (record { list = pieces_of page.now; args = words.now }) self.now)) }
     {
         let args = copy_words(self.alloc, words)?;
         Ok(HostReply::Enter(pieces(self.alloc, page, args)?))
@@ -152,7 +165,8 @@ impl Echo {
 
     /// What the host says of an answer. Its only error is want of memory.
     fn onward(&self, words: &Words, answer: &Answer) -> Result<HostReply, NoMemory>
-        ensures { IfOk result (λ reply. RepliesTo reply self.now (answers words.now answer.now self.now)) }
+        ensures { IfOk result (λ reply.
+            RepliesTo reply self.now (answers words.now answer.now self.now)) }
     {
         match answer {
             Answer::Said(text) => self.say(0, text.bytes()),

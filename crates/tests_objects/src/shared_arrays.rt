@@ -138,11 +138,13 @@ fn ask_in_two<R: Threads + Wait + Sync>(
     let (one, other) = join(
         rt,
         move ||
-            requires { IsSync R.row × AreOf nsv.now one × HaveJust units one × ((0 < length arrays.now) × (length arrays.now ≤ 8)) }
+            requires { IsSync R.row × AreOf nsv.now one × HaveJust units one
+                × ((0 < length arrays.now) × (length arrays.now ≤ 8)) }
             ensures { AreOf nsv.entry.now result.pass × HaveJust units result.pass }
         { ask_in_turn(rt, alloc, nsv, one, units, arrays) },
         move ||
-            requires { IsSync R.row × AreOf nsv.now other × HaveJust 1 other × ((0 < length arrays.now) × (length arrays.now ≤ 8)) }
+            requires { IsSync R.row × AreOf nsv.now other × HaveJust 1 other
+                × ((0 < length arrays.now) × (length arrays.now ≤ 8)) }
             ensures { AreOf nsv.entry.now result.pass × HaveJust 1 result.pass }
         { ask_in_turn(rt, alloc, nsv, other, 1, arrays) },
     );
@@ -165,11 +167,15 @@ fn ask_in_four<R: Threads + Wait + Sync>(
     let (front, back) = join(
         rt,
         move ||
-            requires { IsSync R.row × AreOf shared.now first × AreOf shared.now second × (HaveJust 65533 first × HaveJust 1 second) × ((0 < length arrays.now) × (length arrays.now ≤ 8)) }
+            requires { IsSync R.row × AreOf shared.now first × AreOf shared.now second
+                × (HaveJust 65533 first × HaveJust 1 second)
+                × ((0 < length arrays.now) × (length arrays.now ≤ 8)) }
             ensures { AreOf shared.entry.now result.pass × HaveJust 65534 result.pass }
         { ask_in_two(rt, alloc, shared, first, second, 65_533, arrays) },
         move ||
-            requires { IsSync R.row × AreOf shared.now third × AreOf shared.now fourth × (HaveJust 1 third × HaveJust 1 fourth) × ((0 < length arrays.now) × (length arrays.now ≤ 8)) }
+            requires { IsSync R.row × AreOf shared.now third × AreOf shared.now fourth
+                × (HaveJust 1 third × HaveJust 1 fourth)
+                × ((0 < length arrays.now) × (length arrays.now ≤ 8)) }
             ensures { AreOf shared.entry.now result.pass × HaveJust 2 result.pass }
         { ask_in_two(rt, alloc, shared, third, fourth, 1, arrays) },
     );

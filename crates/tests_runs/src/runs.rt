@@ -1,7 +1,8 @@
 //! Runs of interpreters, by lines of text. The calls of interpreters are made by small functions that say no
 //! more of them than what the next call asks for.
 
-ghost use Rattle.std.specs.Prelude.{◌≡◌, ◌<◌, ℕ, List, IfOk, IfSome};
+ghost use Rattle.std.specs.Prelude.{◌≡◌, ◌<◌, IfOk, IfSome};
+ghost use Rattle.txt_core.specs.Names.{Names};
 ghost use Rattle.natives.specs.Names.{names_of};
 ghost use Rattle.ictl.specs.Interps.{IsNew, IsSound};
 ghost use Rattle.ictl.specs.Falls.{StandsAt, IsAsking, IsWriting};
@@ -123,7 +124,7 @@ fn start<L: Ledger>(
 ) -> Result<Next, NoMemory>
     requires { IsNew (names_of natives.now) interp.old }
     ensures next { IfOk result (λ next. StandsAt next interp.new) }
-    ensures sound { (names : List (List ℕ)) → IsSound names interp.old → IsSound names interp.new }
+    ensures sound { (names : Names) → IsSound names interp.old → IsSound names interp.new }
 {
     let text = Text::new(alloc, what.as_bytes())?;
     match kind {
@@ -142,7 +143,7 @@ fn resume<L: Ledger>(
 ) -> Next
     requires { IsAsking interp.old }
     ensures next { StandsAt result interp.new }
-    ensures sound { (names : List (List ℕ)) → IsSound names interp.old → IsSound names interp.new }
+    ensures sound { (names : Names) → IsSound names interp.old → IsSound names interp.new }
 {
     interp.resume(natives, answer, steps)
 }
@@ -151,7 +152,7 @@ fn resume<L: Ledger>(
 fn written<L: Ledger>(natives: &Natives, interp: &mut Interp, steps: &mut Steps<L>) -> Next
     requires { IsWriting interp.old }
     ensures next { StandsAt result interp.new }
-    ensures sound { (names : List (List ℕ)) → IsSound names interp.old → IsSound names interp.new }
+    ensures sound { (names : Names) → IsSound names interp.old → IsSound names interp.new }
 {
     interp.written(natives, true, steps)
 }
@@ -215,7 +216,7 @@ fn go_on<L: Ledger>(
 ) -> Result<Next, NoMemory>
     requires { StandsAt next interp.old }
     ensures next { IfOk result (λ then. StandsAt then interp.new) }
-    ensures sound { (names : List (List ℕ)) → IsSound names interp.old → IsSound names interp.new }
+    ensures sound { (names : Names) → IsSound names interp.old → IsSound names interp.new }
 {
     match next {
         Next::Asks(question) => {

@@ -119,7 +119,8 @@ fn take_turns<R: Wait>(
 ) -> Result<Turned, NoMemory>
     requires cells { AreOf shared.now passes }
     requires units { HaveJust units passes }
-    ensures { IfOk result (λ turned. AreOf shared.now turned.passes × HaveJust units turned.passes) }
+    ensures { IfOk result (λ turned.
+        AreOf shared.now turned.passes × HaveJust units turned.passes) }
 {
     let mut passes = passes;
     let mut rising = true;
@@ -168,17 +169,20 @@ fn take_turns_in_two<R: Threads + Wait + Sync>(
 ) -> Result<Turned, NoMemory>
     requires cells { AreOf shared.now one × AreOf shared.now other }
     requires units { HaveJust units one × HaveJust 1 other }
-    ensures { IfOk result (λ turned. AreOf shared.now turned.passes × HaveJust (units + 1) turned.passes) }
+    ensures { IfOk result (λ turned.
+        AreOf shared.now turned.passes × HaveJust (units + 1) turned.passes) }
 {
     let (one, other) = join(
         rt,
         move ||
             requires { IsSync R.row × AreOf shared.now one × HaveJust units one }
-            ensures { IfOk result (λ turned. AreOf shared.entry.now turned.passes × HaveJust units turned.passes) }
+            ensures { IfOk result (λ turned.
+                AreOf shared.entry.now turned.passes × HaveJust units turned.passes) }
         { take_turns(rt, alloc, shared, one, units) },
         move ||
             requires { IsSync R.row × AreOf shared.now other × HaveJust 1 other }
-            ensures { IfOk result (λ turned. AreOf shared.entry.now turned.passes × HaveJust 1 turned.passes) }
+            ensures { IfOk result (λ turned.
+                AreOf shared.entry.now turned.passes × HaveJust 1 turned.passes) }
         { take_turns(rt, alloc, shared, other, 1) },
     );
     let Turned { mut passes, rising } = one?;
@@ -208,12 +212,16 @@ fn take_turns_in_four<R: Threads + Wait + Sync>(
     let (front, back) = join(
         rt,
         move ||
-            requires { IsSync R.row × AreOf cells.now first × AreOf cells.now second × (HaveJust 65533 first × HaveJust 1 second) }
-            ensures { IfOk result (λ turned. AreOf cells.entry.now turned.passes × HaveJust 65534 turned.passes) }
+            requires { IsSync R.row × AreOf cells.now first × AreOf cells.now second
+                × (HaveJust 65533 first × HaveJust 1 second) }
+            ensures { IfOk result (λ turned.
+                AreOf cells.entry.now turned.passes × HaveJust 65534 turned.passes) }
         { take_turns_in_two(rt, alloc, cells, first, second, 65_533) },
         move ||
-            requires { IsSync R.row × AreOf cells.now third × AreOf cells.now fourth × (HaveJust 1 third × HaveJust 1 fourth) }
-            ensures { IfOk result (λ turned. AreOf cells.entry.now turned.passes × HaveJust 2 turned.passes) }
+            requires { IsSync R.row × AreOf cells.now third × AreOf cells.now fourth
+                × (HaveJust 1 third × HaveJust 1 fourth) }
+            ensures { IfOk result (λ turned.
+                AreOf cells.entry.now turned.passes × HaveJust 2 turned.passes) }
         { take_turns_in_two(rt, alloc, cells, third, fourth, 1) },
     );
     let Turned { mut passes, rising } = front?;

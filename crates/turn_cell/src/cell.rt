@@ -69,7 +69,8 @@ impl<O: Obj> TurnCell<O> {
     /// A cell with this object, and its first pass, which has the whole share of 65,536 units and
     /// has seen no turn. The one refusal is want of memory; the object is dropped then.
     pub fn new(alloc: Global, opening: O) -> Result<(TurnCell<O>, Pass<O>), NoMemory>
-        ensures { IfOk result (λ r. IsOf r.0 r.1 × (pass_view r.1 ≡ fresh WHOLE 0 opening opening)) }
+        ensures { IfOk result (λ r.
+            IsOf r.0 r.1 × (pass_view r.1 ≡ fresh WHOLE 0 opening opening)) }
     {
         opening.shown();
         let (queue, mut seat) = Queue::<O>::ruled(alloc, 1)?;
@@ -97,8 +98,10 @@ impl<O: Obj> TurnCell<O> {
         requires units { 2 ≤ (pass_view pass.old).units }
         ensures given { IsOk result }
         ensures cell { IsOf self.now pass.new }
-        ensures left { let v = pass_view pass.old in pass_view pass.new ≡ record v { units = v.units - 1 } }
-        ensures right { let v = pass_view pass.old in IfOk result (λ p. IsOf self.now p × (pass_view p ≡ fresh 1 v.seen v.opening v.low)) }
+        ensures left { let v = pass_view pass.old in
+            pass_view pass.new ≡ record v { units = v.units - 1 } }
+        ensures right { let v = pass_view pass.old in
+            IfOk result (λ p. IsOf self.now p × (pass_view p ≡ fresh 1 v.seen v.opening v.low)) }
     {
         let seat = self.queue.another::<OneUnit<O>>(&mut pass.seat);
         Ok(Pass { seat })
@@ -131,7 +134,8 @@ impl<O: Obj> TurnCell<O> {
     pub fn turn<R: Wait>(&self, rt: &R, pass: &mut Pass<O>, call: O::Call) -> Turned<O>
         requires { IsOf self.now pass.old }
         ensures cell { IsOf self.now pass.new }
-        ensures turn { Turns O.allowed O.reaches O.step (pass_view pass.old) result.place call result.reply (pass_view pass.new) }
+        ensures turn { Turns O.allowed O.reaches O.step (pass_view pass.old) result.place call
+            result.reply (pass_view pass.new) }
     {
         let Kept { count, mut object } = take::<O, R>(rt, &self.queue, &self.free, &mut pass.seat);
         let before = Snapshot::of(&object);
@@ -160,7 +164,8 @@ impl<O: Obj> TurnCell<O> {
     pub fn close<R: Wait>(self, rt: &R, pass: Pass<O>) -> O
         requires cell { IsOf self pass }
         requires whole { (pass_view pass).units ≡ WHOLE }
-        ensures history { let v = pass_view pass in IsHistory O.allowed O.step 0 v.opening v.own × (result ≡ after_of v.opening v.own) }
+        ensures history { let v = pass_view pass in
+            IsHistory O.allowed O.step 0 v.opening v.own × (result ≡ after_of v.opening v.own) }
         ensures allowed { O.allowed result }
     {
         let Pass { mut seat } = pass;
@@ -213,7 +218,8 @@ fn try_take<O: Obj, R: Wait>(rt: &R, queue: &Queue<O>, seat: &mut Seat<O>) -> Op
     requires queue { IsPassOf queue.now seat.old }
     requires free { (0 < (view seat.old).units) × ((view seat.old).held ≡ None) }
     ensures queue { IsPassOf queue.now seat.new }
-    ensures answer { MatchOption result (view seat.new ≡ view seat.old) (λ kept. Takes O.allowed O.reaches O.step (view seat.old) kept (view seat.new)) }
+    ensures answer { MatchOption result (view seat.new ≡ view seat.old) (λ kept.
+        Takes O.allowed O.reaches O.step (view seat.old) kept (view seat.new)) }
 {
     queue.pop_as::<Take<O>, R>(rt, seat)
 }
@@ -230,11 +236,13 @@ fn put<O: Obj, K: Said<O::Call, O::Reply>, R: Wait>(
     object: O,
 )
     requires queue { IsPassOf queue.now seat.old × (ruled_capacity queue.now ≡ 1) }
-    requires held { (0 < (view seat.old).units) × ((view seat.old).held ≡ Some (place, before.value)) }
+    requires held { (0 < (view seat.old).units)
+        × ((view seat.old).held ≡ Some (place, before.value)) }
     requires legal { O.step before.value call.value reply.now object × O.allowed object }
     requires said { K.said ≡ Some (call.value, reply.now) }
     ensures queue { IsPassOf queue.now seat.new }
-    ensures back { view seat.new ≡ with_turn (view seat.old) (turn_of place before.value call.value reply.now object) }
+    ensures back { view seat.new
+        ≡ with_turn (view seat.old) (turn_of place before.value call.value reply.now object) }
 {
     let kept = Kept {
         count: one_more(rt, place),

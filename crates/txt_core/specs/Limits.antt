@@ -1,12 +1,13 @@
 -- The limits that several parts of the server have in common.
-use Rattle.std.specs.Prelude.{ℕ, List, length, Bool, nat_lt, min}
+use Rattle.std.specs.Prelude.{ℕ, length, Bool, nat_lt, min}
+use Rattle.txt_core.specs.Names.{Bytes, Moment}
 
 -- how many bytes a value may have: a word, a variable, an element, a result, the text of an error, a page
 abbrev pub most_bytes : ℕ
 most_bytes = 1048576
 
 -- whether a text is over the limit of a value
-abbrev pub is_long : List ℕ → Bool
+abbrev pub is_long : Bytes → Bool
 is_long text = nat_lt most_bytes (length text)
 
 -- how deep scripts, brackets and indexes, or parentheses, may stand in one another
@@ -18,7 +19,7 @@ abbrev pub last_moment : ℕ
 last_moment = 253402300799
 
 -- a later moment counts as the last one
-abbrev pub moment_of : ℕ → ℕ
+abbrev pub moment_of : ℕ → Moment
 moment_of moment = min moment last_moment
 
 -- in how many buckets the shared arrays stand

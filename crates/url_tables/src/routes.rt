@@ -1,7 +1,8 @@
 //! The tables of a blueprint's registrations and filters.
 
-ghost use Rattle.std.specs.Prelude.{◌≡◌, ◌≤◌, ◌++◌, ◌∷◌, [], ℕ, List, length, IfOk, OnOk};
+ghost use Rattle.std.specs.Prelude.{◌≡◌, ◌≤◌, ◌++◌, ◌∷◌, [], List, length, IfOk, OnOk};
 ghost use Rattle.std.specs.Option.{option_copied, option_map};
+ghost use Rattle.txt_core.specs.Names.{Words};
 ghost use Rattle.cmd_table.specs.declared.definition.Def.{Def};
 ghost use Rattle.url_tables.specs.Serving.{route_method, route};
 ghost use Rattle.url_tables.specs.Filters.{Filters};
@@ -29,7 +30,8 @@ pub(crate) fn route_method(method: &[u8]) -> &[u8]
 
 /// The latest registration of these that serves the request.
 fn latest<'a>(sites: &'a [Site], method: &[u8], rest: &[Text], pattern: bool) -> Option<&'a Route>
-    ensures { option_map (λ route. route.words) (option_copied result) ≡ last_serving pattern method.now rest.now sites.now }
+    ensures { option_map (λ route. route.words) (option_copied result)
+        ≡ last_serving pattern method.now rest.now sites.now }
 {
     let mut at = sites.len();
     while at > 0 {
@@ -74,7 +76,9 @@ impl Routes {
 
     /// Puts a definition behind the others.
     fn add(&mut self, def: &Def) -> Result<(), NoMemory>
-        ensures { OnOk result ((defs : List Def) → IsBuiltOf self.old defs → IsBuiltOf self.new (defs ++ def.now ∷ [])) }
+        ensures { OnOk result
+            ((defs : List Def) → IsBuiltOf self.old defs
+            → IsBuiltOf self.new (defs ++ def.now ∷ [])) }
     {
         match def {
             Def::Route {
@@ -100,7 +104,12 @@ impl Routes {
         inherit: bool,
         words: &Words,
     ) -> Result<(), NoMemory>
-        ensures { OnOk result (((plain : List (List ℕ)) → found self.new.sites plain ≡ found self.old.sites plain ++ kept plain (Def.Route method.now url.now inherit words.now)) × (self.new.filters.items ≡ self.old.filters.items)) }
+        ensures { OnOk result
+            (((plain : Words)
+            → found self.new.sites plain
+            ≡ found self.old.sites plain ++ kept plain
+            (Def.Route method.now url.now inherit words.now))
+            × (self.new.filters.items ≡ self.old.filters.items)) }
     {
         let alloc = self.alloc;
         let parts = read_url(alloc, url.bytes())?;
@@ -121,7 +130,10 @@ impl Routes {
         pattern: &Text,
         words: &Words,
     ) -> Result<(), NoMemory>
-        ensures { OnOk result ((self.new.filters.items ≡ self.old.filters.items ++ passing (Def.Filter when method.now pattern.now words.now)) × (self.new.sites ≡ self.old.sites)) }
+        ensures { OnOk result
+            ((self.new.filters.items
+            ≡ self.old.filters.items ++ passing (Def.Filter when method.now pattern.now words.now))
+            × (self.new.sites ≡ self.old.sites)) }
     {
         let alloc = self.alloc;
         let passing = Passing {
@@ -137,7 +149,8 @@ impl Routes {
     /// What serves a request whose path begins with so many segments as the plain ones of its URL.
     fn serve_at(&self, method: &[u8], path: &[Text], count: usize) -> Option<&Route>
         requires { count ≤ length path.now }
-        ensures { option_map (λ route. route.words) (option_copied result) ≡ found_at self.now.sites method.now path.now count }
+        ensures { option_map (λ route. route.words) (option_copied result)
+            ≡ found_at self.now.sites method.now path.now count }
     {
         let (front, rest) = path.split_at(count);
         let sites = self.sites.get(front)?;
@@ -151,7 +164,9 @@ impl Routes {
     /// match, the one with most plain segments, of these one with a pattern, and of these the latest;
     /// `None` exactly where no registration matches. It takes no memory.
     pub fn serve(&self, method: &Text, segments: &Words) -> Option<&Route>
-        ensures { (defs : List Def) → IsBuiltOf self.now defs → option_map (λ route. route.words) (option_copied result) ≡ route defs method.now segments.now }
+        ensures { (defs : List Def) → IsBuiltOf self.now defs
+            → option_map (λ route. route.words) (option_copied result)
+            ≡ route defs method.now segments.now }
     {
         let wanted = route_method(method.bytes());
         let path = segments.as_slice();
@@ -168,7 +183,8 @@ impl Routes {
     /// The words of the filters that a request with this method and path passes at a stage, in the order
     /// of their registration. The only error is want of memory.
     pub fn filters(&self, when: When, method: &Text, path: &Text) -> Result<WordsList, NoMemory>
-        ensures { (defs : List Def) → IsBuiltOf self.now defs → IfOk result (λ list. list ≡ Filters when method.now path.now defs) }
+        ensures { (defs : List Def) → IsBuiltOf self.now defs
+            → IfOk result (λ list. list ≡ Filters when method.now path.now defs) }
     {
         let mut list = Sequence::new(self.alloc);
         for filter in self.filters.as_slice() {

@@ -1,6 +1,7 @@
 //! Registrations by the plain segments of their URLs.
 
-ghost use Rattle.std.specs.Prelude.{◌≡◌, ◌++◌, List, ℕ, OnOk};
+ghost use Rattle.std.specs.Prelude.{◌≡◌, ◌++◌, OnOk};
+ghost use Rattle.txt_core.specs.Names.{Words};
 ghost use Rattle.url_tables.specs.Tables.{same_path, if_same, found};
 
 use crate::site::Site;
@@ -18,7 +19,10 @@ pub(crate) fn put(
     plain: Vec<Text>,
     site: Site,
 ) -> Result<(), NoMemory>
-    ensures { OnOk result ((path : List (List ℕ)) → found sites.new path ≡ found sites.old path ++ if_same (same_path path plain.items) site) }
+    ensures { OnOk result
+        ((path : Words)
+        → found sites.new path
+        ≡ found sites.old path ++ if_same (same_path path plain.items) site) }
 {
     if let Some(others) = sites.get_mut(plain.as_slice()) {
         return others.add(site);

@@ -1,5 +1,6 @@
 -- How questions are answered, one and all of a stretch of a run.
 use Rattle.std.specs.Prelude.{◌≡◌, ℕ, List, [], ◌∷◌, ◌++◌, Option, None, Some, Result, Ok, Err}
+use Rattle.txt_core.specs.Names.{Names, Moment}
 use Rattle.outside.specs.Paging.{PageMap}
 use Rattle.outside.specs.declared.question.Answer.{Answer}
 use Rattle.outside.specs.declared.question.Question.{Question}
@@ -50,7 +51,7 @@ Publishes turns (Ok answer) now = now ≡ published_after None turns
 Publishes turns (Err e) now = Unit {0}
 
 -- A question was put to what answers it.
-pub record AsksOne {E : Type 0} (moment : ℕ) (question : Question) (p : Passes) (held : Option PageMap) (before : ℕ)
+pub record AsksOne {E : Type 0} (moment : Moment) (question : Question) (p : Passes) (held : Option PageMap) (before : ℕ)
     (result : Result Answer E) (q : Passes) (after : ℕ) (now : Option ℕ) : Type 0 where
   pub turns : List Turn
   pub gains : GainsTurns p turns q
@@ -62,7 +63,7 @@ pub record AsksOne {E : Type 0} (moment : ℕ) (question : Question) (p : Passes
 -- ---- all questions of a stretch of a run
 
 -- where memory wants, one turn more may stand
-abbrev pub MayStand : ℕ → (List Answer → Progress) → List Answer → List Turn → Next → Type 0
+abbrev pub MayStand : Moment → (List Answer → Progress) → List Answer → List Turn → Next → Type 0
 MayStand moment f given more next.NoMemory = AtMostOneMore moment f given more
 MayStand moment f given more (next.Asks question) = ⊥
 MayStand moment f given more (next.Write response) = more ≡ []
@@ -70,7 +71,7 @@ MayStand moment f given more (next.Ended outcome) = more ≡ []
 
 -- From what the interpreter gives with further answers (f) its questions were answered until something else came of it; what it gives
 -- then on further answers is what it gave before on those that it was given and the further ones.
-pub record Hears (names : List (List ℕ)) (moment : ℕ) (f : List Answer → Progress) (p : Passes) (held : Option PageMap)
+pub record Hears (names : Names) (moment : Moment) (f : List Answer → Progress) (p : Passes) (held : Option PageMap)
     (before : ℕ) (known : Option ℕ) (answers : List Answer) (result : Next) (inside : ℕ) (interp : Interp)
     (q : Passes) (after : ℕ) (now : Option ℕ) (all : List Answer) : Type 0 where
   pub turns : List Turn
@@ -86,12 +87,12 @@ pub record Hears (names : List (List ℕ)) (moment : ℕ) (f : List Answer → P
   pub goes : UnlessNoMemory result ((further : List Answer) → f (given ++ further) ≡ gives names result inside interp further)
 
 -- an interpreter that answered this stands for this run, to which nothing was given yet
-pub record StandsFor (names : List (List ℕ)) (run : List Answer → Progress) (first : Next) (inside : ℕ) (interp : Interp) : Type 0 where
+pub record StandsFor (names : Names) (run : List Answer → Progress) (first : Next) (inside : ℕ) (interp : Interp) : Type 0 where
   pub stands : Stands names run first inside interp []
 
 -- What was written stays within what a run writes, also where memory wanted: the steps so far, with those that were written before, are
 -- no more than the run writes as far as its answers reach. An interpreter that answered this goes on as that run.
-pub record StaysWithin (names : List (List ℕ)) (run : List Answer → Progress) (answers : List Answer) (now : Next) (inside : ℕ) (interp : Interp)
+pub record StaysWithin (names : Names) (run : List Answer → Progress) (answers : List Answer) (now : Next) (inside : ℕ) (interp : Interp)
     (all : List Answer) (written before steps : ℕ) : Type 0 where
   pub given : List Answer
   pub all_are : all ≡ answers ++ given

@@ -1,6 +1,7 @@
 -- What is promised of a session as a whole: its bytes, the entries of its passes, its moments and its steps, all of one list of what stands
 -- behind its items.
 use Rattle.std.specs.Prelude.{◌≡◌, ◌≢◌, ◌⊎◌, ◌≤◌, ℕ, ◌+◌, List, [], ◌∷◌, ◌++◌, length, take, drop, map, Option, Some}
+use Rattle.txt_core.specs.Names.{Bytes, Names, Moment}
 use Rattle.outside.specs.Faults.{Rose}
 use Rattle.outside.specs.Paging.{PageMap}
 use Rattle.outside.specs.Writing.{Gains}
@@ -24,11 +25,11 @@ use Rattle.worker.specs.declared.served.End.TheVariants as ends
 -- ---- input and output
 
 -- the bytes of a session: of each reply what was written, and those of the end
-abbrev pub session_bytes : SessionEnd → List Served → List Item → Finish → List ℕ
+abbrev pub session_bytes : SessionEnd → List Served → List Item → Finish → Bytes
 session_bytes end (x ∷ xs) (item ∷ items) finish = take x.wrote item.reply ++ session_bytes end xs items finish
 session_bytes end _ _ finish = end_bytes end finish
 
-module _ (names : List (List ℕ)) where
+module _ (names : Names) where
   -- Each item is told of truly; the session goes on behind each but the last; and it ends with that, or behind it. So many requests were
   -- served before them, with answers of so many bytes.
   abbrev pub AreReplied : (count answered : ℕ) → SessionEnd → List Served → List Item → Finish → Type 0
@@ -39,9 +40,9 @@ module _ (names : List (List ℕ)) where
       ⊎ (EndsWith end count answered x item × (xs ≡ []) × (items ≡ []) × (finish ≡ Nothing)))
   AreReplied count answered end _ _ finish = ⊥
 
-module _ (names : List (List ℕ)) (peer : List ℕ) where
+module _ (names : Names) (peer : Bytes) where
   -- The requests stand at the front of the input, one after the other from its first byte on, and behind them is what the end says.
-  abbrev pub AreRead : SessionEnd → List Item → Finish → Option (List ℕ) → List ℕ → Type 0
+  abbrev pub AreRead : SessionEnd → List Item → Finish → Option Bytes → Bytes → Type 0
   AreRead end [] finish unread input = LeavesInput peer end finish unread input
   AreRead end (item ∷ items) finish unread input =
       (used : ℕ) × Gets input peer (Whole item.request used) × AreRead end items finish unread (drop used input)
@@ -49,9 +50,9 @@ module _ (names : List (List ℕ)) (peer : List ℕ) where
   -- Each item is told of truly. Where the source is told, the items are the requests of its input, in order; where the sink is told, what
   -- it took is their replies, in order, and the bytes of the end.
   pub record Replies (end : SessionEnd) (served : List Served) (items : List Item) (finish : Finish)
-      (input unread taken taken_after : Option (List ℕ)) : Type 0 where
+      (input unread taken taken_after : Option Bytes) : Type 0 where
     pub replied : AreReplied names 0 0 end served items finish
-    pub reads : (bytes : List ℕ) → input ≡ Some bytes → AreRead end items finish unread bytes
+    pub reads : (bytes : Bytes) → input ≡ Some bytes → AreRead end items finish unread bytes
     pub writes : Gains taken (session_bytes end served items finish) taken_after
 
 -- ---- the entries of the passes
@@ -71,7 +72,7 @@ abbrev pub IsVainLook : Finish → Type 0
 IsVainLook (Wants moment (Some look)) = IsLook look.call
 IsVainLook finish = Unit {0}
 
-module _ (names : List (List ℕ)) where
+module _ (names : Names) where
   -- Each item's look is one, and its turns are those that its replay asks for; no other turn was taken but a look behind the items.
   abbrev pub AreBacked : List Served → List Item → Finish → Type 0
   AreBacked [] [] finish = IsVainLook finish
@@ -94,7 +95,7 @@ pub record Bill : Type 0 where
   pub blueprint : blueprints.State
   pub run : Progress
 
-module _ (names : List (List ℕ)) where
+module _ (names : Names) where
   abbrev pub bill_of : Served → Item → Bill
   bill_of x item = record { blueprint = item.look.before; run = run_of names item x.moment x.answers }
 
@@ -119,7 +120,7 @@ module _ (names : List (List ℕ)) where
 -- ---- moments
 
 -- the moments of the items, and that of a reply behind them
-abbrev pub session_moments : List Served → Finish → List ℕ
+abbrev pub session_moments : List Served → Finish → List Moment
 session_moments served finish = map (λ x. x.moment) served ++ finish_moments finish
 
 -- ---- causes
@@ -164,7 +165,7 @@ IsComplete end served items f g h k =
 
 -- A session over an input, of which the source has this still to give, from where the worker stood to where it stands: there is a list of
 -- what stands behind its items, and what was done behind them, of which all of this holds.
-pub record Promised (names : List (List ℕ)) (held : Option PageMap) (peer : List ℕ) (input unread : Option (List ℕ)) (a : At)
+pub record Promised (names : Names) (held : Option PageMap) (peer : Bytes) (input unread : Option Bytes) (a : At)
     (end : SessionEnd) (served : List Served) (b : At) (f g h k : ℕ) : Type 0 where
   pub items : List Item
   pub finish : Finish

@@ -1,5 +1,6 @@
 -- Workers whose interpreter is as newly made.
-use Rattle.std.specs.Prelude.{◌≡◌, ℕ, Bool, List, Option, None, Some}
+use Rattle.std.specs.Prelude.{◌≡◌, Bool, Option, None, Some}
+use Rattle.txt_core.specs.Names.{Names}
 use Rattle.turn_cell.specs.Members.{Left}
 use Rattle.turn_cell.specs.Cells.{pass_view}
 use Rattle.blueprint.specs.States as blueprints
@@ -34,11 +35,11 @@ standing_of worker = standing_in worker.interp
 abbrev pub Saw : BlueView → Edition → Type 0
 Saw view edition = (state : blueprints.State) × Left view.own state × blueprints.Allowed state × (edition ≡ edition_of state)
 
-abbrev pub IsCleanInterp : List (List ℕ) → BlueView → Option Interp → Type 0
+abbrev pub IsCleanInterp : Names → BlueView → Option Interp → Type 0
 IsCleanInterp names view None = Unit {0}
 IsCleanInterp names view (Some interp) = IsNew names interp × Saw view (edition_in interp)
 
 -- The worker has no interpreter; or one that is as newly made from a blueprint that its pass saw. The mark of the last run stands beside
 -- that.
-abbrev pub IsClean : List (List ℕ) → Passes → Worker → Type 0
+abbrev pub IsClean : Names → Passes → Worker → Type 0
 IsClean names passes worker = IsCleanInterp names (pass_view passes.blueprint) worker.interp

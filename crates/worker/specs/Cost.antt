@@ -1,5 +1,6 @@
 -- What serving costs, in entries of command tables that are written or removed.
-use Rattle.std.specs.Prelude.{ℕ, ◌+◌, ◌*◌, Bool, true, false, List, length, Option, None, Some}
+use Rattle.std.specs.Prelude.{ℕ, ◌+◌, ◌*◌, Bool, true, false, length, Option, None, Some}
+use Rattle.txt_core.specs.Names.{Names}
 use Rattle.cmd_table.specs.Commands.{built_ins, Writes}
 use Rattle.blueprint.specs.States as blueprints
 use Rattle.blueprint.specs.States.{definitions}
@@ -15,23 +16,23 @@ use Rattle.worker.specs.Clean.{Standing}
 
 -- an interpreter that is built on a blueprint writes an entry for each built-in name, those of the natives among them, and those of the
 -- definitions
-abbrev pub Build : List (List ℕ) → blueprints.State → ℕ
+abbrev pub Build : Names → blueprints.State → ℕ
 Build names blueprint = length built_ins + length names + Writes (definitions blueprint)
 
 -- an interpreter that knows an epoch writes what was added since; nothing at the same epoch; and all where a save came between
-abbrev pub renewal_by : List (List ℕ) → blueprints.State → Look → ℕ
+abbrev pub renewal_by : Names → blueprints.State → Look → ℕ
 renewal_by names blueprint look.Same = 0
 renewal_by names blueprint (look.Since epoch defs) = Writes defs
 renewal_by names blueprint (look.Whole epoch defs) = Build names blueprint
 renewal_by names blueprint look.NoMemory = Build names blueprint
 
 -- one that is marked is built anew, whatever it knows
-abbrev pub renewal_of : List (List ℕ) → blueprints.State → Standing → Bool → ℕ
+abbrev pub renewal_of : Names → blueprints.State → Standing → Bool → ℕ
 renewal_of names blueprint standing true = Build names blueprint
 renewal_of names blueprint standing false = renewal_by names blueprint (look_answer blueprint standing.edition.epoch)
 
 -- What it costs that the interpreter of a worker is one of this blueprint: where there is none it is built.
-abbrev pub renewal : List (List ℕ) → Option Standing → blueprints.State → ℕ
+abbrev pub renewal : Names → Option Standing → blueprints.State → ℕ
 renewal names None blueprint = Build names blueprint
 renewal names (Some standing) blueprint = renewal_of names blueprint standing standing.marked
 
@@ -41,7 +42,7 @@ abbrev pub vain_cost_by : BlueReply → ℕ → ℕ
 vain_cost_by (blue_reply.Look look.NoMemory) cost = 0
 vain_cost_by reply cost = 2 * cost
 
-abbrev pub vain_cost : List (List ℕ) → Option Standing → BlueEntry → ℕ
+abbrev pub vain_cost : Names → Option Standing → BlueEntry → ℕ
 vain_cost names standing entry = vain_cost_by entry.reply (renewal names standing entry.before)
 
 -- What a run costs, as far as it came: what it made is written, and taken back by the reset; and the runs inside it wrote theirs, each

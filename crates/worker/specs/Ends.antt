@@ -1,5 +1,6 @@
 -- How a session ends: with its last item, or behind all of its items.
 use Rattle.std.specs.Prelude.{◌≡◌, ◌⊎◌, ◌<◌, ℕ, ◌+◌, true, false, List, [], ◌∷◌, ◌++◌, length, take, Option, None, Some}
+use Rattle.txt_core.specs.Names.{Bytes, Moment}
 use Rattle.http_req.specs.Outcomes.{Gets, Whole, End, Truncated, Refused, ended}
 use Rattle.http_req.specs.declared.request.Request.{Request}
 use Rattle.http_resp.specs.Replies.{no_memory_bytes}
@@ -44,16 +45,16 @@ EndsWith ends.ReadFault count answered x item = ⊥
 -- memory wanted, the named reply, at a moment, and had perhaps taken a look by which no run was begun.
 pub data Finish : Type 0 where
   Nothing : Finish
-  Refuses : (status moment : ℕ) → Finish
-  Wants : (moment : ℕ) (look : Option BlueEntry) → Finish
+  Refuses : (status : ℕ) (moment : Moment) → Finish
+  Wants : (moment : Moment) (look : Option BlueEntry) → Finish
 
-abbrev pub finish_bytes : Finish → List ℕ
+abbrev pub finish_bytes : Finish → Bytes
 finish_bytes Nothing = []
 finish_bytes (Refuses status moment) = refusal_bytes status moment
 finish_bytes (Wants moment look) = no_memory_bytes moment
 
 -- the moments of which it speaks, in the order in which they were read
-abbrev pub finish_moments : Finish → List ℕ
+abbrev pub finish_moments : Finish → List Moment
 finish_moments Nothing = []
 finish_moments (Refuses status moment) = moment ∷ []
 finish_moments (Wants moment look) = moment ∷ []
@@ -63,32 +64,32 @@ abbrev pub EndsBehind : SessionEnd → Finish → Type 0
 EndsBehind ends.Ended finish = finish ≡ Nothing
 EndsBehind (ends.Truncated have) finish = finish ≡ Nothing
 EndsBehind ends.ReadFault finish = finish ≡ Nothing
-EndsBehind (ends.Refused status) finish = (moment : ℕ) × (finish ≡ Refuses status moment)
+EndsBehind (ends.Refused status) finish = (moment : Moment) × (finish ≡ Refuses status moment)
 EndsBehind (ends.WriteFault sent) (Refuses status moment) = sent < length (refusal_bytes status moment)
 EndsBehind (ends.WriteFault sent) (Wants moment look) = sent < length (no_memory_bytes moment)
 EndsBehind (ends.WriteFault sent) Nothing = ⊥
-EndsBehind ends.NoMemory finish = (moment : ℕ) × (look : Option BlueEntry) × (finish ≡ Wants moment look)
+EndsBehind ends.NoMemory finish = (moment : Moment) × (look : Option BlueEntry) × (finish ≡ Wants moment look)
 EndsBehind ends.Closing finish = ⊥
 EndsBehind ends.Spent finish = ⊥
 
 -- the bytes that were written behind the replies of the items: those of the reply, up to a fault
-abbrev pub end_bytes : SessionEnd → Finish → List ℕ
+abbrev pub end_bytes : SessionEnd → Finish → Bytes
 end_bytes (ends.WriteFault sent) finish = take sent (finish_bytes finish)
 end_bytes end finish = finish_bytes finish
 
 -- ---- the input behind the items
 
 -- The source failed, and has this still to give: what it had given past the items is no byte, or less than a request.
-pub record FailsEarly (peer : List ℕ) (unread : Option (List ℕ)) (input : List ℕ) : Type 0 where
-  pub given : List ℕ
-  pub rest : List ℕ
+pub record FailsEarly (peer : Bytes) (unread : Option Bytes) (input : Bytes) : Type 0 where
+  pub given : Bytes
+  pub rest : Bytes
   pub tells : unread ≡ Some rest
   pub parts : input ≡ given ++ rest
   pub early : Gets given peer (ended given)
 
 -- What the input is behind the items, by the end and what was done: no byte; less than a request; what is refused, also where its reply
 -- met a fault; and a request, where a look was taken.
-abbrev pub LeavesInput : List ℕ → SessionEnd → Finish → Option (List ℕ) → List ℕ → Type 0
+abbrev pub LeavesInput : Bytes → SessionEnd → Finish → Option Bytes → Bytes → Type 0
 LeavesInput peer end (Refuses status moment) unread input = Gets input peer (Refused status)
 LeavesInput peer end (Wants moment (Some look)) unread input = (request : Request) × (used : ℕ) × Gets input peer (Whole request used)
 LeavesInput peer end (Wants moment None) unread input = Unit {0}

@@ -1,5 +1,6 @@
 -- One request that was served: what is told of it, and what stands behind that.
 use Rattle.std.specs.Prelude.{◌≡◌, ◌≤◌, ◌<◌, ℕ, ◌+◌, ◌-◌, Bool, true, List, [], ◌++◌, length, sum_by}
+use Rattle.txt_core.specs.Names.{Bytes, Names, Moment}
 use Rattle.outside.specs.declared.question.Answer.{Answer}
 use Rattle.http_req.specs.declared.request.Request.{Request}
 use Rattle.http_resp.specs.declared.response.Response.{Response}
@@ -31,14 +32,14 @@ pub record Item : Type 0 where
   pub more : List Turn
   pub course : Course
   pub close : Bool
-  pub reply : List ℕ
+  pub reply : Bytes
 
 -- the turns behind its look
 abbrev pub all_turns : Item → List Turn
 all_turns item = item.turns ++ item.more
 
 -- The run that it tells of, with the first answers: on a fresh interpreter of the blueprint that the look found.
-abbrev pub run_of : List (List ℕ) → Item → ℕ → List Answer → Progress
+abbrev pub run_of : Names → Item → Moment → List Answer → Progress
 run_of names item moment answers = run_in item.course names item.look.before item.request moment answers
 
 -- ---- answers in bytes
@@ -61,20 +62,20 @@ IsWritten WantsBefore wrote size = wrote ≤ size
 IsWritten WantsBehind wrote size = wrote ≡ size
 
 -- no turn was taken but for the answers; or, where memory wanted, one more at most, for a question whose answer was never given
-abbrev pub MayLoseOne : Course → ℕ → (List Answer → Progress) → List Answer → List Turn → Type 0
+abbrev pub MayLoseOne : Course → Moment → (List Answer → Progress) → List Answer → List Turn → Type 0
 MayLoseOne Finished moment f answers more = more ≡ []
 MayLoseOne CutShort moment f answers more = more ≡ []
 MayLoseOne WantsBefore moment f answers more = AtMostOneMore moment f answers more
 MayLoseOne WantsBehind moment f answers more = AtMostOneMore moment f answers more
 
-module _ (names : List (List ℕ)) where
+module _ (names : Names) where
   -- ---- the reply
 
   -- On a fresh interpreter of a blueprint, at a moment and with these answers, a request comes to a response, with these answers left,
   -- and behind it to its end, where none is left. Its reply is the bytes of that response, which say whether the connection closes.
   -- Nothing else goes into it.
-  pub record Gives (course : Course) (request : Request) (blueprint : blueprints.State) (moment : ℕ) (answers : List Answer) (close : Bool)
-      (reply : List ℕ) (left : List Answer) (way : ServedOutcome) : Type 0 where
+  pub record Gives (course : Course) (request : Request) (blueprint : blueprints.State) (moment : Moment) (answers : List Answer) (close : Bool)
+      (reply : Bytes) (left : List Answer) (way : ServedOutcome) : Type 0 where
     pub response : Response
     pub ending : Ending
     pub state : State HostState
@@ -89,8 +90,8 @@ module _ (names : List (List ℕ)) where
     pub way_is : way ≡ outcome_of outcome
 
   -- Memory wanted behind the response: the reply is the bytes of that response all the same.
-  pub record Responds (request : Request) (blueprint : blueprints.State) (moment : ℕ) (answers : List Answer) (close : Bool)
-      (reply : List ℕ) (left : List Answer) : Type 0 where
+  pub record Responds (request : Request) (blueprint : blueprints.State) (moment : Moment) (answers : List Answer) (close : Bool)
+      (reply : Bytes) (left : List Answer) : Type 0 where
     pub response : Response
     pub ending : Ending
     pub state : State HostState
@@ -101,7 +102,7 @@ module _ (names : List (List ℕ)) where
   -- What a request comes to, which is the one of this number on its connection, with answers of so many bytes before it: the reply of its
   -- response, which closes the connection by its number and by the answers that were had when the response came; or the named reply,
   -- which closes it, where memory wanted before.
-  abbrev pub ComesTo : Course → (number answered : ℕ) → Request → blueprints.State → ℕ → List Answer → Bool → List ℕ → ServedOutcome → Type 0
+  abbrev pub ComesTo : Course → (number answered : ℕ) → Request → blueprints.State → ℕ → List Answer → Bool → Bytes → ServedOutcome → Type 0
   ComesTo Finished number answered request blueprint moment answers close reply way =
       (left : List Answer) × (close ≡ closes (asks_close request) number (answered + bytes_had answers left))
       × Gives Finished request blueprint moment answers close reply left way

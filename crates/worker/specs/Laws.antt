@@ -1,5 +1,6 @@
 -- What holds of what is promised.
 use Rattle.std.specs.Prelude.{◌≡◌, ◌≢◌, ℕ, ◌+◌, ◌*◌, List, [], ◌∷◌, ◌++◌, length, codes, Bool, true, false, None, Some}
+use Rattle.txt_core.specs.Names.{Bytes, Names}
 use Rattle.cmd_table.specs.Commands.{built_ins}
 use Rattle.cmd_table.specs.declared.definition.Def.{Def}
 use Rattle.cmd_table.specs.declared.definition.Def.TheVariants.{Proc, Rename, Route}
@@ -22,7 +23,7 @@ MetNothing x item = (x.outcome ≢ NoMemory) × (x.wrote ≡ length item.reply)
 -- connection, and neither met a fault of its sink or want of memory, they have the same bytes, and ended alike.
 abbrev pub ItemsAreIsolated : Type 0
 ItemsAreIsolated =
-    (names : List (List ℕ)) (count answered other_count other_answered : ℕ) (x y : Served) (item other : Item)
+    (names : Names) (count answered other_count other_answered : ℕ) (x y : Served) (item other : Item)
     → Replied names count answered x item → Replied names other_count other_answered y other
     → MetNothing x item → MetNothing y other
     → item.request ≡ other.request → edition_of item.look.before ≡ edition_of other.look.before
@@ -31,22 +32,22 @@ ItemsAreIsolated =
 
 -- ---- rows of costs
 
-abbrev pub procedure : List ℕ → Def
+abbrev pub procedure : Bytes → Def
 procedure name = Proc name [] []
 
-abbrev pub route_to : List ℕ → Def
+abbrev pub route_to : Bytes → Def
 route_to name = Route (codes "GET") (codes "/" ++ name) true (name ∷ [])
 
 -- a blueprint of one epoch, of these definitions, and one more whose definitions were added
-abbrev pub first_edition : List (List ℕ) → List Def → blueprints.State
+abbrev pub first_edition : Names → List Def → blueprints.State
 first_edition names defs = record { natives = names; base = 0; epoch = 1; rows = blueprints.rows_of 1 defs }
 
-abbrev pub second_edition : List (List ℕ) → List Def → List Def → blueprints.State
+abbrev pub second_edition : Names → List Def → List Def → blueprints.State
 second_edition names defs more =
     record { natives = names; base = 0; epoch = 2; rows = blueprints.rows_of 1 defs ++ blueprints.rows_of 2 more }
 
 -- one that was saved in the second epoch
-abbrev pub saved_edition : List (List ℕ) → List Def → blueprints.State
+abbrev pub saved_edition : Names → List Def → blueprints.State
 saved_edition names defs = record { natives = names; base = 2; epoch = 2; rows = blueprints.rows_of 2 defs }
 
 abbrev pub bill_for : blueprints.State → Progress → Bill
@@ -59,14 +60,14 @@ pub record Made (defs : List Def) (marked : Bool) (run : Progress) : Type 0 wher
   pub mark : is_marked run ≡ marked
 
 -- how many names of built-ins there are, those of the natives among them
-abbrev pub names_count : List (List ℕ) → ℕ
+abbrev pub names_count : Names → ℕ
 names_count names = length built_ins + length names
 
 -- the definitions of a request that renames two commands and makes a procedure: five entries
 abbrev pub changes : List Def
 changes = Rename (codes "set") (codes "gone") ∷ Rename (codes "ns_return") (codes "nr") ∷ procedure (codes "ns_return") ∷ []
 
-pub record CostRows (names : List (List ℕ)) : Type 0 where
+pub record CostRows (names : Names) : Type 0 where
   -- three requests to one procedure, on a new worker
   pub three : (run : Progress) → Made [] false run →
       (let b = bill_for (first_edition names (procedure (codes "hi") ∷ route_to (codes "hi") ∷ [])) run in

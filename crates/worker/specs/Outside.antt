@@ -1,6 +1,7 @@
 -- What a call of a worker does with the clock, the pages, the source and the sink.
 use Rattle.std.specs.Prelude.{◌≡◌, ◌⊎◌, ◌≤◌, ℕ, ◌+◌, drop, List, [], ◌∷◌, Option, None, Some}
 use Rattle.std.specs.FinMap as map
+use Rattle.txt_core.specs.Names.{Bytes, Moment}
 use Rattle.txt_core.specs.Limits.{moment_of}
 use Rattle.outside.specs.Clocks.{Dial, Shows, read_dial}
 use Rattle.outside.specs.Faults.{last_count}
@@ -14,11 +15,11 @@ use Rattle.worker.specs.Turns.{Turn, OnBlueprint, OnArrays, OnSchedule, OnPages,
 -- ---- the clock
 
 -- One reading; one past the last moment counts as that.
-abbrev pub Ticks : Option Dial → ℕ → Option Dial → Type 0
+abbrev pub Ticks : Option Dial → Moment → Option Dial → Type 0
 Ticks before moment after = (reading : ℕ) × Shows before reading after × (moment ≡ moment_of reading)
 
 -- where the clock is told, these are its readings, one after the other from the first on
-abbrev pub AreReadings : Option Dial → List ℕ → Type 0
+abbrev pub AreReadings : Option Dial → List Moment → Type 0
 AreReadings None moments = Unit {0}
 AreReadings (Some dial) [] = Unit {0}
 AreReadings (Some dial) (moment ∷ moments) = (moment ≡ dial.moment) × AreReadings (Some (read_dial dial)) moments
@@ -26,7 +27,7 @@ AreReadings (Some dial) (moment ∷ moments) = (moment ≡ dial.moment) × AreRe
 -- ---- the pages
 
 -- where the pages are told, what they replied is theirs: the page of the path, or that there is none
-abbrev pub IsHeld : PageMap → List ℕ → PageAnswer → Type 0
+abbrev pub IsHeld : PageMap → Bytes → PageAnswer → Type 0
 IsHeld held path (Page text) = map.get held path ≡ Some text
 IsHeld held path NoPage = map.get held path ≡ None
 IsHeld held path Failed = Unit {0}
@@ -72,7 +73,7 @@ RoseBy count before after = (before + count ≤ after) ⊎ (last_count ≤ after
 -- ---- the source
 
 -- where it is told what there is to read, it begins with this request, and this is left
-abbrev pub Reads : List ℕ → Option (List ℕ) → Request → Option (List ℕ) → Type 0
+abbrev pub Reads : Bytes → Option Bytes → Request → Option Bytes → Type 0
 Reads peer before request after =
-    (input : List ℕ) → before ≡ Some input
-    → (used : ℕ) × (left : List ℕ) × Gets input peer (Whole request used) × (left ≡ drop used input) × (after ≡ Some left)
+    (input : Bytes) → before ≡ Some input
+    → (used : ℕ) × (left : Bytes) × Gets input peer (Whole request used) × (left ≡ drop used input) × (after ≡ Some left)

@@ -1,5 +1,6 @@
 -- Looks at the blueprint, and interpreters that are made to be of it.
 use Rattle.std.specs.Prelude.{◌≡◌, ◌⊎◌, ℕ, Bool, true, false, List, Option, None, Some}
+use Rattle.txt_core.specs.Names.{Names}
 use Rattle.cmd_table.specs.declared.definition.Def.{Def}
 use Rattle.server_host.specs.Hosts.{added}
 use Rattle.blueprint.specs.States as blueprints
@@ -69,12 +70,12 @@ abbrev pub Follows : Option Interp → blueprints.State → Type 0
 Follows None state = Unit {0}
 Follows (Some interp) state = (old : blueprints.State) × blueprints.Allowed old × Reaches old state × (edition_in interp ≡ edition_of old)
 
-abbrev pub AreNew : List (List ℕ) → Option Interp → Type 0
+abbrev pub AreNew : Names → Option Interp → Type 0
 AreNew names None = Unit {0}
 AreNew names (Some interp) = IsNew names interp
 
 -- A look on a blueprint of these names found this state, and told what is new to this interpreter, which is of an earlier one.
-pub record IsRenewedBy (names : List (List ℕ)) (interp : Option Interp) (state : blueprints.State) (look : Look) : Type 0 where
+pub record IsRenewedBy (names : Names) (interp : Option Interp) (state : blueprints.State) (look : Look) : Type 0 where
   pub tells : Answers state (known_epoch (standing_in interp)) look
   pub allows : blueprints.Allowed state
   pub natives : HaveSameNames names state.natives
@@ -82,20 +83,20 @@ pub record IsRenewedBy (names : List (List ℕ)) (interp : Option Interp) (state
   pub follows : Follows interp state
 
 -- an interpreter as newly made from a state of the blueprint, with no mark
-abbrev pub IsOf : List (List ℕ) → blueprints.State → Interp → Type 0
+abbrev pub IsOf : Names → blueprints.State → Interp → Type 0
 IsOf names state interp =
     IsNew names interp × (edition_in interp ≡ edition_of state) × (interp.settling.run.engine.host.marked ≡ false)
 
 -- an interpreter, where there is one, may take these definitions: it is as newly made, and they apply in order behind its own
 abbrev pub MayAdd : Option Interp → List Def → Type 0
 MayAdd None defs = Unit {0}
-MayAdd (Some interp) defs = ((names : List (List ℕ)) × IsNew names interp) × (first_misfit interp.settling.run.engine.table.table defs ≡ None)
+MayAdd (Some interp) defs = ((names : Names) × IsNew names interp) × (first_misfit interp.settling.run.engine.table.table defs ≡ None)
 
 -- it is the old one with these definitions behind its own, at this epoch, with the mark that it had
 abbrev pub Adds : Option Interp → ℕ → List Def → Interp → Type 0
 Adds None epoch defs new = ⊥
 Adds (Some interp) epoch defs new =
-    ((names : List (List ℕ)) → IsNew names interp → IsNew names new)
+    ((names : Names) → IsNew names interp → IsNew names new)
     × (edition_in new ≡ added (edition_in interp) epoch defs)
     × (new.settling.run.engine.host.marked ≡ interp.settling.run.engine.host.marked)
 

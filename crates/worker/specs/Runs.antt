@@ -1,5 +1,6 @@
 -- Runs on a blueprint as it was found, each with one list of answers, and what is read off them.
 use Rattle.std.specs.Prelude.{ℕ, Bool, true, false, List}
+use Rattle.txt_core.specs.Names.{Bytes, Names, Moment}
 use Rattle.outside.specs.declared.question.Answer.{Answer}
 use Rattle.http_req.specs.declared.request.Request.{Request}
 use Rattle.http_resp.specs.declared.response.Response.{Response}
@@ -19,14 +20,14 @@ use Rattle.worker.specs.declared.served.ServedOutcome.TheVariants.{Answered, Spe
 -- ---- requests
 
 -- where the response stands ready, the run goes on as behind one that was written, whole or not
-abbrev pub behind_response : List (List ℕ) → Edition → Request → ℕ → Bool → Progress → Progress
+abbrev pub behind_response : Names → Edition → Request → Moment → Bool → Progress → Progress
 behind_response names edition request moment whole (asks question state inside) = asks question state inside
 behind_response names edition request moment whole (writes response ending state inside left) =
     behind names edition moment whole request ending state inside left
 behind_response names edition request moment whole (ends outcome state inside left) = ends outcome state inside left
 
 -- The run of a request to its end: up to its response on a fresh interpreter of the blueprint, and then behind it.
-abbrev pub whole_run : List (List ℕ) → blueprints.State → Request → ℕ → Bool → List Answer → Progress
+abbrev pub whole_run : Names → blueprints.State → Request → Moment → Bool → List Answer → Progress
 whole_run names blueprint request moment whole answers =
     behind_response names (edition_of blueprint) request moment whole (Main names (edition_of blueprint) request moment answers)
 
@@ -40,23 +41,23 @@ pub data Course : Type 0 where
   WantsBehind : Course
 
 -- The run that is told of, by how it went: where memory wanted it goes with the answers as far as they reach.
-abbrev pub run_in : Course → List (List ℕ) → blueprints.State → Request → ℕ → List Answer → Progress
+abbrev pub run_in : Course → Names → blueprints.State → Request → Moment → List Answer → Progress
 run_in Finished names blueprint request moment answers = whole_run names blueprint request moment true answers
 run_in CutShort names blueprint request moment answers = whole_run names blueprint request moment false answers
 run_in WantsBefore names blueprint request moment answers = Main names (edition_of blueprint) request moment answers
 run_in WantsBehind names blueprint request moment answers = whole_run names blueprint request moment true answers
 
 -- the bytes of a response to a request
-abbrev pub bytes_for : Request → Response → ℕ → Bool → List ℕ
+abbrev pub bytes_for : Request → Response → Moment → Bool → Bytes
 bytes_for request response moment close = response_bytes response moment (is_head_only request) close
 
 -- ---- scripts
 
 -- a scheduled script, and a script that makes definitions
-abbrev pub script_run : List (List ℕ) → blueprints.State → List ℕ → ℕ → List Answer → Progress
+abbrev pub script_run : Names → blueprints.State → Bytes → Moment → List Answer → Progress
 script_run names blueprint script moment answers = Script names (edition_of blueprint) script moment answers
 
-abbrev pub define_run : List (List ℕ) → blueprints.State → List ℕ → ℕ → List Answer → Progress
+abbrev pub define_run : Names → blueprints.State → Bytes → Moment → List Answer → Progress
 define_run names blueprint script moment answers = Define names (edition_of blueprint) script moment answers
 
 -- ---- what is read off a run

@@ -1,5 +1,6 @@
 -- Scripts that a worker runs without a connection: those that are due, and those that make definitions.
 use Rattle.std.specs.Prelude.{◌≡◌, ◌⊎◌, ◌≤◌, ℕ, zero, suc, ◌+◌, ◌*◌, List, [], ◌∷◌, ◌++◌, Option, None, Some}
+use Rattle.txt_core.specs.Names.{Bytes, Names, Moment}
 use Rattle.outside.specs.Clocks.{Dial}
 use Rattle.outside.specs.Paging.{PageMap}
 use Rattle.turn_cell.specs.Cells.{pass_view}
@@ -67,12 +68,12 @@ evaluated outcomes.TooDeep epoch = evals.TooDeep
 evaluated (outcomes.Asks question) epoch = evals.NoMemory
 evaluated outcomes.NoMemory epoch = evals.NoMemory
 
-module _ (names : List (List ℕ)) (held : Option PageMap) where
+module _ (names : Names) (held : Option PageMap) where
   -- ---- one script
 
   -- A run of a script from its look to its end, at this moment and with these answers: it is that on a fresh interpreter of the
   -- blueprint that its look found.
-  pub record RunsWhole (run : BlueEntry → List Answer → Progress) (moment : ℕ) (turn at_epoch : ℕ) (answers : List Answer)
+  pub record RunsWhole (run : BlueEntry → List Answer → Progress) (moment : Moment) (turn at_epoch : ℕ) (answers : List Answer)
       (outcome : Outcome) (turns : List Turn) (a b : At) : Type 0 where
     pub look : BlueEntry
     pub mid : Passes
@@ -93,7 +94,7 @@ module _ (names : List (List ℕ)) (held : Option PageMap) where
 
   -- A run for which memory didn't suffice, behind its look: it has the answers that were had, and the replay goes with them as far as
   -- they reach. One turn more may stand than there are answers.
-  pub record RunsLost (run : BlueEntry → List Answer → Progress) (moment : ℕ) (turn at_epoch : ℕ) (answers : List Answer) (a b : At)
+  pub record RunsLost (run : BlueEntry → List Answer → Progress) (moment : Moment) (turn at_epoch : ℕ) (answers : List Answer) (a b : At)
       : Type 0 where
     pub look : BlueEntry
     pub mid : Passes
@@ -120,7 +121,7 @@ module _ (names : List (List ℕ)) (held : Option PageMap) where
   -- ---- definition runs
 
   -- A definition run of a script at a moment, whole or not.
-  pub data Evaluates (script : List ℕ) (moment : ℕ) (a : At) (e : Evaled) (b : At) : Type 0 where
+  pub data Evaluates (script : Bytes) (moment : Moment) (a : At) (e : Evaled) (b : At) : Type 0 where
     whole : (outcome : Outcome) (turns : List Turn)
         → RunsWhole (λ look. define_run names look.before script moment) moment e.turn e.epoch e.answers outcome turns a b
         → e.outcome ≡ evaluated outcome (epoch_behind e.epoch turns) → Evaluates script moment a e b
@@ -149,7 +150,7 @@ module _ (names : List (List ℕ)) (held : Option PageMap) where
 
   -- what the schedule was asked, and what it replied
   pub record AsksDue (a : At) (reply : SchedReply) (b : At) : Type 0 where
-    pub moment : ℕ
+    pub moment : Moment
     pub entry : ScheduleEntry
     pub ticks : Ticks a.clock moment b.clock
     pub call : entry.call ≡ schedule.Due moment

@@ -1,5 +1,6 @@
 -- A session, step by step: requests that are served one after the other, and how it ends.
 use Rattle.std.specs.Prelude.{◌≡◌, ◌⊎◌, ◌≤◌, ℕ, ◌+◌, Bool, List, [], ◌∷◌, ◌++◌, length, take, sum_by, Option, None, Some}
+use Rattle.txt_core.specs.Names.{Bytes, Names}
 use Rattle.outside.specs.Clocks.{Dial}
 use Rattle.outside.specs.Paging.{PageMap}
 use Rattle.outside.specs.Writing.{Gains}
@@ -26,11 +27,11 @@ pub record At : Type 0 where
   pub passes : Passes
   pub standing : Option Standing
   pub clock : Option Dial
-  pub output : Option (List ℕ)
+  pub output : Option Bytes
   pub faults : ℕ
   pub steps : ℕ
 
-abbrev pub at : Passes → Worker → Option Dial → Option (List ℕ) → ℕ → ℕ → At
+abbrev pub at : Passes → Worker → Option Dial → Option Bytes → ℕ → ℕ → At
 at passes worker clock output faults steps =
     record { passes = passes; standing = standing_of worker; clock = clock; output = output; faults = faults; steps = steps }
 
@@ -42,7 +43,7 @@ answered_by served = sum_by (λ x. bytes_of x.answers) served
 abbrev pub StaysInside : At → At → Type 0
 StaysInside a b = (b.passes ≡ a.passes) × (b.standing ≡ a.standing) × (b.faults ≡ a.faults) × (b.steps ≡ a.steps)
 
-module _ (names : List (List ℕ)) where
+module _ (names : Names) where
   -- ---- the interpreter behind an item
 
   -- it is of the blueprint that the look found, and marked or not
@@ -72,7 +73,7 @@ module _ (names : List (List ℕ)) where
       GainsLook a.passes look b.passes × MayBeLetGo look.reply a.standing b.standing × (b.faults ≡ a.faults)
       × (b.steps ≤ a.steps + vain_cost names a.standing look) × Ticks a.clock moment b.clock
 
-module _ (names : List (List ℕ)) (held : Option PageMap) where
+module _ (names : Names) (held : Option PageMap) where
   -- ---- one item
 
   -- One request was served on a connection that had so many before it, with answers of so many bytes: one turn, a look at the blueprint;
@@ -91,34 +92,34 @@ module _ (names : List (List ℕ)) (held : Option PageMap) where
     pub stands : StandsBehind names item.course x item b.standing
     pub steps : b.steps ≤ a.steps + renewal names a.standing item.look.before + run_cost (run_of names item x.moment x.answers)
 
-module _ (names : List (List ℕ)) (held : Option PageMap) (peer : List ℕ) where
+module _ (names : Names) (held : Option PageMap) (peer : Bytes) where
   -- ---- all items
 
   -- Requests were read from the front of the input and served, one after the other, and the session went on behind each. So many were
   -- served before them, with answers of so many bytes.
-  abbrev pub ServesAll : Option (List ℕ) → (count answered : ℕ) → At → List Served → Option (List ℕ) → At → Type 0
+  abbrev pub ServesAll : Option Bytes → (count answered : ℕ) → At → List Served → Option Bytes → At → Type 0
   ServesAll i count answered a [] j b = (i ≡ j) × (a ≡ b)
   ServesAll i count answered a (x ∷ xs) j b =
-      (item : Item) × (k : Option (List ℕ)) × (m : At)
+      (item : Item) × (k : Option Bytes) × (m : At)
       × Reads peer i item.request k × Serves names held count answered item a x m × GoesOnBehind count answered x item
       × ServesAll k (count + 1) (answered + bytes_of x.answers) m xs j b
 
   -- The end of a session that has served so many requests, with answers of so many bytes: with a last item, or behind them. The source
   -- has this still to give.
-  pub data Last (i unread : Option (List ℕ)) (count answered : ℕ) (a : At) (end : SessionEnd) (tail : List Served) (b : At) : Type 0 where
-    with_item : (x : Served) (item : Item) (j : Option (List ℕ)) → tail ≡ x ∷ [] → Reads peer i item.request j
+  pub data Last (i unread : Option Bytes) (count answered : ℕ) (a : At) (end : SessionEnd) (tail : List Served) (b : At) : Type 0 where
+    with_item : (x : Served) (item : Item) (j : Option Bytes) → tail ≡ x ∷ [] → Reads peer i item.request j
         → Serves names held count answered item a x b → EndsWith end count answered x item
         → Last i unread count answered a end tail b
     behind_all : (finish : Finish) → tail ≡ [] → EndsBehind end finish
-        → ((input : List ℕ) → i ≡ Some input → LeavesInput peer end finish unread input)
+        → ((input : Bytes) → i ≡ Some input → LeavesInput peer end finish unread input)
         → Finishes names finish a b → Gains a.output (end_bytes end finish) b.output
         → Last i unread count answered a end tail b
 
   -- A session over an input, from its first request to its end.
-  pub record IsSession (i unread : Option (List ℕ)) (a : At) (end : SessionEnd) (served : List Served) (b : At) : Type 0 where
+  pub record IsSession (i unread : Option Bytes) (a : At) (end : SessionEnd) (served : List Served) (b : At) : Type 0 where
     pub front : List Served
     pub tail : List Served
-    pub left : Option (List ℕ)
+    pub left : Option Bytes
     pub mid : At
     pub parts : served ≡ front ++ tail
     pub serves : ServesAll i 0 0 a front left mid

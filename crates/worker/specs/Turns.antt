@@ -1,5 +1,6 @@
 -- Questions, and the turns on the cells and the looks at pages that answer them.
 use Rattle.std.specs.Prelude.{◌≡◌, ◌≢◌, ℕ, ◌==◌, List, [], ◌∷◌, ◌++◌, if◌then◌else◌, Option, None, Some}
+use Rattle.txt_core.specs.Names.{Bytes, Words, Moment}
 use Rattle.outside.specs.declared.question.Answer.{Answer}
 use Rattle.outside.specs.declared.question.Answer.TheVariants as answers
 use Rattle.outside.specs.declared.question.Question.{Question}
@@ -45,7 +46,7 @@ pub data Turn : Type 0 where
   OnBlueprint : (e : BlueEntry) → Turn
   OnArrays : (bucket : ℕ) (e : BucketEntry) → Turn
   OnSchedule : (e : ScheduleEntry) → Turn
-  OnPages : (path : List ℕ) (reply : PageAnswer) → Turn
+  OnPages : (path : Bytes) (reply : PageAnswer) → Turn
   AtOnce : Turn
 
 -- ---- which turn is a question's
@@ -59,7 +60,7 @@ PublishedBy _ _ = ⊥
 -- The turn is that of the question, in a run at this moment: words on shared arrays go to their bucket as they are; those on the
 -- schedule are its call; the definitions of a script are published, and a script is saved; and a path is looked up among the pages.
 -- A question for a run inside never goes out.
-abbrev pub IsTurnOf : ℕ → Service → List (List ℕ) → Turn → Type 0
+abbrev pub IsTurnOf : Moment → Service → Words → Turn → Type 0
 IsTurnOf moment service.Page words (OnPages path reply) = path ≡ path_asked words
 IsTurnOf moment service.Nsv words (OnArrays bucket e) = (bucket ≡ bucket_asked words) × (e.call ≡ words)
 IsTurnOf moment service.Schedule words (OnSchedule e) = e.call ≡ sched_call moment words
@@ -80,7 +81,7 @@ abbrev pub array_answer : NsvReply → Option Answer
 array_answer arrays.NoMemory = None
 array_answer reply = Some (nsv_answer reply)
 
-abbrev pub schedule_answer : List (List ℕ) → SchedReply → Option Answer
+abbrev pub schedule_answer : Words → SchedReply → Option Answer
 schedule_answer words schedule.NoMemory = None
 schedule_answer words reply = Some (sched_answer words reply)
 
@@ -93,7 +94,7 @@ abbrev pub refusal_of : Asked → Option Answer
 refusal_of (Refused answer) = Some answer
 refusal_of (Puts call) = None
 
-abbrev pub at_once : Service → List (List ℕ) → Option Answer
+abbrev pub at_once : Service → Words → Option Answer
 at_once service.Publish words = refusal_of (publish_call words)
 at_once service.Page words = Some (answers.Failed [])
 at_once service.Nsv words = Some (answers.Failed [])
@@ -117,7 +118,7 @@ StandsAt progress question = (state : State HostState) × (inside : ℕ) × (pro
 
 -- The turns are, in order, those of the questions that a run asks, in a run at this moment, and the answers are theirs: f is what comes
 -- of the run with a list of answers.
-abbrev pub AreAsked : ℕ → (List Answer → Progress) → List Turn → List Answer → Type 0
+abbrev pub AreAsked : Moment → (List Answer → Progress) → List Turn → List Answer → Type 0
 AreAsked moment f [] [] = Unit {0}
 AreAsked moment f (turn ∷ turns) (answer ∷ answers) =
     (question : Question) × StandsAt (f []) question × IsTurnOf moment question.service question.words turn
@@ -126,7 +127,7 @@ AreAsked moment f (turn ∷ turns) (answer ∷ answers) =
 AreAsked moment f _ _ = ⊥
 
 -- One turn more, behind these answers, may stand for a question whose answer was never given; what it replied is free.
-abbrev pub AtMostOneMore : ℕ → (List Answer → Progress) → List Answer → List Turn → Type 0
+abbrev pub AtMostOneMore : Moment → (List Answer → Progress) → List Answer → List Turn → Type 0
 AtMostOneMore moment f answers [] = Unit {0}
 AtMostOneMore moment f answers (turn ∷ []) =
     (question : Question) × StandsAt (f answers) question × IsTurnOf moment question.service question.words turn

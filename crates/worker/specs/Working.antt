@@ -1,5 +1,6 @@
 -- What the parts of a session do, and those of runs of scripts.
 use Rattle.std.specs.Prelude.{◌≡◌, ◌⊎◌, ◌≤◌, ◌<◌, ℕ, ◌+◌, Bool, List, [], ◌∷◌, ◌++◌, length, take, Option, None, Some}
+use Rattle.txt_core.specs.Names.{Bytes, Names, Moment}
 use Rattle.outside.specs.Faults.{Rose}
 use Rattle.outside.specs.Paging.{PageMap}
 use Rattle.outside.specs.Writing.{Gains}
@@ -69,14 +70,14 @@ IsMarkedBy WantsBehind run marked = Unit {0}
 
 -- A request was run on an interpreter as newly made from this state, and its reply written; before the reset. It is the request of this
 -- number on its connection, with answers of so many bytes before it.
-pub record RunsRequest (names : List (List ℕ)) (held : Option PageMap) (state : blueprints.State) (request : Request)
-    (moment number answered : ℕ) (sent : Sent) (p q : Passes) (output output_after : Option (List ℕ))
+pub record RunsRequest (names : Names) (held : Option PageMap) (state : blueprints.State) (request : Request)
+    (moment : Moment) (number answered : ℕ) (sent : Sent) (p q : Passes) (output output_after : Option Bytes)
     (faults faults_after steps steps_after : ℕ) (answers : List Answer) (way : ServedOutcome) (interp : Interp) : Type 0 where
   pub course : Course
   pub turns : List Turn
   pub more : List Turn
   pub close : Bool
-  pub reply : List ℕ
+  pub reply : Bytes
   pub gains : GainsTurns p (turns ++ more) q
   pub asked : AreAsked moment (run_in course names state request moment) turns answers
   pub one_more : MayLoseOne course moment (run_in course names state request moment) answers more
@@ -90,7 +91,7 @@ pub record RunsRequest (names : List (List ℕ)) (held : Option PageMap) (state 
   pub paid : steps_after + Writes (interp_state interp).made ≤ steps + run_cost (run_in course names state request moment answers)
 
 -- one item, and how its reply was sent
-pub record RunsItem (names : List (List ℕ)) (held : Option PageMap) (count answered : ℕ) (request : Request) (sent : Sent) (a : At) (x : Served)
+pub record RunsItem (names : Names) (held : Option PageMap) (count answered : ℕ) (request : Request) (sent : Sent) (a : At) (x : Served)
     (b : At) : Type 0 where
   pub item : Item
   pub asks : item.request ≡ request
@@ -99,23 +100,23 @@ pub record RunsItem (names : List (List ℕ)) (held : Option PageMap) (count ans
   pub told : x.wrote ≡ bytes_sent sent
 
 -- memory wanted before a run was begun, at this moment, and nothing was written yet
-abbrev pub BeginsNone : List (List ℕ) → ℕ → At → At → Type 0
+abbrev pub BeginsNone : Names → Moment → At → At → Type 0
 BeginsNone names moment a b = (look : Option BlueEntry) × Finishes names (Wants moment look) a b × (b.output ≡ a.output)
 
 -- what comes of a request that was read, for the session: one item more and it goes on, or the session ends
-abbrev pub RequestSteps : List (List ℕ) → Option PageMap → Request → At → List Served → Option SessionEnd → List Served → At → Type 0
+abbrev pub RequestSteps : Names → Option PageMap → Request → At → List Served → Option SessionEnd → List Served → At → Type 0
 RequestSteps names held request a served None now b =
     (x : Served) × (item : Item) × (now ≡ served ++ x ∷ []) × (item.request ≡ request)
     × Serves names held (length served) (answered_by served) item a x b
     × GoesOnBehind (length served) (answered_by served) x item
 RequestSteps names held request a served (Some end) now b =
     (tail : List Served) × (now ≡ served ++ tail)
-    × ((peer : List ℕ) (i j unread : Option (List ℕ)) → Reads peer i request j
+    × ((peer : Bytes) (i j unread : Option Bytes) → Reads peer i request j
     → Last names held peer i unread (length served) (answered_by served) a end tail b)
 
 -- What one step of a session does: one item more and it goes on, or it ends. This is left to read where it goes on, and this has the source
 -- still to give.
-abbrev pub SessionSteps : List (List ℕ) → Option PageMap → List ℕ → Option (List ℕ) → Option (List ℕ) → Option (List ℕ) → At → List Served
+abbrev pub SessionSteps : Names → Option PageMap → Bytes → Option Bytes → Option Bytes → Option Bytes → At → List Served
     → Option SessionEnd → List Served → At → Type 0
 SessionSteps names held peer i j unread a served None now b =
     (x : Served) × (item : Item) × (now ≡ served ++ x ∷ []) × Reads peer i item.request j
@@ -151,18 +152,18 @@ way_of (next.Write response) = ways.NoMemory
 way_of next.NoMemory = ways.NoMemory
 
 -- all bytes of a reply were written, or fewer, up to a fault
-abbrev pub SendsReply : Sent → List ℕ → Option (List ℕ) → Option (List ℕ) → Type 0
+abbrev pub SendsReply : Sent → Bytes → Option Bytes → Option Bytes → Type 0
 SendsReply (sending.Whole bytes) reply before after = (bytes ≡ length reply) × Gains before reply after
 SendsReply (sending.WriteFault bytes) reply before after = (bytes < length reply) × Gains before (take bytes reply) after
 
 -- the named reply was written, whole or up to a fault, and the session ends so
-abbrev pub EndsInWant : SessionEnd → ℕ → Option (List ℕ) → Option (List ℕ) → Type 0
+abbrev pub EndsInWant : SessionEnd → Moment → Option Bytes → Option Bytes → Type 0
 EndsInWant ends.NoMemory moment before after = Gains before (no_memory_bytes moment) after
 EndsInWant (ends.WriteFault bytes) moment before after = SendsReply (sending.WriteFault bytes) (no_memory_bytes moment) before after
 EndsInWant end moment before after = ⊥
 
 -- the reply of a refusal was written, or up to a fault, or the named reply in its place
-abbrev pub EndsInRefusal : ℕ → ℕ → SessionEnd → Option (List ℕ) → Option (List ℕ) → Type 0
+abbrev pub EndsInRefusal : ℕ → Moment → SessionEnd → Option Bytes → Option Bytes → Type 0
 EndsInRefusal status moment (ends.Refused told) before after = (told ≡ status) × Gains before (refusal_bytes status moment) after
 EndsInRefusal status moment ends.NoMemory before after = Gains before (no_memory_bytes moment) after
 EndsInRefusal status moment (ends.WriteFault bytes) before after =
@@ -200,7 +201,7 @@ abbrev pub eval_end : Next → ℕ → EvalEnd
 eval_end came epoch = evaluated (run_outcome came) epoch
 
 -- what comes of scripts that were listed: each runs; or memory wants before the first, where there is one
-abbrev pub RunsList : List (List ℕ) → Option PageMap → List DueScript → At → DueRun → At → Type 0
+abbrev pub RunsList : Names → Option PageMap → List DueScript → At → DueRun → At → Type 0
 RunsList names held list a (runs.Ran ran) b = RunsAll names held list a (listed ran) b
 RunsList names held list a runs.Stopped b = ⊥
 RunsList names held [] a runs.NoMemory b = ⊥

@@ -1,6 +1,7 @@
 //! Questions, and who answers them.
 
 ghost use Rattle.std.specs.Prelude.{◌≡◌, ◌++◌, ◌∷◌, [], ℕ, Option, None, Some, IfOk, OnErr};
+ghost use Rattle.txt_core.specs.Names.{Moment};
 ghost use Rattle.shared_state.specs.Cells.{AreOf};
 ghost use Rattle.outside.specs.Paging.{PageMap};
 ghost use Rattle.shared_state.specs.declared.shared.Passes.{Passes as SeenPasses};
@@ -50,7 +51,9 @@ fn publish<R: Wait>(
 ) -> Result<Answer, NoMemory>
     requires { AreOf shared.now passes.old }
     ensures cells { AreOf shared.now passes.new }
-    ensures asks { (moment : ℕ) (held : Option PageMap) (faults : ℕ) → AsksOne moment (record { service = Service.Publish; words = words.now }) passes.old held faults result passes.new faults published.new }
+    ensures asks { (moment : Moment) (held : Option PageMap) (faults : ℕ)
+        → AsksOne moment (record { service = Service.Publish; words = words.now }) passes.old held
+        faults result passes.new faults published.new }
 {
     match publish_call(alloc, words)? {
         Asked::Refused(answer) => {
@@ -75,7 +78,9 @@ fn save<R: Wait>(
 ) -> Result<Answer, NoMemory>
     requires { AreOf shared.now passes.old }
     ensures cells { AreOf shared.now passes.new }
-    ensures asks { (moment : ℕ) (held : Option PageMap) (faults : ℕ) → AsksOne moment (record { service = Service.Save; words = words.now }) passes.old held faults result passes.new faults None }
+    ensures asks { (moment : Moment) (held : Option PageMap) (faults : ℕ)
+        → AsksOne moment (record { service = Service.Save; words = words.now }) passes.old held
+        faults result passes.new faults None }
 {
     let call: BlueCall = save_call(alloc, words)?;
     let turned = shared.blueprint.turn(rt, &mut passes.blueprint, call);
@@ -93,7 +98,9 @@ fn schedule<R: Wait>(
 ) -> Result<Answer, NoMemory>
     requires { AreOf shared.now passes.old }
     ensures cells { AreOf shared.now passes.new }
-    ensures asks { (held : Option PageMap) (faults : ℕ) → AsksOne moment (record { service = Service.Schedule; words = words.now }) passes.old held faults result passes.new faults None }
+    ensures asks { (held : Option PageMap) (faults : ℕ)
+        → AsksOne moment (record { service = Service.Schedule; words = words.now }) passes.old held
+        faults result passes.new faults None }
 {
     let call = sched_call(alloc, words, moment)?;
     let turned = shared.schedule.turn(rt, &mut passes.schedule, call);
@@ -102,7 +109,9 @@ fn schedule<R: Wait>(
 
 /// Asks the pages for that of the question's word.
 fn page<P: Pages>(alloc: Global, pages: &mut P, words: &Words) -> Result<Answer, NoMemory>
-    ensures asks { (moment : ℕ) (passes : SeenPasses) → AsksOne moment (record { service = Service.Page; words = words.now }) passes (P.held pages.old) (P.faults pages.old) result passes (P.faults pages.new) None }
+    ensures asks { (moment : Moment) (passes : SeenPasses)
+        → AsksOne moment (record { service = Service.Page; words = words.now }) passes
+        (P.held pages.old) (P.faults pages.old) result passes (P.faults pages.new) None }
     ensures held { P.held pages.new ≡ P.held pages.old }
 {
     match words.get(0) {
@@ -126,7 +135,8 @@ fn ask<R: Wait, P: Pages>(
 ) -> Result<Answer, NoMemory>
     requires { AreOf shared.now passes.old }
     ensures cells { AreOf shared.now passes.new }
-    ensures asks { AsksOne moment question passes.old (P.held pages.old) (P.faults pages.old) result passes.new (P.faults pages.new) published.new }
+    ensures asks { AsksOne moment question passes.old (P.held pages.old) (P.faults pages.old) result
+        passes.new (P.faults pages.new) published.new }
     ensures held { P.held pages.new ≡ P.held pages.old }
 {
     *published = None;
@@ -155,7 +165,8 @@ pub(crate) fn answer<R: Wait, P: Pages>(
 ) -> Result<Answer, NoMemory>
     requires { AreOf shared.now passes.old }
     ensures cells { AreOf shared.now passes.new }
-    ensures asks { AsksOne moment question passes.old (P.held pages.old) (P.faults pages.old) result passes.new (P.faults pages.new) heard.new.published }
+    ensures asks { AsksOne moment question passes.old (P.held pages.old) (P.faults pages.old) result
+        passes.new (P.faults pages.new) heard.new.published }
     ensures ok { IfOk result (λ answer. heard.new.answers ≡ heard.old.answers ++ answer ∷ []) }
     ensures err { OnErr result (heard.new.answers ≡ heard.old.answers) }
     ensures held { P.held pages.new ≡ P.held pages.old }

@@ -46,7 +46,8 @@ fn begin<L: Ledger>(
     steps: &mut Steps<L>,
 ) -> Next
     requires { IsNew (names_of natives.now) interp.old }
-    ensures { BeginsScript (names_of natives.now) script.now moment result steps.old steps.new interp.new interp.old }
+    ensures { BeginsScript (names_of natives.now) script.now moment result steps.old steps.new
+        interp.new interp.old }
 {
     interp.start_script(natives, script, moment, steps)
 }
@@ -71,7 +72,9 @@ fn run_script<R: Wait, P: Pages, C: Clock, L: Ledger>(
     ensures units { KeepUnits passes.old passes.new }
     ensures number { worker.new.number ≡ worker.old.number }
     ensures clean { IsClean (names_of natives.now) passes.new worker.new }
-    ensures runs { RunsDue (names_of natives.now) (P.held pages.old) due.now (at passes.old worker.old (C.held clock.old) None (P.faults pages.old) steps.old) result (at passes.new worker.new (C.held clock.new) None (P.faults pages.new) steps.new) }
+    ensures runs { RunsDue (names_of natives.now) (P.held pages.old) due.now
+        (at passes.old worker.old (C.held clock.old) None (P.faults pages.old) steps.old) result
+        (at passes.new worker.new (C.held clock.new) None (P.faults pages.new) steps.new) }
     ensures held { P.held pages.new ≡ P.held pages.old }
 {
     let moment = moment_of(clock.moment());
@@ -132,7 +135,9 @@ fn run_all<R: Wait, P: Pages, C: Clock, L: Ledger>(
     ensures units { KeepUnits passes.old passes.new }
     ensures number { worker.new.number ≡ worker.old.number }
     ensures clean { IsClean (names_of natives.now) passes.new worker.new }
-    ensures runs { RunsList (names_of natives.now) (P.held pages.old) list.now (at passes.old worker.old (C.held clock.old) None (P.faults pages.old) steps.old) result (at passes.new worker.new (C.held clock.new) None (P.faults pages.new) steps.new) }
+    ensures runs { RunsList (names_of natives.now) (P.held pages.old) list.now
+        (at passes.old worker.old (C.held clock.old) None (P.faults pages.old) steps.old) result
+        (at passes.new worker.new (C.held clock.new) None (P.faults pages.new) steps.new) }
     ensures held { P.held pages.new ≡ P.held pages.old }
 {
     let mut ran = RanList::new(alloc);
@@ -174,7 +179,9 @@ pub fn run_due<R: Wait, P: Pages, C: Clock, L: Ledger>(
     ensures units { KeepUnits passes.old passes.new }
     ensures number { worker.new.number ≡ worker.old.number }
     ensures clean { IsClean (names_of natives.now) passes.new worker.new }
-    ensures runs { RunsWhatIsDue (names_of natives.now) (P.held pages.old) (at passes.old worker.old (C.held clock.old) None (P.faults pages.old) steps.old) result (at passes.new worker.new (C.held clock.new) None (P.faults pages.new) steps.new) }
+    ensures runs { RunsWhatIsDue (names_of natives.now) (P.held pages.old)
+        (at passes.old worker.old (C.held clock.old) None (P.faults pages.old) steps.old) result
+        (at passes.new worker.new (C.held clock.new) None (P.faults pages.new) steps.new) }
     ensures held { P.held pages.new ≡ P.held pages.old }
 {
     let call = SchedCall::Due(moment_of(clock.moment()));

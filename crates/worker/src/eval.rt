@@ -48,7 +48,8 @@ fn begin<L: Ledger>(
     steps: &mut Steps<L>,
 ) -> Next
     requires { IsNew (names_of natives.now) interp.old }
-    ensures { BeginsDefine (names_of natives.now) script.now moment result steps.old steps.new interp.new interp.old }
+    ensures { BeginsDefine (names_of natives.now) script.now moment result steps.old steps.new
+        interp.new interp.old }
 {
     interp.start_define(natives, script, moment, steps)
 }
@@ -80,7 +81,9 @@ pub fn do_eval<R: Wait, P: Pages, L: Ledger>(
     ensures units { KeepUnits passes.old passes.new }
     ensures number { worker.new.number ≡ worker.old.number }
     ensures clean { IsClean (names_of natives.now) passes.new worker.new }
-    ensures evaluates { Evaluates (names_of natives.now) (P.held pages.old) script.now moment (at passes.old worker.old None None (P.faults pages.old) steps.old) result (at passes.new worker.new None None (P.faults pages.new) steps.new) }
+    ensures evaluates { Evaluates (names_of natives.now) (P.held pages.old) script.now moment
+        (at passes.old worker.old None None (P.faults pages.old) steps.old) result
+        (at passes.new worker.new None None (P.faults pages.new) steps.new) }
     ensures held { P.held pages.new ≡ P.held pages.old }
 {
     let Looked { turn, epoch, look } = look(rt, shared, passes, worker);

@@ -1,6 +1,7 @@
 //! One request, from its look to its interpreter's end.
 
-ghost use Rattle.std.specs.Prelude.{◌≡◌, ◌+◌, [], List, ℕ, Some, min, IfOk, IfErr, OnErr};
+ghost use Rattle.std.specs.Prelude.{◌≡◌, ◌+◌, [], ℕ, Some, min, IfOk, IfErr, OnErr};
+ghost use Rattle.txt_core.specs.Names.{Names};
 ghost use Rattle.natives.specs.Names.{names_of};
 ghost use Rattle.blueprint.specs.States.{State as SeenState};
 ghost use Rattle.serving.specs.Connections.{asks_close, is_head_only};
@@ -53,12 +54,18 @@ fn run_request<R: Wait, K: Sink, P: Pages, L: Ledger>(
 ) -> Done
     requires cells { AreOf shared.now passes.old }
     requires fresh { IsNew (names_of natives.now) interp.old }
-    requires manner { (manner.asks ≡ asks_close request) × (manner.head_only ≡ is_head_only request) }
+    requires manner { (manner.asks ≡ asks_close request)
+        × (manner.head_only ≡ is_head_only request) }
     requires none { heard.old.answers ≡ [] }
     ensures cells { AreOf shared.now passes.new }
     ensures blueprint { edition_in interp.new ≡ edition_in interp.old }
-    ensures sound { (names : List (List ℕ)) → IsSound names interp.old → IsSound names interp.new }
-    ensures ran { (state : SeenState) (before : ℕ) → edition_in interp.old ≡ edition_of state → manner.answered ≡ min before 18446744073709551615 → RunsRequest (names_of natives.now) (P.held pages.old) state request moment manner.requests before result.sent passes.old passes.new (K.taken sink.old) (K.taken sink.new) (P.faults pages.old) (P.faults pages.new) steps.old steps.new heard.new.answers result.outcome interp.new }
+    ensures sound { (names : Names) → IsSound names interp.old → IsSound names interp.new }
+    ensures ran { (state : SeenState) (before : ℕ) → edition_in interp.old ≡ edition_of state
+        → manner.answered ≡ min before 18446744073709551615
+        → RunsRequest (names_of natives.now) (P.held pages.old) state request moment manner.requests
+        before result.sent passes.old passes.new (K.taken sink.old) (K.taken sink.new)
+        (P.faults pages.old) (P.faults pages.new) steps.old steps.new heard.new.answers
+        result.outcome interp.new }
     ensures causes { SentCauses result.sent (K.faults sink.old) (K.faults sink.new) }
     ensures held { P.held pages.new ≡ P.held pages.old }
 {
@@ -113,12 +120,26 @@ fn run_item<R: Wait, K: Sink, P: Pages, C: Clock, L: Ledger>(
 ) -> Result<(Served, Sent), Unbegun>
     requires cells { Serve (names_of natives.now) shared.now passes.old }
     requires clean { IsClean (names_of natives.now) passes.old worker.old }
-    requires manner { (manner.asks ≡ asks_close request) × (manner.head_only ≡ is_head_only request) }
+    requires manner { (manner.asks ≡ asks_close request)
+        × (manner.head_only ≡ is_head_only request) }
     ensures cells { Serve (names_of natives.now) shared.now passes.new }
     ensures clean { IsClean (names_of natives.now) passes.new worker.new }
     ensures number { worker.new.number ≡ worker.old.number }
-    ensures item { (count before : ℕ) → manner.requests ≡ count + 1 → manner.answered ≡ min before 18446744073709551615 → IfOk result (λ r. RunsItem (names_of natives.now) (P.held pages.old) count before request r.1 (at passes.old worker.old (C.held clock.old) (K.taken sink.old) (P.faults pages.old) steps.old) r.0 (at passes.new worker.new (C.held clock.new) (K.taken sink.new) (P.faults pages.new) steps.new)) }
-    ensures unbegun { IfErr result (λ u. BeginsNone (names_of natives.now) u.moment (at passes.old worker.old (C.held clock.old) (K.taken sink.old) (P.faults pages.old) steps.old) (at passes.new worker.new (C.held clock.new) (K.taken sink.new) (P.faults pages.new) steps.new)) }
+    ensures item { (count before : ℕ) → manner.requests ≡ count + 1
+        → manner.answered ≡ min before 18446744073709551615
+        → IfOk result (λ r.
+        RunsItem (names_of natives.now) (P.held pages.old) count before request r.1
+        (at passes.old worker.old (C.held clock.old) (K.taken sink.old) (P.faults pages.old)
+        steps.old)
+        r.0
+        (at passes.new worker.new (C.held clock.new) (K.taken sink.new) (P.faults pages.new)
+        steps.new)) }
+    ensures unbegun { IfErr result (λ u.
+        BeginsNone (names_of natives.now) u.moment
+        (at passes.old worker.old (C.held clock.old) (K.taken sink.old) (P.faults pages.old)
+        steps.old)
+        (at passes.new worker.new (C.held clock.new) (K.taken sink.new) (P.faults pages.new)
+        steps.new)) }
     ensures causes { IfOk result (λ r. SentCauses r.1 (K.faults sink.old) (K.faults sink.new)) }
     ensures untouched { OnErr result (K.faults sink.new ≡ K.faults sink.old) }
     ensures held { P.held pages.new ≡ P.held pages.old }
@@ -183,7 +204,12 @@ pub(crate) fn serve_request<R: Wait, K: Sink, P: Pages, C: Clock, G: Gate, L: Le
     ensures clean { IsClean (names_of natives.now) passes.new worker.new }
     ensures counts { answered.new ≡ min (answered_by (listed served.new)) 18446744073709551615 }
     ensures number { worker.new.number ≡ worker.old.number }
-    ensures steps { RequestSteps (names_of natives.now) (P.held pages.old) request (at passes.old worker.old (C.held clock.old) (K.taken sink.old) (P.faults pages.old) steps.old) (listed served.old) result (listed served.new) (at passes.new worker.new (C.held clock.new) (K.taken sink.new) (P.faults pages.new) steps.new) }
+    ensures steps { RequestSteps (names_of natives.now) (P.held pages.old) request
+        (at passes.old worker.old (C.held clock.old) (K.taken sink.old) (P.faults pages.old)
+        steps.old)
+        (listed served.old) result (listed served.new)
+        (at passes.new worker.new (C.held clock.new) (K.taken sink.new) (P.faults pages.new)
+        steps.new) }
     ensures causes { SinkCauses result (K.faults sink.old) (K.faults sink.new) }
     ensures held { P.held pages.new ≡ P.held pages.old }
 {

@@ -1,6 +1,6 @@
 //! Laws of sessions.
 
-ghost use Rattle.std.specs.Prelude.{ℕ, List};
+ghost use Rattle.txt_core.specs.Names.{Names};
 ghost use Rattle.worker.specs.Laws.{ItemsAreIsolated, CostRows};
 
 /// Two requests that were served, of one session or of two, on whatever threads, have the same bytes
@@ -13,5 +13,5 @@ pub fn items_are_isolated()
 /// What sessions and updates cost, at some rows: with so many built-in names as the natives make, three
 /// requests to one procedure on a new worker cost one step more; and so on.
 pub fn costs_are_counted()
-    ensures { (names : List (List ℕ)) → CostRows names }
+    ensures { (names : Names) → CostRows names }
 {}

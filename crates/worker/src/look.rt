@@ -84,7 +84,8 @@ fn look_in(reply: BlueReply) -> Look
 pub(crate) fn look<R: Wait>(rt: &R, shared: &Shared, passes: &mut Passes, worker: &Worker) -> Looked
     requires { AreOf shared.now passes.old }
     ensures cells { AreOf shared.now passes.new }
-    ensures looks { TellsLook passes.old result.turn (known_epoch (standing_of worker.now)) result.look passes.new }
+    ensures looks { TellsLook passes.old result.turn (known_epoch (standing_of worker.now))
+        result.look passes.new }
     ensures epoch { result.epoch ≡ epoch_told (known_epoch (standing_of worker.now)) result.look }
 {
     let known = known_epoch(worker);
@@ -101,7 +102,8 @@ pub(crate) fn look<R: Wait>(rt: &R, shared: &Shared, passes: &mut Passes, worker
 /// The interpreter again, unless there is none or the last run marked it: then there is nothing to use,
 /// and that counts as want of memory.
 fn unmarked(old: Option<Interp>) -> Result<Interp, NoMemory>
-    ensures same { IfOk result (λ same. (old ≡ Some same) × (same.settling.run.engine.host.marked ≡ false)) }
+    ensures same { IfOk result (λ same.
+        (old ≡ Some same) × (same.settling.run.engine.host.marked ≡ false)) }
 {
     match old {
         Some(interp) if !interp.marked() => Ok(interp),
@@ -140,9 +142,13 @@ fn renewed<L: Ledger>(
     steps: &mut Steps<L>,
 ) -> Result<Interp, NoMemory>
     requires { (state : State) × IsRenewedBy (names_of natives.now) old state look }
-    ensures of { (state : State) → IsRenewedBy (names_of natives.now) old state look → IfOk result (IsOf (names_of natives.now) state) }
-    ensures steps { (state : State) → IsRenewedBy (names_of natives.now) old state look → OnOk result (steps.new ≤ steps.old + renewal (names_of natives.now) (standing_in old) state) }
-    ensures most { (state : State) → IsRenewedBy (names_of natives.now) old state look → steps.new ≤ steps.old + 2 * renewal (names_of natives.now) (standing_in old) state }
+    ensures of { (state : State) → IsRenewedBy (names_of natives.now) old state look
+        → IfOk result (IsOf (names_of natives.now) state) }
+    ensures steps { (state : State) → IsRenewedBy (names_of natives.now) old state look
+        → OnOk result
+        (steps.new ≤ steps.old + renewal (names_of natives.now) (standing_in old) state) }
+    ensures most { (state : State) → IsRenewedBy (names_of natives.now) old state look
+        → steps.new ≤ steps.old + 2 * renewal (names_of natives.now) (standing_in old) state }
     ensures told { OnOk result (look ≢ Look.NoMemory) }
 {
     // What is known of tables of commands and of blueprints.
@@ -170,9 +176,15 @@ pub(crate) fn renew<L: Ledger>(
     steps: &mut Steps<L>,
 ) -> Result<Interp, NoMemory>
     requires { (state : State) × IsRenewedBy (names_of natives.now) worker.old.interp state look }
-    ensures of { (state : State) → IsRenewedBy (names_of natives.now) worker.old.interp state look → IfOk result (IsOf (names_of natives.now) state) }
-    ensures steps { (state : State) → IsRenewedBy (names_of natives.now) worker.old.interp state look → OnOk result (steps.new ≤ steps.old + renewal (names_of natives.now) (standing_of worker.old) state) }
-    ensures most { (state : State) → IsRenewedBy (names_of natives.now) worker.old.interp state look → steps.new ≤ steps.old + 2 * renewal (names_of natives.now) (standing_of worker.old) state }
+    ensures of { (state : State) → IsRenewedBy (names_of natives.now) worker.old.interp state look
+        → IfOk result (IsOf (names_of natives.now) state) }
+    ensures steps { (state : State)
+        → IsRenewedBy (names_of natives.now) worker.old.interp state look
+        → OnOk result
+        (steps.new ≤ steps.old + renewal (names_of natives.now) (standing_of worker.old) state) }
+    ensures most { (state : State)
+        → IsRenewedBy (names_of natives.now) worker.old.interp state look
+        → steps.new ≤ steps.old + 2 * renewal (names_of natives.now) (standing_of worker.old) state }
     ensures number { worker.new.number ≡ worker.old.number }
     ensures none { OnOk result (worker.new.interp ≡ None) }
     ensures err { OnErr result (IsLeft look worker.old.interp worker.new.interp) }

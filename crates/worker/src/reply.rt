@@ -40,7 +40,8 @@ pub(crate) struct Done {
 /// How many bytes of answers there are, with those of a list.
 #[tactic(auto, using(crate::proofs::Counted::counted_more, crate::proofs::Counted::counted_all))]
 pub(crate) fn count_all(answered: u64, answers: &AnswerList) -> u64
-    ensures { (before : ℕ) → answered ≡ min before 18446744073709551615 → result ≡ min (before + bytes_of answers.now) 18446744073709551615 }
+    ensures { (before : ℕ) → answered ≡ min before 18446744073709551615
+        → result ≡ min (before + bytes_of answers.now) 18446744073709551615 }
 {
     let mut count = answered;
     for answer in answers.as_slice() {
@@ -64,7 +65,8 @@ pub(crate) fn outcome_of(next: Next) -> ServedOutcome
 /// Writes the named reply of want of memory.
 pub(crate) fn tell_want<K: Sink>(moment: u64, sink: &mut K) -> Done
     ensures outcome { result.outcome ≡ ServedOutcome.NoMemory }
-    ensures sent { SendsReply result.sent (no_memory_bytes moment) (K.taken sink.old) (K.taken sink.new) }
+    ensures sent { SendsReply result.sent (no_memory_bytes moment) (K.taken sink.old)
+        (K.taken sink.new) }
     ensures causes { SentCauses result.sent (K.faults sink.old) (K.faults sink.new) }
 {
     Done {
@@ -83,7 +85,11 @@ pub(crate) fn write<K: Sink>(
     answers: &AnswerList,
     sink: &mut K,
 ) -> Wrote
-    ensures { (before : ℕ) → manner.answered ≡ min before 18446744073709551615 → Delivers (K.taken sink.old) (K.faults sink.old) (response_bytes response.now moment manner.head_only (closes manner.asks manner.requests (before + bytes_of answers.now))) result (K.taken sink.new) (K.faults sink.new) }
+    ensures { (before : ℕ) → manner.answered ≡ min before 18446744073709551615
+        → Delivers (K.taken sink.old) (K.faults sink.old)
+        (response_bytes response.now moment manner.head_only
+        (closes manner.asks manner.requests (before + bytes_of answers.now)))
+        result (K.taken sink.new) (K.faults sink.new) }
 {
     let answered = count_all(manner.answered, answers);
     let close = closes(manner.asks, manner.requests, answered);
@@ -119,7 +125,9 @@ pub(crate) fn end_behind(
     manner: Manner,
     answers: &AnswerList,
 ) -> Option<End>
-    ensures { (before : ℕ) → manner.answered ≡ min before 18446744073709551615 → result ≡ end_behind outcome sent manner.asks manner.requests (before + bytes_of answers.now) }
+    ensures { (before : ℕ) → manner.answered ≡ min before 18446744073709551615
+        → result
+        ≡ end_behind outcome sent manner.asks manner.requests (before + bytes_of answers.now) }
 {
     if let Sent::WriteFault { sent } = sent {
         return Some(End::WriteFault { sent });

@@ -1,6 +1,7 @@
 //! Runs of an interpreter, with their questions answered.
 
 ghost use Rattle.std.specs.Prelude.{◌≡◌, ◌≤◌, ◌+◌, [], ℕ, List};
+ghost use Rattle.txt_core.specs.Names.{Names};
 ghost use Rattle.natives.specs.Names.{names_of};
 ghost use Rattle.shared_state.specs.Cells.{AreOf};
 ghost use Rattle.outside.specs.declared.question.Answer.{Answer as Given};
@@ -54,13 +55,25 @@ pub(crate) fn answer_all<R: Wait, P: Pages, L: Ledger>(
     requires cells { AreOf shared.now passes.old }
     requires stands { StandsAt first interp.old }
     ensures cells { AreOf shared.now passes.new }
-    ensures hears { let names = names_of natives.now in (inside : ℕ) → Hears names moment (λ further. gives names first inside interp.old further) passes.old (P.held pages.old) (P.faults pages.old) heard.old.published heard.old.answers result (inside + taken names steps.new steps.old interp.new interp.old) interp.new passes.new (P.faults pages.new) heard.new.published heard.new.answers }
-    ensures within { let names = names_of natives.now in (run : List Given → Progress) (inside written before : ℕ) → StandsFor names run first inside interp.old → steps.old + written ≤ before + inside + interp_written names interp.old → IsWithin written before steps.old interp.old (run []) → StaysWithin names run heard.old.answers result (inside + taken names steps.new steps.old interp.new interp.old) interp.new heard.new.answers written before steps.new }
+    ensures hears { let names = names_of natives.now in
+        (inside : ℕ)
+        → Hears names moment (λ further. gives names first inside interp.old further) passes.old
+        (P.held pages.old) (P.faults pages.old) heard.old.published heard.old.answers result
+        (inside + taken names steps.new steps.old interp.new interp.old) interp.new passes.new
+        (P.faults pages.new) heard.new.published heard.new.answers }
+    ensures within { let names = names_of natives.now in
+        (run : List Given → Progress) (inside written before : ℕ)
+        → StandsFor names run first inside interp.old
+        → steps.old + written ≤ before + inside + interp_written names interp.old
+        → IsWithin written before steps.old interp.old (run [])
+        → StaysWithin names run heard.old.answers result
+        (inside + taken names steps.new steps.old interp.new interp.old) interp.new
+        heard.new.answers written before steps.new }
     ensures counts { Counts (names_of natives.now) steps.new steps.old interp.new interp.old }
     ensures stands { StandsAt result interp.new }
     ensures same { IsSameRun interp.new interp.old }
     ensures blueprint { edition_in interp.new ≡ edition_in interp.old }
-    ensures sound { (names : List (List ℕ)) → IsSound names interp.old → IsSound names interp.new }
+    ensures sound { (names : Names) → IsSound names interp.old → IsSound names interp.new }
     ensures held { P.held pages.new ≡ P.held pages.old }
 {
     // A question is open to its answer.

@@ -1,6 +1,7 @@
 //! Sessions: requests from a source, replies to a sink.
 
-ghost use Rattle.std.specs.Prelude.{◌≡◌, min, [], ℕ, Some};
+ghost use Rattle.std.specs.Prelude.{◌≡◌, min, [], Some};
+ghost use Rattle.txt_core.specs.Names.{Moment};
 ghost use Rattle.natives.specs.Names.{names_of};
 ghost use Rattle.http_req.specs.Readings.{left_of};
 ghost use Rattle.shared_state.specs.Cells.{Serve, KeepUnits};
@@ -29,7 +30,8 @@ use txt_core::{Text, moment_of};
 
 /// Writes the plain reply of a refusal, at a moment of its own, and ends the session.
 fn refuse<K: Sink, C: Clock>(alloc: Global, status: u16, sink: &mut K, clock: &mut C) -> End
-    ensures ends { (moment : ℕ) × Ticks (C.held clock.old) moment (C.held clock.new) × EndsInRefusal status moment result (K.taken sink.old) (K.taken sink.new) }
+    ensures ends { (moment : Moment) × Ticks (C.held clock.old) moment (C.held clock.new)
+        × EndsInRefusal status moment result (K.taken sink.old) (K.taken sink.new) }
     ensures causes { SinkCauses (Some result) (K.faults sink.old) (K.faults sink.new) }
 {
     let moment = moment_of(clock.moment());
@@ -69,8 +71,16 @@ fn serve_next<R: Wait, S: Source, K: Sink, P: Pages, C: Clock, G: Gate, L: Ledge
     ensures clean { IsClean (names_of natives.now) passes.new worker.new }
     ensures counts { answered.new ≡ min (answered_by (listed served.new)) 18446744073709551615 }
     ensures number { worker.new.number ≡ worker.old.number }
-    ensures steps { SessionSteps (names_of natives.now) (P.held pages.old) peer.now (left_of carry.old (S.rest source.old)) (left_of carry.new (S.rest source.new)) (S.rest source.new) (at passes.old worker.old (C.held clock.old) (K.taken sink.old) (P.faults pages.old) steps.old) (listed served.old) result (listed served.new) (at passes.new worker.new (C.held clock.new) (K.taken sink.new) (P.faults pages.new) steps.new) }
-    ensures causes { StepCauses result (S.faults source.old) (S.faults source.new) (K.faults sink.old) (K.faults sink.new) }
+    ensures steps { SessionSteps (names_of natives.now) (P.held pages.old) peer.now
+        (left_of carry.old (S.rest source.old)) (left_of carry.new (S.rest source.new))
+        (S.rest source.new)
+        (at passes.old worker.old (C.held clock.old) (K.taken sink.old) (P.faults pages.old)
+        steps.old)
+        (listed served.old) result (listed served.new)
+        (at passes.new worker.new (C.held clock.new) (K.taken sink.new) (P.faults pages.new)
+        steps.new) }
+    ensures causes { StepCauses result (S.faults source.old) (S.faults source.new)
+        (K.faults sink.old) (K.faults sink.new) }
     ensures held { P.held pages.new ≡ P.held pages.old }
 {
     match read_request(alloc, source, carry, peer) {
@@ -107,8 +117,15 @@ fn run_session<R: Wait, S: Source, K: Sink, P: Pages, C: Clock, G: Gate, L: Ledg
     ensures cells { Serve (names_of natives.now) shared.now passes.new }
     ensures clean { IsClean (names_of natives.now) passes.new worker.new }
     ensures number { worker.new.number ≡ worker.old.number }
-    ensures ran { IsSession (names_of natives.now) (P.held pages.old) peer.now (left_of [] (S.rest source.old)) (S.rest source.new) (at passes.old worker.old (C.held clock.old) (K.taken sink.old) (P.faults pages.old) steps.old) result.end (listed result.served) (at passes.new worker.new (C.held clock.new) (K.taken sink.new) (P.faults pages.new) steps.new) }
-    ensures causes { Causes result.end (S.faults source.old) (S.faults source.new) (K.faults sink.old) (K.faults sink.new) }
+    ensures ran { IsSession (names_of natives.now) (P.held pages.old) peer.now
+        (left_of [] (S.rest source.old)) (S.rest source.new)
+        (at passes.old worker.old (C.held clock.old) (K.taken sink.old) (P.faults pages.old)
+        steps.old)
+        result.end (listed result.served)
+        (at passes.new worker.new (C.held clock.new) (K.taken sink.new) (P.faults pages.new)
+        steps.new) }
+    ensures causes { Causes result.end (S.faults source.old) (S.faults source.new)
+        (K.faults sink.old) (K.faults sink.new) }
     ensures few { AreFew (listed result.served) }
     ensures held { P.held pages.new ≡ P.held pages.old }
 {
@@ -197,11 +214,25 @@ pub fn serve_session<R: Wait, S: Source, K: Sink, P: Pages, C: Clock, G: Gate, L
     ensures clean { IsClean (names_of natives.now) passes.new worker.new }
 
     // The bytes, the entries of the passes, the moments, the steps, and that it is complete, all of one list of what stands behind the items.
-    ensures promised { Promised (names_of natives.now) (P.held pages.old) peer.now (S.rest source.old) (S.rest source.new) (at passes.old worker.old (C.held clock.old) (K.taken sink.old) (P.faults pages.old) steps.old) result.end (listed result.served) (at passes.new worker.new (C.held clock.new) (K.taken sink.new) (P.faults pages.new) steps.new) (S.faults source.old) (S.faults source.new) (K.faults sink.old) (K.faults sink.new) }
+    ensures promised { Promised (names_of natives.now) (P.held pages.old) peer.now
+        (S.rest source.old) (S.rest source.new)
+        (at passes.old worker.old (C.held clock.old) (K.taken sink.old) (P.faults pages.old)
+        steps.old)
+        result.end (listed result.served)
+        (at passes.new worker.new (C.held clock.new) (K.taken sink.new) (P.faults pages.new)
+        steps.new)
+        (S.faults source.old) (S.faults source.new) (K.faults sink.old) (K.faults sink.new) }
 
     // The same step by step: where the worker stood between the items.
-    ensures ran { IsSession (names_of natives.now) (P.held pages.old) peer.now (left_of [] (S.rest source.old)) (S.rest source.new) (at passes.old worker.old (C.held clock.old) (K.taken sink.old) (P.faults pages.old) steps.old) result.end (listed result.served) (at passes.new worker.new (C.held clock.new) (K.taken sink.new) (P.faults pages.new) steps.new) }
-    ensures causes { Causes result.end (S.faults source.old) (S.faults source.new) (K.faults sink.old) (K.faults sink.new) }
+    ensures ran { IsSession (names_of natives.now) (P.held pages.old) peer.now
+        (left_of [] (S.rest source.old)) (S.rest source.new)
+        (at passes.old worker.old (C.held clock.old) (K.taken sink.old) (P.faults pages.old)
+        steps.old)
+        result.end (listed result.served)
+        (at passes.new worker.new (C.held clock.new) (K.taken sink.new) (P.faults pages.new)
+        steps.new) }
+    ensures causes { Causes result.end (S.faults source.old) (S.faults source.new)
+        (K.faults sink.old) (K.faults sink.new) }
     ensures few { AreFew (listed result.served) }
     ensures held { P.held pages.new ≡ P.held pages.old }
 {

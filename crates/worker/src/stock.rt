@@ -66,7 +66,8 @@ impl<T> Stock<T> {
     /// was; never where there is room.
     pub fn push(&mut self, item: T) -> Result<(), T>
         ensures ok { OnOk result (listed self.new ≡ listed self.old ++ item ∷ []) }
-        ensures kept { IfErr result (λ back. (back ≡ item) × (listed self.new ≡ listed self.old) × (spare self.old ≡ 0)) }
+        ensures kept { IfErr result (λ back.
+            (back ≡ item) × (listed self.new ≡ listed self.old) × (spare self.old ≡ 0)) }
         ensures room { spare self.old - 1 ≤ spare self.new }
     {
         match self.items.push(item) {

@@ -1,6 +1,6 @@
 use Rattle.std.proofs.Common.{false, refl}
 use Rattle.natives.specs.Names.{names_of}
-use Rattle.rehearse.specs.declared.worker.Serving.{Serving}
+use Rattle.rehearse.specs.declared.worker.UnderWay.{UnderWay}
 use Rattle.rehearse.specs.declared.worker.Task.TheVariants as tasks
 use Rattle.rehearse.specs.declared.worker.Worker.{Worker}
 use Rattle.rehearse.specs.Playing.{setting_of, one_more}
@@ -10,7 +10,7 @@ use Rattle.rehearse.proofs.worker.Worker.begin.Goals as goal
 
 pub returns-clause-begun : goal.returns-clause-begun
 returns-clause-begun g c = rw c.turn_to.ensures
-    (let serving : Serving = record { interp = c.begin_request-next.new.interp; moment = c.args.setting.now.moment; asks_close = c.asks_close-asks_close.result; head_only = c.is_head_only-head_only.result; written = false } in (
+    (let serving : UnderWay = record { interp = c.begin_request-next.new.interp; moment = c.args.setting.now.moment; asks_close = c.asks_close-asks_close.result; head_only = c.is_head_only-head_only.result; written = false } in (
       serving,
       c.begin_request-next.result,
       refl,
@@ -20,7 +20,7 @@ returns-clause-begun g c = rw c.turn_to.ensures
 
 pub returns-clause-ready : goal.returns-clause-ready
 returns-clause-ready g c = rw c.turn_to.ensures
-    (let serving : Serving = record { interp = c.begin_request-next.new.interp; moment = c.args.setting.now.moment; asks_close = c.asks_close-asks_close.result; head_only = c.is_head_only-head_only.result; written = false } in
+    (let serving : UnderWay = record { interp = c.begin_request-next.new.interp; moment = c.args.setting.now.moment; asks_close = c.asks_close-asks_close.result; head_only = c.is_head_only-head_only.result; written = false } in
     let request : Open = begun_request (setting_of (names_of c.args.natives.now) c.args.setting.now) c.args.objects.now c.args.request in
     let after : Worker = record c.args.self.now { keeper = c.take.new.self; task = tasks.Serving (one_more c.args.connection) serving c.begin_request-next.result } in
     begun_ready (names_of c.args.natives.now) c.args.objects.now.blueprint after c.args.connection serving c.begin_request-next.result request request c.in_ok-interp.interp

@@ -1,5 +1,5 @@
 use Rattle.std.proofs.Common.{◌+◌, ◌≤◌}
-use Rattle.tcl_eval.specs.Natives.{Names}
+use Rattle.txt_core.specs.Names.{Names}
 use Rattle.tcl_eval.specs.Stack.{stack_weight, step_weight, stack_free, step_free, step_next}
 use Rattle.tcl_eval.specs.Engine.{Same, Remains, Holds}
 use Rattle.tcl_eval.proofs.engine.Engine.settle.Given as goal

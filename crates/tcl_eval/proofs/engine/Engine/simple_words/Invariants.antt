@@ -1,7 +1,7 @@
 use Rattle.std.proofs.Common.{◌≤◌, ℕ, map, length}
+use Rattle.txt_core.specs.Names.{Names}
 use Rattle.tcl_parse.specs.Tree.{words}
 use Rattle.tcl_parse.specs.View.{word_of}
-use Rattle.tcl_eval.specs.Natives.{Names}
 use Rattle.tcl_eval.specs.Eval.{run_words, nested}
 use Rattle.tcl_eval.specs.Engine.{Same}
 use Rattle.tcl_eval.specs.Places.{words_from, words_size}

@@ -1,6 +1,6 @@
 use Rattle.std.proofs.Common.{drop}
+use Rattle.txt_core.specs.Names.{Names}
 use Rattle.tcl_eval.specs.State.{Next, Rest}
-use Rattle.tcl_eval.specs.Natives.{Names}
 use Rattle.tcl_eval.specs.Eval.{write_all}
 use Rattle.tcl_eval.specs.Engine.{Same, Keeps, Holds}
 use Rattle.tcl_eval.proofs.engine.Engine.write_all.Given as goal
