@@ -15,7 +15,7 @@ ghost use Rattle.tcl_eval.specs.Laws.{state_in, IsFront};
 ghost use Rattle.tcl_eval.specs.Engine.{Holds, Lasts, FellTo, IsKeepable, kept_by, state_of, at_global, IsIdle, IsOpenTo, IfRan, Leaves, Stands, Answered, StandsOn, Falls, comes_to, with_more};
 ghost use Rattle.tcl_eval.specs.declared.outcome.Outcome.TheVariants.{Asks};
 
-use crate::expressions::Expressions;
+use crate::expression_cache::Expressions;
 use crate::outcome::{Outcome, Work};
 use crate::readings::Readings;
 use crate::stack::Frame;

@@ -7,7 +7,7 @@ mod condition;
 mod engine;
 mod expr_reading;
 mod expression;
-mod expressions;
+mod expression_cache;
 mod gather;
 mod info;
 mod law;
