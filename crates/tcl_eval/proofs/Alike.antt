@@ -475,7 +475,7 @@ module _ {H : Type 0} (ns : Names) (t : LeafTable H) (inner : Inner H) (run : Ru
       pay_alike (command_cost words) m (act ns t inner words (command_end k)) (act ns t inner words (command_end k'))
       (act_alike words m (command_end k) (command_end k') (command_end_after m k k' h))
 
-  run_words_alike : (ws : Words) (values : List (List ℕ)) (m : ℕ) (k k' : Next H) → After m k k' → Alike m (run_words ns t inner ws values k) (run_words ns t inner ws values k')
+  pub run_words_alike : (ws : Words) (values : List (List ℕ)) (m : ℕ) (k k' : Next H) → After m k k' → Alike m (run_words ns t inner ws values k) (run_words ns t inner ws values k')
   run_words_alike no_words values m k k' h = command_alike values m k k' h
   run_words_alike (word w ws) values m k k' h =
       let go : Next H → List ℕ → Rest H = λ x v. run_words ns t inner ws (values ++ v ∷ []) x in

@@ -1,7 +1,7 @@
 -- What a stack means after a step.
-use Rattle.std.proofs.Common.{◌≡◌, ◌≢◌, ℕ, zero, suc, ◌+◌, List, [], ◌∷◌, ◌++◌, length, refl, sym, ap, ◌∙◌, length-append}
+use Rattle.std.proofs.Common.{◌≡◌, ◌≢◌, ℕ, zero, suc, ◌+◌, List, [], ◌∷◌, ◌++◌, length, refl, sym, ap, ◌∙◌, length-append, arith}
 use Rattle.txt_core.specs.Names.{Names}
-use Rattle.tcl_parse.specs.Tree.{Part, text, variable, element, bracket, Parts, no_parts, part, Words, no_words, word, Commands, command as one_command}
+use Rattle.tcl_parse.specs.Tree.{Part, text, variable, element, bracket, Parts, no_parts, part, Words, no_words, word, Commands, no_commands, command as one_command}
 use Rattle.tcl_parse.specs.declared.tree.Script as code_script
 use Rattle.tcl_eval.specs.State.{State, LeafTable, Given, Out, Rest, Next}
 use Rattle.tcl_eval.specs.Eval.{Inner, Source, read, ended, give, on_ok, word_end, read_variable, element_name, run_part, run_parts, command, run_words, run_commands, run_script, nested}
@@ -13,7 +13,7 @@ use Rattle.tcl_eval.specs.declared.place.Place.{Place}
 use Rattle.tcl_eval.specs.declared.stack.Ended.{Ended}
 use Rattle.tcl_eval.specs.declared.stack.Frame.{Frame}
 use Rattle.tcl_eval.specs.declared.stack.Frame.TheVariants.{Script, Word, Index}
-use Rattle.tcl_eval.proofs.Alike.{Runs, run_script_alike}
+use Rattle.tcl_eval.proofs.Alike.{After, Runs, run_words_alike, run_script_alike}
 use Rattle.tcl_eval.proofs.Kept.{kept_end, next_kept, judged_word}
 use Rattle.tcl_eval.proofs.Stacks.{pushed, pushed_two}
 
@@ -26,6 +26,11 @@ module _ {H : Type 0} where
   -- code 0 goes on
   pub good_code : (go : List ℕ → Rest H) (k : Next H) (value : Ended) (s : State H) (b : ℕ) (g : Given) → value.code ≡ 0 → go value.result s b g ≡ on_ok go k value.code value.result s b g
   good_code go k value s b g z = sym (ap (λ (n : ℕ). on_ok go k n value.result s b g) z)
+
+  -- what hands each code on comes to what it hands to
+  handed_on : (k : Next H) (m : ℕ) → After m k (on_ok (λ v. k 0 v) k)
+  handed_on k m zero result = λ s b g le. refl
+  handed_on k m (suc code) result = λ s b g le. refl
 
 module _ {H : Type 0} (ns : Names) (t : LeafTable H) where
   -- a word that is complete is one of the values
@@ -72,6 +77,15 @@ module _ {H : Type 0} (ns : Names) (t : LeafTable H) where
       ∙ ap (λ (x : List (List ℕ)). run_words ns t inner ws x k s b g) isn
       ∙ sym (ap (λ (x : Commands). run_commands ns t inner x value.result (stack_next ns t fs) s b g) is)
       ∙ sym (ap (λ (n : ℕ). on_ok (λ v. run_commands ns t inner cs v (stack_next ns t fs)) (stack_next ns t fs) n value.result s b g) z)
+
+  -- the last command of a script begins, for which nothing waits
+  pub last_command_step : (inner : Inner H) (run : Runs inner) (cs : Commands) (ws ws' : Words) (none : List (List ℕ)) (value : Ended) (k : Next H) (s : State H) (b : ℕ) (g : Given) → value.code ≡ 0 → cs ≡ one_command ws no_commands → ws' ≡ ws → none ≡ [] → run_words ns t inner ws' none k s b g ≡ on_ok (λ v. run_commands ns t inner cs v k) k value.code value.result s b g
+  last_command_step inner run cs ws ws' none value k s b g z is isw isn =
+      ap (λ (x : Words). run_words ns t inner x none k s b g) isw
+      ∙ ap (λ (x : List (List ℕ)). run_words ns t inner ws x k s b g) isn
+      ∙ run_words_alike ns t inner run ws [] b k (on_ok (λ v. k 0 v) k) (handed_on k b) s b g (omega arith)
+      ∙ sym (ap (λ (x : Commands). run_commands ns t inner x value.result k s b g) is)
+      ∙ sym (ap (λ (n : ℕ). on_ok (λ v. run_commands ns t inner cs v k) k n value.result s b g) z)
 
   -- an index begins, within a word that waits
   pub index_step : (inner : Inner H) (fs fs1 fs2 : List Frame) (array : List ℕ) (so_far : SoFar) (place place' : Place) (levels : ℕ) (p p' : Parts) (e : List ℕ) (s : State H) (b : ℕ) (g : Given) → fs1 ≡ fs ++ Word place' so_far levels ∷ [] → fs2 ≡ fs1 ++ Index array ∷ [] → place' ≡ place → p ≡ p' → e ≡ [] → run_parts inner p e (judged (stack_next ns t fs2)) s b g ≡ run_parts inner p' [] (judged (frame_next ns t (Index array) (frame_next ns t (Word place so_far levels) (stack_next ns t fs)))) s b g

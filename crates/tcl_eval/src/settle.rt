@@ -424,6 +424,11 @@ impl<H: Host> Engine<H> {
         if !has_command(&script, next) {
             return Ok(Step::Value(value));
         }
+        if !has_command(&script, next + 1) {
+            // Its last command gives what the script comes to: no frame waits for that.
+            let step = self.next_word(script, next, Gathered::new(self.alloc), levels)?;
+            return Ok(step);
+        }
         let again = script.clone()?;
         self.stack.push(Frame::Script {
             script: again,

@@ -11,6 +11,15 @@ use std::alloc::Global;
 use std::rc::Rc;
 use txt_core::{NoMemory, Text};
 
+/// A text of these bytes, which its copies share.
+fn shared_text(alloc: Global, bytes: &[u8]) -> Result<Text, NoMemory>
+    ensures { IfOk result (λ text. text ≡ bytes.now) }
+{
+    let mut text = Text::new(alloc, bytes)?;
+    drop(text.share(alloc)?);
+    Ok(text)
+}
+
 /// Makes a piece of the bytes that were gathered, if there are any.
 fn flush(alloc: Global, pieces: &mut Vec<Piece>, text: &mut Vec<u8>) -> Result<(), NoMemory>
     ensures ok { OnOk result
@@ -18,7 +27,7 @@ fn flush(alloc: Global, pieces: &mut Vec<Piece>, text: &mut Vec<u8>) -> Result<(
     ensures empty { OnOk result (text.new.items ≡ []) }
 {
     if !text.is_empty() {
-        pieces.push(Piece::Bytes(Text::new(alloc, text)?))?;
+        pieces.push(Piece::Bytes(shared_text(alloc, text)?))?;
         text.clear();
     }
     Ok(())
