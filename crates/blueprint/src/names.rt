@@ -2,7 +2,7 @@
 
 ghost use Rattle.std.specs.Prelude.{◌≡◌, List, ◌++◌, None, IfOk, OnOk};
 ghost use Rattle.std.specs.List.{list_any};
-ghost use Rattle.txt_core.specs.Names.{Bytes, Names};
+ghost use Rattle.txt_core.specs.Names.{Bytes, Names as NameList};
 ghost use Rattle.cmd_table.specs.Table.{Table, IsInOrder};
 ghost use Rattle.cmd_table.specs.Renaming.{rename_answer, renamed};
 ghost use Rattle.cmd_table.specs.Commands.{Commands, defined, fits, is_done};
@@ -165,10 +165,10 @@ impl Names {
         journal: &mut Journal,
         defs: &[Def],
     ) -> Result<Option<usize>, NoMemory>
-        ensures place { (natives : Names) → (before : List Def)
+        ensures place { (natives : NameList) → (before : List Def)
             → AreCommands self.old.slots (Commands natives before)
             → IfOk result (λ place. place ≡ first_misfit (Commands natives before) defs.now) }
-        ensures made { (natives : Names) → (before : List Def)
+        ensures made { (natives : NameList) → (before : List Def)
             → AreCommands self.old.slots (Commands natives before)
             → IfOk result (λ place.
             place ≡ None → AreCommands self.new.slots (Commands natives (before ++ defs.now))) }

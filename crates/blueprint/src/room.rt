@@ -1,7 +1,7 @@
 //! Whether definitions can be put behind others.
 
 ghost use Rattle.std.specs.Prelude.{◌≡◌, ◌≤◌, ◌++◌, List, length, OnOk};
-ghost use Rattle.txt_core.specs.Names.{Bytes, Names};
+ghost use Rattle.txt_core.specs.Names.{Bytes, Names as NameList};
 ghost use Rattle.cmd_table.specs.declared.definition.Def.{Def};
 ghost use Rattle.cmd_table.specs.Commands.{Commands};
 ghost use Rattle.blueprint.specs.Scripts.{script_of};
@@ -42,12 +42,12 @@ impl Room {
     ) -> Result<Room, Published>
         requires count { self.count ≤ most_definitions }
         requires size { self.size ≤ most_script }
-        ensures answer { (natives : Names) → (before : List Def)
+        ensures answer { (natives : NameList) → (before : List Def)
             → AreCommands names.old.slots (Commands natives before)
             → self.count ≡ length before → self.size ≡ length (script_of before)
             → IsChecked (answer natives self.epoch before defs.now) self.epoch (before ++ defs.now)
             result }
-        ensures made { (natives : Names) → (before : List Def)
+        ensures made { (natives : NameList) → (before : List Def)
             → AreCommands names.old.slots (Commands natives before)
             → OnOk result (AreCommands names.new.slots (Commands natives (before ++ defs.now))) }
         ensures past { (q : Bytes)
