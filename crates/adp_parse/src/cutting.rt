@@ -13,16 +13,6 @@ use txt_core::{NoMemory, Text, Words};
 /// What stands first in a block of words.
 const WORDS: &[u8] = b"=";
 
-/// Puts a piece at the end of a list.
-fn push(list: &mut PieceList, piece: Piece) -> Result<(), NoMemory>
-    ensures { OnOk result (list.new ≡ list.old ++ piece ∷ []) }
-{
-    match list.push(piece) {
-        Ok(()) => Ok(()),
-        Err(_) => Err(NoMemory),
-    }
-}
-
 /// Puts what stands outside the blocks at the end of a list, where there is any.
 fn push_text(alloc: Global, list: &mut PieceList, text: &[u8]) -> Result<(), NoMemory>
     ensures { OnOk result (list.new ≡ list.old ++ text_of text.now) }
@@ -30,7 +20,7 @@ fn push_text(alloc: Global, list: &mut PieceList, text: &[u8]) -> Result<(), NoM
     if text.is_empty() {
         return Ok(());
     }
-    push(list, Piece::Text(Text::new(alloc, text)?))
+    list.add(Piece::Text(Text::new(alloc, text)?))
 }
 
 /// The piece of a block with this content.
@@ -56,7 +46,7 @@ pub fn pieces(alloc: Global, page: &Text, args: Words) -> Result<Pieces, NoMemor
     let mut rest = page.bytes();
     'next_block: while let Some(found) = first_block(rest) {
         push_text(alloc, &mut list, found.before)?;
-        push(&mut list, block(alloc, found.content)?)?;
+        list.add(block(alloc, found.content)?)?;
         rest = found.behind;
     }
     push_text(alloc, &mut list, rest)?;

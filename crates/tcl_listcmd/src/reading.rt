@@ -12,7 +12,7 @@ ghost use Rattle.natives.specs.Ranges.{InRange};
 use crate::elements::{cut_behind, last_of, list_in, text_of};
 use natives::{Fault, cut_place, index_in, within_limit, word_at};
 use std::alloc::Global;
-use txt_core::{Text, Words};
+use txt_core::{Text, Words, write_natural};
 
 /// The words behind the first one as a list.
 fn list(alloc: Global, words: &Words) -> Result<Text, Fault>
@@ -41,10 +41,7 @@ pub fn list_command(alloc: Global, words: &Words) -> Result<Text, Fault>
 fn count_text(alloc: Global, count: usize) -> Result<Text, Fault>
     ensures { Answers (Ok (decimal count)) result }
 {
-    match format!(in alloc; "{count}") {
-        Ok(text) => Ok(Text::from_vec(text.into_bytes())),
-        Err(_) => Err(Fault::NoMemory),
-    }
+    Ok(write_natural(alloc, count as u64)?)
 }
 
 /// How many elements the list has.

@@ -10,7 +10,7 @@ use crate::elements::list_in;
 use crate::options::{check_options, is_word, last_is};
 use natives::{Fault, within_limit, word_at};
 use std::alloc::Global;
-use txt_core::{Text, Words, glob};
+use txt_core::{Text, Words, glob, write_natural};
 
 /// Whether a word is an option of `lsearch`.
 fn is_option(word: &Text) -> bool
@@ -52,7 +52,7 @@ fn place_text(alloc: Global, place: Option<usize>) -> Result<Text, Fault>
 {
     match place {
         None => Ok(Text::new(alloc, b"-1")?),
-        Some(place) => Ok(Text::from_vec(format!(in alloc; "{place}")?.into_bytes())),
+        Some(place) => Ok(write_natural(alloc, place as u64)?),
     }
 }
 

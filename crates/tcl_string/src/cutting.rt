@@ -15,23 +15,13 @@ use std::alloc::Global;
 use tcl_list::quote;
 use txt_core::{NoMemory, Text, Words};
 
-/// Puts a word at the end.
-fn put(words: &mut Words, word: Text) -> Result<(), NoMemory>
-    ensures { OnOk result (words.new ≡ words.old ++ word ∷ []) }
-{
-    match words.push(word) {
-        Ok(()) => Ok(()),
-        Err(_word) => Err(NoMemory),
-    }
-}
-
 /// Each byte as a word.
 fn single_bytes(alloc: Global, bytes: &[u8]) -> Result<Words, NoMemory>
     ensures { IfOk result (λ words. words ≡ single_bytes bytes.now) }
 {
     let mut words = Words::new(alloc);
     for byte in bytes {
-        put(&mut words, Text::new(alloc, &[*byte])?)?;
+        words.add(Text::new(alloc, &[*byte])?)?;
     }
     Ok(words)
 }
@@ -44,14 +34,14 @@ fn pieces(alloc: Global, bytes: &[u8], cuts: &ByteSet) -> Result<Words, NoMemory
     let mut piece = Vec::new(alloc);
     for byte in bytes {
         if cuts.has(*byte) {
-            put(&mut words, Text::from_vec(piece))?;
+            words.add(Text::from_vec(piece))?;
             piece = Vec::new(alloc);
         } else {
             piece.push(*byte)?;
         }
     }
     let last = Text::from_vec(piece);
-    put(&mut words, last)?;
+    words.add(last)?;
     Ok(words)
 }
 

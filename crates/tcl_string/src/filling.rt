@@ -17,7 +17,7 @@ use crate::output::Output;
 use crate::pattern::{Form, Letter, Part};
 use natives::{Fault, number_in};
 use std::alloc::Global;
-use txt_core::{NoMemory, Text};
+use txt_core::{NoMemory, Text, write_natural};
 
 /// Puts a byte at the end so many times.
 fn put_times(out: &mut Text, byte: u8, times: usize) -> Result<(), NoMemory>
@@ -71,9 +71,8 @@ fn put_number(alloc: Global, out: &mut Text, form: Form, n: i64) -> Result<(), N
     ensures { OnOk result
         (out.new ≡ out.old ++ filled (form_of form) (sign_of n) (decimal (unsigned_abs n))) }
 {
-    let size = n.unsigned_abs();
-    let digits = format!(in alloc; "{size}")?;
-    put_filled(out, form, sign_of(n), digits.as_bytes())
+    let digits = write_natural(alloc, n.unsigned_abs())?;
+    put_filled(out, form, sign_of(n), digits.bytes())
 }
 
 /// Puts the 64 bits of a number in hexadecimal at the end.

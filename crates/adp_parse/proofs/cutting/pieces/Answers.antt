@@ -10,7 +10,7 @@ pub next_block-smaller : goal.next_block-smaller
 next_block-smaller c = shorter _ _ _ _ c.in-Some.ensures
 
 pub next_block-preserved : goal.next_block-preserved
-next_block-preserved c = next _ _ _ _ _ _ _ _ _ c.next_block.invariant c.in-Some.ensures c.in_ok-push_text.ensures c.in_ok-block.ensures c.in_ok-push.ensures
+next_block-preserved c = next _ _ _ _ _ _ _ _ _ c.next_block.invariant c.in-Some.ensures c.in_ok-push_text.ensures c.in_ok-block.ensures c.in_ok-add.ensures.ok
 
 pub returns-clause-list : goal.returns-clause-list
 returns-clause-list c = last _ _ _ _ c.next_block.invariant c.in_default.ensures c.in_ok-push_text-2.ensures
