@@ -1,5 +1,5 @@
 -- The commands on arrays, and `info exists`.
-use Rattle.std.specs.Prelude.{◌%◌, ◌==◌, Bool, true, false, List, [], ◌∷◌, length, map, filter, slice_get, Option, Some, None, if◌then◌else◌, codes, decimal, bytes_eq}
+use Rattle.std.specs.Prelude.{◌%◌, ◌==◌, Bool, true, List, [], ◌∷◌, length, map, filter, slice_get, Option, Some, None, if◌then◌else◌, codes, decimal, bytes_eq}
 use Rattle.std.specs.FinMap as finite
 use Rattle.txt_core.specs.Names.{Bytes, Words}
 use Rattle.txt_core.specs.Lists.{Listing, elements, bad_at}
@@ -15,11 +15,7 @@ use Rattle.tcl_varcmd.specs.Answers.{Came, gives, fails, unless}
 use Rattle.natives.specs.Checks.{items}
 use Rattle.tcl_varcmd.specs.Errors.{array_error, count_error}
 use Rattle.natives.specs.Words.{arg}
-
--- 1 or 0
-abbrev pub truth_text : Bool → Bytes
-truth_text true = codes "1"
-truth_text false = codes "0"
+pub use Rattle.natives.specs.Words.{truth_text}
 
 -- an element: its index and its value
 abbrev pub Pair : Type 0

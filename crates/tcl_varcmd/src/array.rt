@@ -8,18 +8,19 @@ ghost use Rattle.tcl_frame.specs.Frames.{elements_of};
 ghost use Rattle.natives.specs.Answers.{Tried};
 ghost use Rattle.tcl_varcmd.specs.Answers.{Answers, IfNoMemory};
 ghost use Rattle.natives.specs.Checks.{items};
+ghost use Rattle.natives.specs.Words.{truth_text};
 ghost use Rattle.tcl_varcmd.specs.Errors.{array_error};
-ghost use Rattle.tcl_varcmd.specs.Arrays.{truth_text, is_picked, picked, in_turn, pairs_error, array_set, unset_array, array_part, array_came, info_came};
+ghost use Rattle.tcl_varcmd.specs.Arrays.{is_picked, picked, in_turn, pairs_error, array_set, unset_array, array_part, array_came, info_came};
 
 use crate::message::{check_count, refusal};
 use crate::part::{Part, part_of};
-use crate::value::{digits, list_in, push_copy};
+use crate::value::list_in;
 use crate::variable::{remove, write_array};
 use natives::{Fault, word_at};
 use std::alloc::Global;
 use tcl_frame::{Frames, VarFault, is_element_name};
 use tcl_list::quote;
-use txt_core::{NoMemory, Pairs, Text, Words, glob};
+use txt_core::{NoMemory, Pairs, Text, Words, glob, write_natural};
 
 /// 1 or 0.
 fn truth(alloc: Global, holds: bool) -> Result<Text, NoMemory>
@@ -50,8 +51,8 @@ fn elements_in_turn(alloc: Global, pairs: &Pairs, pattern: Option<&Text>) -> Res
     let mut words = Words::new(alloc);
     'pairs: for pair in pairs.as_slice() {
         if is_listed(pattern, &pair.0) {
-            push_copy(alloc, &mut words, &pair.0)?;
-            push_copy(alloc, &mut words, &pair.1)?;
+            words.add(pair.0.copy(alloc)?)?;
+            words.add(pair.1.copy(alloc)?)?;
         }
     }
     Ok(words)
@@ -65,7 +66,7 @@ fn indexes(alloc: Global, pairs: &Pairs, pattern: Option<&Text>) -> Result<Words
     let mut words = Words::new(alloc);
     'pairs: for pair in pairs.as_slice() {
         if is_listed(pattern, &pair.0) {
-            push_copy(alloc, &mut words, &pair.0)?;
+            words.add(pair.0.copy(alloc)?)?;
         }
     }
     Ok(words)
@@ -114,7 +115,7 @@ fn size(alloc: Global, frames: &Frames, name: &Text) -> Result<Text, NoMemory>
     ensures { IfOk result (λ text.
         text ≡ decimal (length (finite.entries (elements_of frames.now name.now)))) }
 {
-    digits(alloc, frames.count(name))
+    write_natural(alloc, frames.count(name) as u64)
 }
 
 /// `array unset a`.

@@ -1,6 +1,6 @@
 //! Values as numbers and lists.
 
-ghost use Rattle.std.specs.Prelude.{◌≡◌, ◌++◌, ◌∷◌, [], ◌+ℤ◌, IfOk, OnOk, decimal};
+ghost use Rattle.std.specs.Prelude.{◌≡◌, ◌++◌, ◌+ℤ◌};
 ghost use Rattle.txt_core.specs.Quoting.{quoting};
 ghost use Rattle.natives.specs.Answers.{Tried};
 ghost use Rattle.natives.specs.Checks.{list_error, items};
@@ -11,7 +11,7 @@ use crate::message::overflow;
 use natives::Fault;
 use std::alloc::Global;
 use tcl_list::{ListFault, append_elements, split};
-use txt_core::{NoMemory, Text, Words};
+use txt_core::{Text, Words};
 
 /// The sum of two numbers.
 pub(crate) fn sum(alloc: Global, left: i64, right: i64) -> Result<i64, Fault>
@@ -21,13 +21,6 @@ pub(crate) fn sum(alloc: Global, left: i64, right: i64) -> Result<i64, Fault>
         Some(sum) => Ok(sum),
         None => Err(overflow(alloc)),
     }
-}
-
-/// A number in decimal digits.
-pub(crate) fn digits(alloc: Global, number: usize) -> Result<Text, NoMemory>
-    ensures { IfOk result (λ text. text ≡ decimal number) }
-{
-    Ok(Text::from_vec(format!(in alloc; "{number}")?.into_bytes()))
 }
 
 /// The error of a text that is no list.
@@ -59,11 +52,4 @@ pub(crate) fn with_elements(alloc: Global, list: Text, others: &[Text]) -> Resul
         Ok(text) => Ok(text),
         Err(fault) => Err(bad_list(alloc, fault)),
     }
-}
-
-/// Puts a copy of a text at the end of a list.
-pub(crate) fn push_copy(alloc: Global, list: &mut Words, text: &Text) -> Result<(), NoMemory>
-    ensures { OnOk result (list.new ≡ list.old ++ text.now ∷ []) }
-{
-    list.add(text.copy(alloc)?)
 }
