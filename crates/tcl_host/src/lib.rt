@@ -1,16 +1,18 @@
 //! What an engine asks of its host: the commands that the engine doesn't know, and what a page does
 //! with its texts and its ends; the codes with which scripts and commands end; and what hosts have in
-//! common: refusals, the replies that they come to, and the paths of pages.
+//! common: checks of words, refusals, the replies that they come to, and the paths of pages.
 //!
 //! The engine stands above, the hosts beside each other: none has to know how scripts are run.
 #![tactic(auto)]
 
+mod checks;
 mod code;
 mod host;
 mod paths;
 mod refusal;
 mod reply;
 
+pub use checks::{arg, is_counted, no_subcommand, require_fit, require_words, unfit};
 pub use code::{
     BREAK, CONTINUE, ERROR, OK, PAGE_ABORT, PAGE_BREAK, PAGE_RETURN, RETURN, codes_have_their_names,
 };
