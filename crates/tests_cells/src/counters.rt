@@ -234,39 +234,65 @@ fn by_one_by_four_and_by_sixteen(rt: HostRuntime) -> Result<(), Fail> {
     Ok(())
 }
 
+/// Each turn's place and reply, of two on one thread, and the count at the end.
+fn turns_of_one<R: Wait>(rt: &R, alloc: Global) -> Result<((u64, u64), (u64, u64), u64), NoMemory> {
+    let (cell, mut pass) = TurnCell::new(alloc, Counter { value: 0 })?;
+    let first = cell.turn(rt, &mut pass, Increment);
+    let second = cell.turn(rt, &mut pass, Increment);
+    let count = cell.close(rt, pass).value;
+    Ok((
+        (first.place, first.reply),
+        (second.place, second.reply),
+        count,
+    ))
+}
+
 #[test]
 fn one_thread(rt: HostRuntime) -> Result<(), Fail> {
-    let (cell, mut pass) = TurnCell::new(rt.alloc(), Counter { value: 0 })?;
-    let first = cell.turn(&rt, &mut pass, Increment);
-    let second = cell.turn(&rt, &mut pass, Increment);
-    assert_eq!(rt; (first.place, second.place), (0, 1));
-    assert_eq!(rt; (first.reply, second.reply), (1, 2));
-    assert_eq!(rt; cell.close(&rt, pass).value, 2);
+    assert_eq!(rt; turns_of_one(&rt, rt.alloc())?, ((0, 1), (1, 2), 2));
     Ok(())
+}
+
+/// The places and the replies of turns by two passes, which are then joined, and the count at the end.
+fn turns_of_two<R: Wait>(
+    rt: &R,
+    alloc: Global,
+) -> Result<((u64, u64, u64), (u64, u64, u64), u64), NoMemory> {
+    let (cell, mut pass) = TurnCell::new(alloc, Counter { value: 7 })?;
+    let mut other = cell.split(&mut pass)?;
+    let first = cell.turn(rt, &mut other, Increment);
+    let second = cell.turn(rt, &mut pass, Increment);
+    cell.join(&mut other, pass);
+    let third = cell.turn(rt, &mut other, Increment);
+    let count = cell.close(rt, other).value;
+    Ok((
+        (first.place, second.place, third.place),
+        (first.reply, second.reply, third.reply),
+        count,
+    ))
 }
 
 #[test]
 fn split_and_joined(rt: HostRuntime) -> Result<(), Fail> {
-    let (cell, mut pass) = TurnCell::new(rt.alloc(), Counter { value: 7 })?;
-    let mut other = cell.split(&mut pass)?;
-    let first = cell.turn(&rt, &mut other, Increment);
-    let second = cell.turn(&rt, &mut pass, Increment);
-    cell.join(&mut other, pass);
-    let third = cell.turn(&rt, &mut other, Increment);
-    assert_eq!(rt; (first.place, second.place, third.place), (0, 1, 2));
-    assert_eq!(rt; (first.reply, second.reply, third.reply), (8, 9, 10));
-    assert_eq!(rt; cell.close(&rt, other).value, 10);
+    assert_eq!(rt; turns_of_two(&rt, rt.alloc())?, ((0, 1, 2), (8, 9, 10), 10));
     Ok(())
+}
+
+/// Each turn's place and reply: one of a pass that is then dropped, and one of another.
+fn turns_behind_a_drop<R: Wait>(
+    rt: &R,
+    alloc: Global,
+) -> Result<((u64, u64), (u64, u64)), NoMemory> {
+    let (cell, mut pass) = TurnCell::new(alloc, Counter { value: 0 })?;
+    let mut other = cell.split(&mut pass)?;
+    let first = cell.turn(rt, &mut other, Increment);
+    drop(other);
+    let second = cell.turn(rt, &mut pass, Increment);
+    Ok(((first.place, first.reply), (second.place, second.reply)))
 }
 
 #[test]
 fn dropped(rt: HostRuntime) -> Result<(), Fail> {
-    let (cell, mut pass) = TurnCell::new(rt.alloc(), Counter { value: 0 })?;
-    let mut other = cell.split(&mut pass)?;
-    let first = cell.turn(&rt, &mut other, Increment);
-    drop(other);
-    let second = cell.turn(&rt, &mut pass, Increment);
-    assert_eq!(rt; (first.place, second.place), (0, 1));
-    assert_eq!(rt; second.reply, 2);
+    assert_eq!(rt; turns_behind_a_drop(&rt, rt.alloc())?, ((0, 1), (1, 2)));
     Ok(())
 }

@@ -270,27 +270,48 @@ fn close_while_full<T: Drop + Send, R: Threads + Wait + Sync>(
     .1
 }
 
+/// What becomes of two puts into a queue of one, and what is taken while it is closed.
+fn full_and_closed<R: Threads + Wait + Sync>(
+    rt: &R,
+    alloc: Global,
+) -> Result<([Result<(), u64>; 2], (Option<u64>, Option<u64>)), NoMemory> {
+    let (queue, mut pass) = ConnQueue::new(alloc, 1)?;
+    let taker = queue.split(&mut pass)?;
+    let puts = [queue.put(rt, &mut pass, 7), queue.put(rt, &mut pass, 8)];
+    Ok((puts, close_while_full(rt, &queue, pass, taker)))
+}
+
 #[test]
 fn room_for_one(rt: HostRuntime) -> Result<(), Fail> {
-    let (queue, mut pass) = ConnQueue::new(rt.alloc(), 1)?;
-    let taker = queue.split(&mut pass)?;
-    assert_eq!(rt; queue.put(&rt, &mut pass, 7), Ok(()));
-    assert_eq!(rt; queue.put(&rt, &mut pass, 8), Err(8));
-    assert_eq!(rt; close_while_full(&rt, &queue, pass, taker), (Some(7), None));
+    let (puts, taken) = full_and_closed(&rt, rt.alloc())?;
+    assert_eq!(rt; puts, [Ok(()), Err(8)]);
+    assert_eq!(rt; taken, (Some(7), None));
     Ok(())
+}
+
+/// What becomes of three puts by two passes into a queue of two, and of three takes, two of them when the
+/// queue is closed.
+fn on_one_thread<R: Wait>(
+    rt: &R,
+    alloc: Global,
+) -> Result<([Result<(), u64>; 3], [Option<u64>; 3]), NoMemory> {
+    let (queue, mut pass) = ConnQueue::new(alloc, 2)?;
+    let mut other = queue.split(&mut pass)?;
+    let first = queue.put(rt, &mut pass, 1);
+    let second = queue.put(rt, &mut other, 2);
+    queue.join(&mut other, pass);
+    let third = queue.put(rt, &mut other, 3);
+    let taken = queue.take(rt, &mut other);
+    queue.close(rt, &mut other, 1);
+    let later = queue.take(rt, &mut other);
+    let last = queue.take(rt, &mut other);
+    Ok(([first, second, third], [taken, later, last]))
 }
 
 #[test]
 fn room_for_two(rt: HostRuntime) -> Result<(), Fail> {
-    let (queue, mut pass) = ConnQueue::new(rt.alloc(), 2)?;
-    let mut other = queue.split(&mut pass)?;
-    assert_eq!(rt; queue.put(&rt, &mut pass, 1), Ok(()));
-    assert_eq!(rt; queue.put(&rt, &mut other, 2), Ok(()));
-    queue.join(&mut other, pass);
-    assert_eq!(rt; queue.put(&rt, &mut other, 3), Err(3));
-    assert_eq!(rt; queue.take(&rt, &mut other), Some(1));
-    queue.close(&rt, &mut other, 1);
-    assert_eq!(rt; queue.take(&rt, &mut other), Some(2));
-    assert_eq!(rt; queue.take(&rt, &mut other), None);
+    let (puts, takes) = on_one_thread(&rt, rt.alloc())?;
+    assert_eq!(rt; puts, [Ok(()), Ok(()), Err(3)]);
+    assert_eq!(rt; takes, [Some(1), Some(2), None]);
     Ok(())
 }

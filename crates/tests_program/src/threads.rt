@@ -1,5 +1,5 @@
 //! Nets in memory, served by several threads.
-ghost use Rattle.std.specs.Prelude.{◌≡◌, ◌≤◌, ◌<◌};
+ghost use Rattle.std.specs.Prelude.{◌≤◌, ◌<◌, vec_len};
 
 use conn_queue::{ConnQueue, QPass};
 use outside::{MemConn, MemNet, MemSource, Replies, ReplySink, write_all};
@@ -173,7 +173,27 @@ fn owns_of(alloc: Global, workers: u16) -> Result<Vec<Own>, NoMemory> {
 /// How a run ended, and how many connections were served.
 type Ended = (Stop, u64);
 
-/// Serves connections by so many workers. The accepts whose numbers are listed fail.
+/// What a net is made of: where its replies go, its connections, and the numbers of the accepts that fail.
+#[derive(Drop)]
+struct Visits {
+    replies: Replies,
+    conns: Vec<MemConn>,
+    fails: Vec<u64>,
+}
+
+/// So many connections that send nothing, whose replies go to a desk.
+fn visits_of(alloc: Global, desk: &Desk, count: u64, fails: &[u64]) -> Result<Visits, NoMemory> {
+    let replies = desk.replies.copy()?;
+    let conns = silent(alloc, count)?;
+    let fails = Vec::from_slice(alloc, fails)?;
+    Ok(Visits {
+        replies,
+        conns,
+        fails,
+    })
+}
+
+/// Serves what a net of these gives, by as many threads as have something.
 fn serve<
     R: Threads
         + Wait
@@ -187,19 +207,19 @@ fn serve<
     rt: &R,
     alloc: Global,
     desk: &Desk,
-    conns: Vec<MemConn>,
-    fails: Vec<u64>,
-    workers: u16,
+    visits: Visits,
+    owns: Vec<Own>,
     plan: Plan,
 ) -> Result<Ended, NoMemory>
-    requires { workers ≤ 16 }
+    requires { vec_len owns ≤ 1000 }
 {
-    let mut net = MemNet::new(*rt, desk.replies.copy()?, conns, fails);
-    let owns = owns_of(alloc, workers)?;
-    if owns.len() > 1000 {
-        return Err(NoMemory);
-    }
+    let Visits {
+        replies,
+        conns,
+        fails,
+    } = visits;
     let mut own = Own { served: 0 };
+    let mut net = MemNet::new(*rt, replies, conns, fails);
     let stop = serve_all(rt, alloc, desk, plan, owns, &mut own, &mut net)?;
     Ok((stop, own.served))
 }
@@ -225,9 +245,12 @@ fn play<
 ) -> Result<Ended, NoMemory>
     requires { workers ≤ 16 }
 {
-    let conns = silent(alloc, count)?;
-    let fails = Vec::from_slice(alloc, fails)?;
-    serve(rt, alloc, desk, conns, fails, workers, plan)
+    let owns = owns_of(alloc, workers)?;
+    if owns.len() > 1000 {
+        return Err(NoMemory);
+    }
+    let visits = visits_of(alloc, desk, count, fails)?;
+    serve(rt, alloc, desk, visits, owns, plan)
 }
 
 /// A plan with so much room, for so many connections.

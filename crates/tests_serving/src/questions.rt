@@ -113,7 +113,7 @@ fn check_published<R: Abort + AllocGlobal>(
 
 #[test]
 fn publications_are_answered(rt: HostRuntime) -> Result<(), Fail> {
-    let rows: [(Published, &[u8]); 5] = [
+    let rows: &[(Published, &[u8])] = &[
         (Published::Done(12), b"said 12"),
         (
             Published::NotADefinition(1),
@@ -126,7 +126,7 @@ fn publications_are_answered(rt: HostRuntime) -> Result<(), Fail> {
         (Published::Full(Limit::Count), b"failed blueprint full"),
         (Published::Full(Limit::Bytes), b"failed blueprint full"),
     ];
-    for (reply, want) in rows {
+    for &(reply, want) in rows {
         check_published(&rt, reply, want)?;
     }
     Ok(())
