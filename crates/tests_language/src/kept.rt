@@ -3,8 +3,10 @@
 ghost use Rattle.std.specs.Prelude.{◌≡◌, ◌<◌};
 ghost use Rattle.tcl_eval.specs.Engine.{IsIdle};
 
+use crate::abandoned::run_text;
 use crate::echo::Echo;
-use crate::runs::{engine, repeated, run_text};
+use crate::engines::engine;
+use crate::playing::repeated;
 use cmd_table::Steps;
 use natives::Natives;
 use std::alloc::Global;

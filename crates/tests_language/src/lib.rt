@@ -1,7 +1,11 @@
 //! Tests of the language: scripts over a host that echoes, and what they come to.
 #![tactic(auto)]
 
+#[cfg(test)]
+mod abandoned;
 mod echo;
+#[cfg(test)]
+mod engines;
 #[cfg(test)]
 mod kept;
 #[cfg(test)]
@@ -13,4 +17,10 @@ mod marks;
 #[cfg(test)]
 mod pages;
 #[cfg(test)]
+mod playing;
+#[cfg(test)]
 mod runs;
+#[cfg(test)]
+mod stand_ins;
+#[cfg(test)]
+mod told;

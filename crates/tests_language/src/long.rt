@@ -3,7 +3,8 @@
 
 ghost use Rattle.std.specs.Prelude.{◌≡◌, ◌<◌};
 
-use crate::runs::{Run, played, repeated};
+use crate::playing::{Run, played};
+use crate::runs::repeated;
 use cmd_table::Steps;
 use natives::Natives;
 use std::alloc::Global;

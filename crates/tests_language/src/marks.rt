@@ -6,8 +6,10 @@ ghost use Rattle.cmd_table.specs.declared.definition.Def.{Def};
 ghost use Rattle.tcl_eval.specs.Engine.{IsIdle};
 ghost use Rattle.tcl_frame.specs.Frames.{fresh};
 
+use crate::abandoned::run_script;
 use crate::echo::Echo;
-use crate::runs::{engine, run_script, show, show_number};
+use crate::engines::engine;
+use crate::told::{show, show_number};
 use cmd_table::{Def, Steps};
 use natives::Natives;
 use std::alloc::Global;

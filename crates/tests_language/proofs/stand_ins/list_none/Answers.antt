@@ -4,7 +4,7 @@ use Rattle.txt_core.specs.Quoting.{quoting}
 use Rattle.natives.specs.Answers.{limited}
 use Rattle.natives.specs.Lists.{list_reply}
 use Rattle.natives.specs.Pure.{pure_of, pure_list}
-use Rattle.tests_language.proofs.runs.list_none.Goals as goal
+use Rattle.tests_language.proofs.stand_ins.list_none.Goals as goal
 
 -- one word is the name alone
 no_words : (words : List (List ℕ)) → length words ≡ 1 → limited (list_reply words) ≡ Ok []

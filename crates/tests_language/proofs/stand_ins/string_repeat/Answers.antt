@@ -8,7 +8,7 @@ use Rattle.natives.specs.Strings.{subcommand_reply}
 use Rattle.natives.specs.Pure.{pure_of, pure_string}
 use Rattle.natives.specs.declared.fault.Fault.{Fault}
 use Rattle.natives.specs.declared.fault.Fault.TheVariants.{Error, NoMemory}
-use Rattle.tests_language.proofs.runs.string_repeat.Goals as goal
+use Rattle.tests_language.proofs.stand_ins.string_repeat.Goals as goal
 
 -- a text is left out
 two_words : (words : List (List ℕ)) → length words ≡ 3 → subcommand_reply (codes "repeat") words ≡ Err (wrong_words (codes "string"))
