@@ -23,6 +23,8 @@ mod tests_folder;
 #[cfg(test)]
 mod tests_reply;
 #[cfg(test)]
+mod tests_visit;
+#[cfg(test)]
 mod tests_waiting;
 mod turn;
 mod waiting;

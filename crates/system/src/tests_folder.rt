@@ -78,19 +78,36 @@ impl<R: Files> Files for Exchanging<R> {
     }
 }
 
-#[test]
-fn no_page_through_an_exchanged_folder(rt: HostRuntime) -> Result<(), Fail> {
-    let _old = fs::remove_dir_all(&rt, "system_exchanged");
-    for folder in ["", "/site", "/site/in", "/out"] {
-        let folder = format!(in rt.alloc(); "system_exchanged{folder}")?;
-        fs::create_dir(&rt, folder.as_str())?;
+/// The folders that are made for it.
+const FOLDERS: &[&str] = &[
+    "system_exchanged",
+    "system_exchanged/site",
+    "system_exchanged/site/in",
+    "system_exchanged/out",
+];
+
+/// Makes the folders, the page, and a file outside of the root.
+fn make_folders(rt: &HostRuntime) -> io::Result<()> {
+    let _old = fs::remove_dir_all(rt, "system_exchanged");
+    for folder in FOLDERS {
+        fs::create_dir(rt, folder)?;
     }
-    fs::write(&rt, PAGE, b"page".as_slice())?;
-    fs::write(&rt, "system_exchanged/out/b.adp", b"secret".as_slice())?;
+    fs::write(rt, PAGE, b"page".as_slice())?;
+    fs::write(rt, "system_exchanged/out/b.adp", b"secret".as_slice())
+}
+
+/// Whether there is no page in the folder that is exchanged when it is looked at.
+fn is_absent(rt: HostRuntime) -> Result<bool, Fail> {
     let mut pages = FolderPages::new(Exchanging { files: rt }, rt.alloc());
     pages.root(&Text::new(rt.alloc(), b"system_exchanged/site")?)?;
     let answer = pages.page(&Text::new(rt.alloc(), b"/in/b.adp")?);
-    assert!(rt; matches!(answer, PageAnswer::NoPage));
+    Ok(matches!(answer, PageAnswer::NoPage))
+}
+
+#[test]
+fn no_page_through_an_exchanged_folder(rt: HostRuntime) -> Result<(), Fail> {
+    make_folders(&rt)?;
+    assert!(rt; is_absent(rt)?);
     assert!(rt; fs::exists(&rt, "system_exchanged/kept")?);
     fs::remove_dir_all(&rt, "system_exchanged")?;
     Ok(())
@@ -107,23 +124,42 @@ fn length_of<R: Files<File = File> + Copy>(
     }
 }
 
-#[test]
-fn a_long_page_is_cut_behind_the_limit(rt: HostRuntime) -> Result<(), Fail> {
+/// The lengths of files, and how many bytes are given of each as a page.
+const LENGTHS: &[(u64, usize)] = &[
+    (0, 0),
+    (1_048_576, MOST_BYTES),
+    (1_048_577, MOST_BYTES + 1),
+    (3_000_000, MOST_BYTES + 1),
+];
+
+/// The pages of a new folder.
+fn long_pages(rt: HostRuntime) -> Result<FolderPages<HostRuntime>, Fail> {
     let _old = fs::remove_dir_all(&rt, "system_long");
     fs::create_dir(&rt, "system_long")?;
     let mut pages = FolderPages::new(rt, rt.alloc());
     pages.root(&Text::new(rt.alloc(), b"system_long")?)?;
+    Ok(pages)
+}
+
+/// How many lengths of a file are given as they must be, up to the first that isn't.
+fn right_lengths(rt: &HostRuntime, pages: &mut FolderPages<HostRuntime>) -> Result<usize, Fail> {
     let path = Text::new(rt.alloc(), b"/a.adp")?;
-    let file = File::create(&rt, "system_long/a.adp")?;
-    for (size, given) in [
-        (0, 0),
-        (1_048_576, MOST_BYTES),
-        (1_048_577, MOST_BYTES + 1),
-        (3_000_000, MOST_BYTES + 1),
-    ] {
-        file.set_len(size)?;
-        assert_eq!(rt; length_of(&mut pages, &path), Some(given));
+    let file = File::create(rt, "system_long/a.adp")?;
+    let mut right = 0usize;
+    for (size, given) in LENGTHS {
+        file.set_len(*size)?;
+        if length_of(pages, &path) != Some(*given) {
+            return Ok(right);
+        }
+        right = right.saturating_add(1);
     }
+    Ok(right)
+}
+
+#[test]
+fn a_long_page_is_cut_behind_the_limit(rt: HostRuntime) -> Result<(), Fail> {
+    let mut pages = long_pages(rt)?;
+    assert_eq!(rt; right_lengths(&rt, &mut pages)?, 4);
     fs::remove_dir_all(&rt, "system_long")?;
     Ok(())
 }

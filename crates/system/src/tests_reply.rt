@@ -2,13 +2,14 @@
 
 use crate::conn::TcpSink;
 use crate::reply::Reply;
-use crate::tests::{listening, next_ends};
+use crate::tests_visit::Visit;
 use crate::tests_waiting::behind;
 use crate::waiting::Waiting;
-use outside::{ReadAnswer, Sink, Source, WriteAnswer};
+use outside::{ReadAnswer, Sink, WriteAnswer};
 use std::alloc::Global;
 use std::io::Write;
-use std::net::TcpStream;
+use std::net::{TcpListener, TcpStream};
+use std::sync::Wait;
 use std::test::*;
 use std::thread;
 use std::time::{Duration, Instant};
@@ -181,67 +182,92 @@ fn long_ago<R: std::rt::Clock>(rt: &R) -> Result<Instant, Fail> {
 #[test]
 fn a_held_reply_gives_way(rt: HostRuntime) -> Result<(), Fail> {
     let earlier = long_ago(&rt)?;
-    let (mut net, place) = listening(&rt, rt.alloc())?;
-    let mut peer: TcpStream = TcpStream::connect(&rt, place)?;
-    peer.write_all(b"request")?;
-    let (mut source, mut sink) = next_ends(&rt, &mut net)?;
-    let mut bytes = [0u8; 16];
-    assert_eq!(rt; source.read(&mut bytes), ReadAnswer::Bytes(7));
-    let other: TcpStream = TcpStream::connect(&rt, place)?;
-    let ends = next_ends(&rt, &mut net)?;
-    assert!(rt; fails_when_held(&mut sink, &source.waiting, earlier));
-    assert_eq!(rt; sink.faults.count, 1);
+    let mut visit = Visit::new(&rt, rt.alloc())?;
+    assert!(rt; visit.reads(b"request")?);
+    let other = visit.another(&rt)?;
+    assert!(rt; fails_when_held(&mut visit.sink, &visit.source.waiting, earlier));
+    assert_eq!(rt; visit.sink.faults.count, 1);
     // One that takes nothing at all fails after 30 seconds.
     let took = Instant::now(&rt)?.duration_since(earlier);
     assert!(rt; took < Duration::from_secs(31 + 20));
-    drop((peer, other, ends));
+    drop(other);
     Ok(())
+}
+
+/// A connection that is served for long.
+fn long_visit<
+    R: Wait
+        + std::net::Net<Listener = TcpListener, Stream = TcpStream>
+        + std::rt::Clock
+        + Copy
+        + Send
+        + Drop,
+>(rt: &R, alloc: Global) -> Result<Visit<R>, Fail> {
+    let earlier = long_ago(rt)?;
+    let Visit {
+        net,
+        place,
+        peer,
+        mut source,
+        sink,
+    } = Visit::new(rt, alloc)?;
+    let _over = source.session.gives_way(earlier, &source.waiting);
+    Ok(Visit {
+        net,
+        place,
+        peer,
+        source,
+        sink,
+    })
+}
+
+/// Whether a request that comes in two pieces is read and replied to.
+fn in_pieces<R: std::rt::Clock + Drop>(visit: &mut Visit<R>) -> Result<bool, Fail> {
+    Ok(visit.reads(b"fir")? && visit.reads(b"st")? && visit.replies())
+}
+
+/// The same of a request whose second piece comes later.
+fn in_late_pieces<R: std::rt::Clock + Drop>(rt: &R, visit: &mut Visit<R>) -> Result<bool, Fail> {
+    if !visit.reads(b"next")? {
+        return Ok(false);
+    }
+    thread::sleep(rt, Duration::from_millis(110));
+    Ok(visit.reads(b"rest")? && visit.replies())
+}
+
+/// Whether the input ends before what the peer sends is read, and that is no fault.
+fn is_over<R: std::rt::Clock + Drop>(visit: &mut Visit<R>) -> Result<bool, Fail> {
+    visit.peer.write_all(b"last")?;
+    Ok(visit.read() == ReadAnswer::Bytes(0) && visit.source.faults.count == 0)
 }
 
 #[test]
 fn a_long_session_ends_between_requests(rt: HostRuntime) -> Result<(), Fail> {
-    let earlier = long_ago(&rt)?;
-    let (mut net, place) = listening(&rt, rt.alloc())?;
-    let mut peer: TcpStream = TcpStream::connect(&rt, place)?;
-    let (mut source, mut sink) = next_ends(&rt, &mut net)?;
-    let _over = source.session.gives_way(earlier, &source.waiting);
-    let mut bytes = [0u8; 16];
-    peer.write_all(b"fir")?;
-    assert_eq!(rt; source.read(&mut bytes), ReadAnswer::Bytes(3));
-    peer.write_all(b"st")?;
-    assert_eq!(rt; source.read(&mut bytes), ReadAnswer::Bytes(2));
-    assert_eq!(rt; sink.write(b"reply"), WriteAnswer::Took(5));
-    let other: TcpStream = TcpStream::connect(&rt, place)?;
-    let ends = next_ends(&rt, &mut net)?;
-    peer.write_all(b"next")?;
-    assert_eq!(rt; source.read(&mut bytes), ReadAnswer::Bytes(4));
-    thread::sleep(&rt, Duration::from_millis(110));
-    peer.write_all(b"rest")?;
-    assert_eq!(rt; source.read(&mut bytes), ReadAnswer::Bytes(4));
-    assert_eq!(rt; sink.write(b"reply"), WriteAnswer::Took(5));
-    peer.write_all(b"last")?;
-    assert_eq!(rt; source.read(&mut bytes), ReadAnswer::Bytes(0));
-    assert_eq!(rt; source.faults.count, 0);
-    drop((peer, other, ends));
+    let mut visit = long_visit(&rt, rt.alloc())?;
+    assert!(rt; in_pieces(&mut visit)?);
+    let other = visit.another(&rt)?;
+    assert!(rt; in_late_pieces(&rt, &mut visit)?);
+    assert!(rt; is_over(&mut visit)?);
+    drop(other);
     Ok(())
+}
+
+/// How many requests that come whole are read and replied to, up to the first that isn't, of three.
+fn whole_requests<R: std::rt::Clock + Drop>(rt: &R, visit: &mut Visit<R>) -> Result<u32, Fail> {
+    for request in 0..3 {
+        if !visit.reads(b"whole")? || !visit.replies() {
+            return Ok(request);
+        }
+        thread::sleep(rt, Duration::from_millis(60));
+    }
+    Ok(3)
 }
 
 #[test]
 fn a_session_of_whole_requests_goes_on(rt: HostRuntime) -> Result<(), Fail> {
-    let earlier = long_ago(&rt)?;
-    let (mut net, place) = listening(&rt, rt.alloc())?;
-    let mut peer: TcpStream = TcpStream::connect(&rt, place)?;
-    let (mut source, mut sink) = next_ends(&rt, &mut net)?;
-    let _over = source.session.gives_way(earlier, &source.waiting);
-    let other: TcpStream = TcpStream::connect(&rt, place)?;
-    let ends = next_ends(&rt, &mut net)?;
-    let mut bytes = [0u8; 16];
-    for _request in 0..3 {
-        peer.write_all(b"whole")?;
-        assert_eq!(rt; source.read(&mut bytes), ReadAnswer::Bytes(5));
-        assert_eq!(rt; sink.write(b"reply"), WriteAnswer::Took(5));
-        thread::sleep(&rt, Duration::from_millis(60));
-    }
-    drop((peer, other, ends));
+    let mut visit = long_visit(&rt, rt.alloc())?;
+    let other = visit.another(&rt)?;
+    assert_eq!(rt; whole_requests(&rt, &mut visit)?, 3);
+    drop(other);
     Ok(())
 }
