@@ -25,7 +25,7 @@ use Rattle.tcl_eval.proofs.Alike.{run_script_alike}
 use Rattle.tcl_eval.proofs.Kept.{kept_end, next_kept}
 
 -- a value that is there, or the other one where none is
-value_or : Ended → Option Ended → Ended
+abbrev value_or : Ended → Option Ended → Ended
 value_or other None = other
 value_or other (Some value) = value
 

@@ -16,6 +16,7 @@ pub mod Parameters
 pub mod Pairs
 pub mod Rows
 pub mod Plain
+pub mod Sizes
 pub mod Stacks
 pub mod Steps
 pub mod Values

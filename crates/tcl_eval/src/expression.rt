@@ -433,7 +433,8 @@ impl<H: Host> Engine<H> {
         ensures keeps { OnOk result (Keeps self.new self.old) }
         ensures holds { Holds self.new self.old }
     {
-        match simple_value(self.alloc, &self.frames, expr, MOST_AT_ONCE)? {
+        let found = simple_value(self.alloc, &self.frames, expr, MOST_AT_ONCE)?;
+        match found {
             Some(value) => Ok(value),
             None => {
                 let expr = expr.clone()?;

@@ -26,11 +26,11 @@ pub struct Expressions {
 }
 
 impl Model for Expressions {
-    ghost use Rattle.std.specs.Prelude.{Unit};
+    ghost use Rattle.std.specs.Prelude.{⊤};
 
-    ghost Value = { Unit {0} };
+    ghost Value = { ⊤ };
 
-    ghost view = { λ _. record {} };
+    ghost view = { λ _. tt };
 }
 
 impl Expressions {

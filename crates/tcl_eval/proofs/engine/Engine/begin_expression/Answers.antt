@@ -13,10 +13,11 @@ pub returns-in-Some-clause-means : goal.returns-in-Some-clause-means
 returns-in-Some-clause-means g c = λ ns gv.
     let t = g.H.Host.table in
     let e = c.args.self.now in
-    expression_gives ns t c.args.levels (state_of e) e.budget gv (tree_of c.args.expr.now.value) (stack_next ns t e.stack.items) c.in-Some.value c.in-Some.ensures
+    let found = rw c.in-Some.is at c.in_ok-found.ensures in
+    expression_gives ns t c.args.levels (state_of e) e.budget gv (tree_of c.args.expr.now.value) (stack_next ns t e.stack.items) c.in-Some.value (rw c.deref.ensures at found)
 
-pub returns-clause-means : goal.returns-clause-means
-returns-clause-means g c = λ ns gv.
+pub returns-in_ok-push-in-None-clause-means : goal.returns-in_ok-push-in-None-clause-means
+returns-in_ok-push-in-None-clause-means g c = λ ns gv.
     let t = g.H.Host.table in
     let e = c.args.self.now in
     expression_step ns t e.stack.items c.push.new.self.items c.in_ok-expr-in-None.expr c.args.levels c.done.result (state_of e) e.budget gv c.in_ok-push-in-None.ensures.items c.done.ensures

@@ -1,4 +1,4 @@
-use Rattle.std.proofs.Common.{◌∙◌, ap, sym}
+use Rattle.std.proofs.Common.{◌∙◌, ap, sym, arith}
 use Rattle.tcl_parse.specs.View.{script_of}
 use Rattle.tcl_parse.specs.declared.tree.Script.{Script}
 use Rattle.tcl_expr.specs.Trees.{word, unary}
@@ -7,20 +7,24 @@ use Rattle.tcl_expr.specs.declared.expr.Expr.{Expr}
 use Rattle.tcl_eval.specs.Stack.{stack_next}
 use Rattle.tcl_eval.specs.Engine.{state_of}
 use Rattle.tcl_eval.proofs.Expressions.{begun}
+use Rattle.tcl_eval.proofs.Sizes.{has_size}
 use Rattle.tcl_eval.proofs.engine.Engine.give_expression.Goals as goal
+
+pub returns-then-value-ne-OK-clause-falls : goal.returns-then-value-ne-OK-clause-falls
+returns-then-value-ne-OK-clause-falls g c = omega (arith, has_size (tree_of c.args.expr.value))
 
 pub returns-in-Word-clause-means : goal.returns-in-Word-clause-means
 returns-in-Word-clause-means g c = λ ns gv.
     let t = g.H.Host.table in
     let e = c.args.self.now in
     let is = ap (λ (x : Expr). tree_of x) (rw c.deref.ensures at c.in-Word.is) ∙ ap (λ (s : Script). word (only_word (script_of s))) (sym c.in_ok-word-in-Word.ensures.cases) in
-    begun ns t _ c.args.expr.value c.args.levels c.args.value.code c.args.value.result (stack_next ns t e.stack.items) (state_of e) e.budget gv _ c.if-value-ne-OK.false is (c.enter_operand-in-Word.ensures.means ns gv)
+    begun ns t _ c.args.expr.value c.args.levels c.args.value.code c.args.value.result (stack_next ns t e.stack.items) (state_of e) e.budget gv _ c.if-value-ne-OK.false is (c.enter_operand.ensures.means ns gv)
 
 pub returns-in-Unary-clause-means : goal.returns-in-Unary-clause-means
 returns-in-Unary-clause-means g c = λ ns gv.
     let t = g.H.Host.table in
     let e = c.args.self.now in
-    let is = ap (λ (x : Expr). tree_of x) (rw c.deref.ensures at c.in-Unary.is) ∙ ap (λ (x : Expr). unary _ (tree_of x)) (sym c.in_ok-operand-in-Unary.ensures.cases) in
+    let is = ap (λ (x : Expr). tree_of x) (rw c.deref.ensures at c.in-Unary.is) ∙ ap (λ (x : Expr). unary c.in-Unary.op (tree_of x)) (sym c.in_ok-operand-in-Unary.ensures.cases) in
     begun ns t _ c.args.expr.value c.args.levels c.args.value.code c.args.value.result (stack_next ns t e.stack.items) (state_of e) e.budget gv _ c.if-value-ne-OK.false is (c.in_ok-step-in-Unary.ensures.means ns gv)
 
 pub returns-in-Binary-clause-means : goal.returns-in-Binary-clause-means
