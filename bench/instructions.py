@@ -10,7 +10,7 @@ import time
 
 sys.path.insert(0, os.path.join(os.path.dirname(os.path.dirname(os.path.abspath(__file__))), "checks"))
 from rehearsal import DEFAULT_PROGRAM, ROOT, program_of, request  # noqa: E402
-from server import HOST, START, Faulty, Peer, free_port, reply_of, tool, undated, write_pages  # noqa: E402
+from server import HOST, START, Faulty, Peer, free_port, reply_of, undated, write_pages  # noqa: E402
 
 BUILT = os.path.join(ROOT, "crates", "ns_server", "out", "ns_server")
 PAGE = b"proc hi {} {ns_return 200 text/plain hi}\nns_register_proc GET /hi hi\n"
@@ -28,9 +28,9 @@ def counted_program(words):
     return BUILT
 
 
-def callgrind(out):
+def callgrind(valgrind, out):
     """The words that run a program under callgrind."""
-    return [tool("valgrind"), "--tool=callgrind", f"--callgrind-out-file={out}"]
+    return [valgrind, "--tool=callgrind", f"--callgrind-out-file={out}"]
 
 
 def total(out):
@@ -60,14 +60,14 @@ def ask(peer, requests):
             raise Faulty(f"not the reply that is wanted: {reply!r}")
 
 
-def of_requests(program, folder, requests):
+def of_requests(valgrind, program, folder, requests):
     """The instructions of the program's whole life, with so many requests of `hi` on one connection. One worker
     answers them, and keeps its interpreter."""
     root = os.path.join(folder, "root")
     out = os.path.join(folder, "out")
     write_pages(root, {START: PAGE})
     port = free_port()
-    words = [*callgrind(out), program, "serve", "--root", root, "--start", START, "--listen", f"{HOST}:{port}",
+    words = [*callgrind(valgrind, out), program, "serve", "--root", root, "--start", START, "--listen", f"{HOST}:{port}",
              "--workers", "1", "--connections", "1"]
     process = subprocess.Popen(words, stdin=subprocess.DEVNULL, stdout=subprocess.DEVNULL, stderr=subprocess.DEVNULL)
     try:
