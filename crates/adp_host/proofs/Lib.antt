@@ -1,2 +1,1 @@
-pub mod WordsAt
 pub mod Joining

@@ -5,7 +5,8 @@ use Rattle.txt_core.specs.Quoting.{quoting}
 use Rattle.tcl_host.specs.Leaf.{Leaf}
 use Rattle.natives.specs.Words.{arg}
 use Rattle.adp_host.specs.States.{PageState, arguments}
-use Rattle.adp_host.specs.Checks.{gives, fails, is_counted, shaped, paged, integer}
+use Rattle.tcl_host.specs.Checks.{gives, fails, is_counted, shaped}
+use Rattle.adp_host.specs.Checks.{paged, integer}
 
 -- `ns_adp_argc` gives how many arguments the page has, its file among them
 abbrev pub ns_adp_argc : Words → PageState → Leaf PageState

@@ -11,7 +11,8 @@ use Rattle.tcl_host.specs.PagePaths.{page_path, is_page_path}
 use Rattle.tcl_host.specs.Leaf.{Leaf, wants, Onward, goes, enters}
 use Rattle.natives.specs.Words.{arg}
 use Rattle.adp_host.specs.States.{PageState, with_page}
-use Rattle.adp_host.specs.Checks.{fails, shaped, paged, fitting}
+use Rattle.tcl_host.specs.Checks.{fails, shaped, fitting}
+use Rattle.adp_host.specs.Checks.{paged}
 
 -- the page of a path is asked for
 abbrev pub asks_page : Bytes → PageState → Leaf PageState

@@ -5,7 +5,8 @@ use Rattle.outside.specs.Faults.{last_count}
 use Rattle.tcl_host.specs.Codes.{ok, error, return, break, continue, page_return, page_break, page_abort}
 use Rattle.tcl_host.specs.Leaf.{Leaf, says}
 use Rattle.adp_host.specs.States.{PageState, has_page, with_output, with_errors, without_page}
-use Rattle.adp_host.specs.Checks.{is_counted, shaped, paged}
+use Rattle.tcl_host.specs.Checks.{is_counted, shaped}
+use Rattle.adp_host.specs.Checks.{paged}
 
 -- `ns_adp_return`, `ns_adp_break` and `ns_adp_abort` end with their codes and an empty result; they change nothing by themselves
 abbrev pub leaves_with : ℕ → Words → PageState → Leaf PageState

@@ -6,7 +6,8 @@ use Rattle.tcl_host.specs.Leaf.{Leaf, says, TextEnd}
 use Rattle.natives.specs.Words.{arg}
 use Rattle.tcl_host.specs.Codes as code_of
 use Rattle.adp_host.specs.States.{PageState, with_output}
-use Rattle.adp_host.specs.Checks.{is_counted, shaped, paged, fitting}
+use Rattle.tcl_host.specs.Checks.{is_counted, shaped, fitting}
+use Rattle.adp_host.specs.Checks.{paged}
 
 -- how many bytes the output may have
 abbrev pub most_output : ℕ

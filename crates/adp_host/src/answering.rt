@@ -4,14 +4,13 @@ ghost use Rattle.tcl_host.specs.Outcomes.{Comes, ComesTo};
 ghost use Rattle.adp_host.specs.Leaf.{page_call, page_answer};
 
 use crate::arguments::{ns_adp_argc, ns_adp_argv};
-use crate::checks::arg;
 use crate::host::AdpHost;
 use crate::including::{ns_adp_include, page_answered};
 use crate::leaving::leaves_with;
 use crate::output::{ns_adp_append, ns_adp_puts};
 use crate::verb::{Verb, find_verb};
 use outside::Answer;
-use tcl_host::{HostReply, PAGE_ABORT, PAGE_BREAK, PAGE_RETURN, Refusal, ended};
+use tcl_host::{HostReply, PAGE_ABORT, PAGE_BREAK, PAGE_RETURN, Refusal, arg, ended};
 use txt_core::Words;
 
 /// Does a command.

@@ -5,10 +5,10 @@ ghost use Rattle.tcl_host.specs.Outcomes.{EndsWith};
 ghost use Rattle.adp_host.specs.States.{PageState, arguments};
 ghost use Rattle.adp_host.specs.Arguments.{argument, argument_text, ns_adp_argc, ns_adp_argv};
 
-use crate::checks::{arg, integer, is_counted, page_arguments, require_words};
+use crate::checks::{integer, page_arguments};
 use crate::host::AdpHost;
 use std::alloc::Global;
-use tcl_host::Refusal;
+use tcl_host::{Refusal, arg, is_counted, require_words};
 use tcl_list::quote;
 use txt_core::{Text, Words, write_natural};
 

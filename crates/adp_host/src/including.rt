@@ -5,11 +5,13 @@ ghost use Rattle.tcl_host.specs.Answers.{RepliesTo};
 ghost use Rattle.tcl_host.specs.Outcomes.{Comes, ComesTo};
 ghost use Rattle.adp_host.specs.Includes.{ns_adp_include, enters_page, page_answered};
 
-use crate::checks::{arg, behind_name, require_fit, require_page, require_words};
+use crate::checks::{behind_name, require_page};
 use crate::host::AdpHost;
 use adp_parse::pieces;
 use outside::{Answer, Question, Service};
-use tcl_host::{HostReply, Refusal, is_page_path, page_path, refuse};
+use tcl_host::{
+    HostReply, Refusal, arg, is_page_path, page_path, refuse, require_fit, require_words,
+};
 use txt_core::{NoMemory, Text, Words, error_text, is_too_long};
 
 /// `ns_adp_include FILE WORD..` asks for the page.

@@ -4,10 +4,11 @@ ghost use Rattle.std.specs.Prelude.{◌≡◌};
 ghost use Rattle.tcl_host.specs.Outcomes.{Comes};
 ghost use Rattle.adp_host.specs.Leaving.{is_end, is_error, leaves_with, page_left, with_error};
 
-use crate::checks::{is_counted, require_page, require_words};
+use crate::checks::require_page;
 use crate::host::AdpHost;
 use tcl_host::{
     BREAK, CONTINUE, ERROR, HostReply, OK, PAGE_ABORT, PAGE_BREAK, PAGE_RETURN, RETURN, Refusal,
+    is_counted, require_words,
 };
 use txt_core::{Text, Words};
 

@@ -5,10 +5,10 @@ ghost use Rattle.std.specs.List.{concat};
 ghost use Rattle.tcl_host.specs.Outcomes.{EndsWith, PutsOut};
 ghost use Rattle.adp_host.specs.Output.{output_too_long, overfills, put_out, puts_out, is_plain_or_option, line, ns_adp_append, ns_adp_puts};
 
-use crate::checks::{arg, behind_name, is_counted, require_fit, require_page, require_words};
+use crate::checks::{behind_name, require_page};
 use crate::host::AdpHost;
 use std::alloc::Global;
-use tcl_host::{Refusal, refuse};
+use tcl_host::{Refusal, arg, is_counted, refuse, require_fit, require_words};
 use txt_core::{NoMemory, Text, Words};
 
 /// How many bytes the output may have.
