@@ -131,21 +131,11 @@ set_value words number host =
 
 -- ---- the command
 
--- the subcommand of a name
-abbrev pub set_verb_of : Bytes → Option SetVerb
-set_verb_of name =
+-- the subcommand of a name, among those that deal with a set as a whole or with a place in it
+abbrev pub place_verb_of : Bytes → Option SetVerb
+place_verb_of name =
     if bytes_eq name (codes "create") then Some verbs.Create
-    else if bytes_eq name (codes "put") then Some verbs.Put
-    else if bytes_eq name (codes "get") then Some verbs.Get
-    else if bytes_eq name (codes "iget") then Some verbs.Iget
-    else if bytes_eq name (codes "find") then Some verbs.Find
-    else if bytes_eq name (codes "ifind") then Some verbs.Ifind
-    else if bytes_eq name (codes "cput") then Some verbs.Cput
-    else if bytes_eq name (codes "icput") then Some verbs.Icput
-    else if bytes_eq name (codes "update") then Some verbs.Update
     else if bytes_eq name (codes "delete") then Some verbs.Delete
-    else if bytes_eq name (codes "delkey") then Some verbs.Delkey
-    else if bytes_eq name (codes "idelkey") then Some verbs.Idelkey
     else if bytes_eq name (codes "truncate") then Some verbs.Truncate
     else if bytes_eq name (codes "merge") then Some verbs.Merge
     else if bytes_eq name (codes "copy") then Some verbs.Copy
@@ -155,6 +145,21 @@ set_verb_of name =
     else if bytes_eq name (codes "key") then Some verbs.Key
     else if bytes_eq name (codes "value") then Some verbs.Value
     else None
+
+-- the subcommand of a name: those that deal with the fields of a key, and the others
+abbrev pub set_verb_of : Bytes → Option SetVerb
+set_verb_of name =
+    if bytes_eq name (codes "put") then Some verbs.Put
+    else if bytes_eq name (codes "get") then Some verbs.Get
+    else if bytes_eq name (codes "iget") then Some verbs.Iget
+    else if bytes_eq name (codes "find") then Some verbs.Find
+    else if bytes_eq name (codes "ifind") then Some verbs.Ifind
+    else if bytes_eq name (codes "cput") then Some verbs.Cput
+    else if bytes_eq name (codes "icput") then Some verbs.Icput
+    else if bytes_eq name (codes "update") then Some verbs.Update
+    else if bytes_eq name (codes "delkey") then Some verbs.Delkey
+    else if bytes_eq name (codes "idelkey") then Some verbs.Idelkey
+    else place_verb_of name
 
 -- whether a subcommand may have so many words, with both names among them
 abbrev pub set_takes : SetVerb → ℕ → Bool

@@ -1,7 +1,7 @@
 //! The subcommands of `ns_set` by their names.
 
 ghost use Rattle.std.specs.Prelude.{◌≡◌};
-ghost use Rattle.conn_host.specs.SetCommands.{set_verb_of, set_takes};
+ghost use Rattle.conn_host.specs.SetCommands.{place_verb_of, set_verb_of, set_takes};
 
 /// A subcommand of `ns_set`.
 #[derive(Clone, Copy, Debug, PartialEq, Eq)]
@@ -28,34 +28,14 @@ pub enum SetVerb {
     Value,
 }
 
-/// The subcommand of this name, if there is one.
-pub fn find_set_verb(name: &[u8]) -> Option<SetVerb>
-    ensures { result ≡ set_verb_of name.now }
+/// The subcommand of this name among those that deal with a set as a whole or with a place in it.
+fn find_place_verb(name: &[u8]) -> Option<SetVerb>
+    ensures { result ≡ place_verb_of name.now }
 {
     if name == b"create".as_slice() {
         Some(SetVerb::Create)
-    } else if name == b"put".as_slice() {
-        Some(SetVerb::Put)
-    } else if name == b"get".as_slice() {
-        Some(SetVerb::Get)
-    } else if name == b"iget".as_slice() {
-        Some(SetVerb::Iget)
-    } else if name == b"find".as_slice() {
-        Some(SetVerb::Find)
-    } else if name == b"ifind".as_slice() {
-        Some(SetVerb::Ifind)
-    } else if name == b"cput".as_slice() {
-        Some(SetVerb::Cput)
-    } else if name == b"icput".as_slice() {
-        Some(SetVerb::Icput)
-    } else if name == b"update".as_slice() {
-        Some(SetVerb::Update)
     } else if name == b"delete".as_slice() {
         Some(SetVerb::Delete)
-    } else if name == b"delkey".as_slice() {
-        Some(SetVerb::Delkey)
-    } else if name == b"idelkey".as_slice() {
-        Some(SetVerb::Idelkey)
     } else if name == b"truncate".as_slice() {
         Some(SetVerb::Truncate)
     } else if name == b"merge".as_slice() {
@@ -74,6 +54,36 @@ pub fn find_set_verb(name: &[u8]) -> Option<SetVerb>
         Some(SetVerb::Value)
     } else {
         None
+    }
+}
+
+/// The subcommand of this name, if there is one: those that deal with the fields of a key, and the
+/// others.
+pub fn find_set_verb(name: &[u8]) -> Option<SetVerb>
+    ensures { result ≡ set_verb_of name.now }
+{
+    if name == b"put".as_slice() {
+        Some(SetVerb::Put)
+    } else if name == b"get".as_slice() {
+        Some(SetVerb::Get)
+    } else if name == b"iget".as_slice() {
+        Some(SetVerb::Iget)
+    } else if name == b"find".as_slice() {
+        Some(SetVerb::Find)
+    } else if name == b"ifind".as_slice() {
+        Some(SetVerb::Ifind)
+    } else if name == b"cput".as_slice() {
+        Some(SetVerb::Cput)
+    } else if name == b"icput".as_slice() {
+        Some(SetVerb::Icput)
+    } else if name == b"update".as_slice() {
+        Some(SetVerb::Update)
+    } else if name == b"delkey".as_slice() {
+        Some(SetVerb::Delkey)
+    } else if name == b"idelkey".as_slice() {
+        Some(SetVerb::Idelkey)
+    } else {
+        find_place_verb(name)
     }
 }
 
