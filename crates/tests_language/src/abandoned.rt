@@ -5,7 +5,7 @@ ghost use Rattle.tcl_eval.specs.Engine.{IsIdle, Leaves};
 ghost use Rattle.cmd_table.specs.declared.definition.Def.{Def};
 
 use crate::echo::Echo;
-use crate::engines::{answer, start};
+use crate::engines::{answer, engine, start};
 use crate::playing::{Run, repeated, start_script};
 use crate::told::{show, show_number};
 use cmd_table::{Def, Steps};

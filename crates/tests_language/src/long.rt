@@ -3,8 +3,7 @@
 
 ghost use Rattle.std.specs.Prelude.{◌≡◌, ◌<◌};
 
-use crate::playing::{Run, played};
-use crate::runs::repeated;
+use crate::playing::{Run, played, repeated};
 use cmd_table::Steps;
 use natives::Natives;
 use std::alloc::Global;

@@ -4,7 +4,7 @@ ghost use Rattle.std.specs.Prelude.{IfOk, OnOk};
 ghost use Rattle.tcl_eval.specs.Engine.{IsIdle, Leaves};
 
 use crate::echo::Echo;
-use crate::engines::{answer, charge, start};
+use crate::engines::{answer, charge, engine, start};
 use crate::told::{show, show_number};
 use adp_parse::pieces;
 use cmd_table::Steps;
