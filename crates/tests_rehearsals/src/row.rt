@@ -152,7 +152,7 @@ impl Row {
 
 /// Whether a line is text of the file, or empty.
 fn is_text(line: &str) -> bool {
-    line.is_empty() || line.starts_with("|") || line.starts_with("-")
+    line.is_empty() || line.starts_with('|') || line.starts_with('-')
 }
 
 /// Whether a word is one that makes the file.
