@@ -1,7 +1,7 @@
 -- What is carried, as bytes come in behind it.
-use Rattle.std.proofs.Common.{◌≡◌, ℕ, ◌+◌, ◌≤◌, Bool, true, false, List, ◌++◌, length, take, drop, replicate, refl, sym, subst, ap, ◌∙◌, arith, Option, take_all}
-use Rattle.std.specs.Prelude.{if◌then◌else◌}
-use Rattle.std.proofs.Math.Seq.{take-add, take-append_seam}
+use Rattle.std.proofs.Common.{◌≡◌, ℕ, ◌+◌, ◌≤◌, ◌<◌, List, ◌++◌, length, take, drop, refl, sym, subst, ap, ◌∙◌, arith, Option}
+use Rattle.std.proofs.Math.Seq.{take-add}
+use Rattle.std.proofs.lemmas.List.{take-take, length-take, length-drop}
 use Rattle.outside.specs.Reading.{Gives, Reads}
 use Rattle.outside.specs.declared.source.ReadAnswer.{ReadAnswer}
 use Rattle.outside.specs.declared.source.ReadAnswer.TheVariants.{Bytes, Failed}
@@ -17,16 +17,19 @@ pub read_counts : (r s : Option (List ℕ)) (f g : ℕ) (a b : List ℕ) (answer
 read_counts r s f g a b (Bytes n) reads = reads.1
 read_counts r s f g a b Failed reads = reads.2
 
--- the front of a list that is made longer, or can't be
-pub front_of_grown : (xs : List ℕ) (n end more : ℕ) (done : Bool) → n ≡ length xs → n ≤ end
-    → take n (if done then take end xs ++ replicate more 0 else xs) ≡ xs
-front_of_grown xs n end more true long within =
-    ap (λ l. take n (l ++ replicate more 0)) (take_all end xs (omega (arith, long, within)))
-    ∙ ap (λ j. take j (xs ++ replicate more 0)) long ∙ take-append_seam xs (replicate more 0)
-front_of_grown xs n end more false long within = take_all n xs (omega (arith, long))
+-- a read gives no more than it has room for
+pub read_fits : (r s : Option (List ℕ)) (f g : ℕ) (a b : List ℕ) (answer : ReadAnswer) (count : ℕ) → count ≡ count_of answer
+    → Reads r f a answer b s g → count ≤ length a
+read_fits r s f g a b (Bytes n) count is reads = omega (arith, is, reads.0.fits)
+read_fits r s f g a b Failed count is reads = omega (arith, is)
 
--- what was read into a buffer behind what was carried, and cut where it ends, is carried behind it
-pub carried : (xs grown filled buffer after : List ℕ) (n count : ℕ) → after ≡ take (n + count) filled → filled ≡ buffer → take n buffer ≡ take n grown
-    → take n grown ≡ xs → after ≡ xs ++ take count (drop n buffer)
-carried xs grown filled buffer after n count cut same front old =
-    cut ∙ ap (take (n + count)) same ∙ take-add n count buffer ∙ ap (λ l. l ++ take count (drop n buffer)) (front ∙ old)
+-- there is no more room than between the two places
+pub room_between : (buffer : List ℕ) (n end count : ℕ) → n < end → count ≤ length (drop n (take end buffer)) → n + count ≤ end
+room_between buffer n end count within fits = omega (arith, within, fits, length-drop n (take end buffer), length-take end buffer)
+
+-- what was read between two places of a buffer, behind what was carried, is carried behind it
+pub carried : (xs grown buffer : List ℕ) (n count end : ℕ) → n + count ≤ end → take n buffer ≡ take n grown → take n grown ≡ xs
+    → take (n + count) buffer ≡ xs ++ take count (drop n (take end buffer))
+carried xs grown buffer n count end within front old =
+    sym (take-take (n + count) end buffer within) ∙ take-add n count (take end buffer)
+    ∙ ap (λ l. l ++ take count (drop n (take end buffer))) (take-take n end buffer (omega (arith, within)) ∙ front ∙ old)

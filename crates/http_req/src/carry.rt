@@ -1,15 +1,18 @@
 //! Bytes that were read and not used.
 
-ghost use Rattle.std.specs.Prelude.{◌≡◌, ◌≤◌, ◌<◌, [], length, take, drop, OnOk, OnErr, IfErr};
+ghost use Rattle.std.specs.Prelude.{◌≡◌, ◌≤◌, ◌<◌, ℕ, [], length, take, drop, OnOk, OnErr, IfErr};
 ghost use Rattle.outside.specs.Reading.{Reads};
 ghost use Rattle.http_req.specs.Limits.{head_limit};
 ghost use Rattle.http_req.specs.Fetching.{Moves, Stopped};
 ghost use Rattle.http_req.specs.declared.carry.Stop.TheVariants as stop;
 
+use crate::checks::FIELD_LIMIT;
 use crate::head::HEAD_LIMIT;
+use httparse::spans::{EMPTY_HEADER_SPAN, HeaderSpan};
 use outside::{ReadAnswer, Source, count_of, read_behind};
-use std::alloc::Global;
+use std::alloc::{AllocError, Global};
 use std::marker::Model;
+use std::mem;
 
 /// So many bytes are asked of a source at once where it isn't known how many are missing, and the
 /// least where it is.
@@ -19,12 +22,20 @@ pub(crate) const PIECE_SIZE: usize = 4_096;
 const LARGE_PIECE_SIZE: usize = 1_048_576;
 
 /// Bytes that were read from a source and not used yet. Contracts see it as the list of them.
+///
+/// They are the first ones of a buffer that is kept from one read to the next, so a read clears nothing
+/// but what the buffer grows by.
 #[derive(Debug, Drop)]
 pub struct Carry {
-    bytes: Vec<u8>,
+    buffer: Vec<u8>,
+    /// How many bytes of the buffer are carried.
+    len: usize,
+    /// Room for the places of a head's fields, kept from one request to the next.
+    spans: Vec<HeaderSpan>,
 }
 
 impl Model for Carry {
+    ghost use Rattle.std.specs.Prelude.{◌≤◌, length, take};
     ghost use Rattle.std.specs.Coded.{coded_list, coded_ℕ};
     ghost use Rattle.txt_core.specs.Names.{Bytes};
 
@@ -32,7 +43,9 @@ impl Model for Carry {
 
     ghost coded = { coded_list coded_ℕ };
 
-    ghost view = { λ a. a.bytes.items };
+    ghost view = { λ a. take a.len a.buffer.items };
+
+    ghost invariant = { λ a. a.len ≤ length a.buffer.items };
 }
 
 /// Why no more bytes were fetched.
@@ -52,20 +65,40 @@ impl Carry {
         ensures { result ≡ [] }
     {
         Carry {
-            bytes: Vec::new(alloc),
+            buffer: Vec::new(alloc),
+            len: 0,
+            spans: Vec::new(alloc),
         }
     }
 
     pub(crate) fn bytes(&self) -> &[u8]
         ensures { result.now ≡ self.now }
     {
-        self.bytes.as_slice()
+        &self.buffer[..self.len]
     }
 
     pub(crate) fn len(&self) -> usize
         ensures { result ≡ length self.now }
     {
-        self.bytes.len()
+        self.len
+    }
+
+    /// Takes out the room for the places of fields, of which there may be `FIELD_LIMIT` at least.
+    pub(crate) fn take_spans(&mut self, alloc: Global) -> Result<Vec<HeaderSpan>, AllocError>
+        ensures { self.new ≡ self.old }
+    {
+        let mut spans = mem::replace(&mut self.spans, Vec::new(alloc));
+        if spans.len() < FIELD_LIMIT {
+            spans.resize(FIELD_LIMIT, EMPTY_HEADER_SPAN)?;
+        }
+        Ok(spans)
+    }
+
+    /// Puts the room for the places of fields back.
+    pub(crate) fn keep_spans(&mut self, spans: Vec<HeaderSpan>)
+        ensures { self.new ≡ self.old }
+    {
+        self.spans = spans;
     }
 
     /// Takes the bytes of a request off the front. Only those behind them are moved.
@@ -73,13 +106,12 @@ impl Carry {
         requires { count ≤ length self.old }
         ensures { self.new ≡ drop count self.old }
     {
-        let len = self.bytes.len();
-        self.bytes.copy_within(count..len, 0);
-        self.bytes.truncate(len - count);
+        self.buffer.copy_within(count..self.len, 0);
+        self.len -= count;
     }
 
     /// Reads one piece, of at most so many bytes, and puts it at the end: the source writes it there
-    /// itself, over zeros.
+    /// itself.
     pub(crate) fn fetch<S: Source>(&mut self, source: &mut S, most: usize) -> Result<(), Stop>
         requires room { 0 < most }
         ensures moves { Moves self.old (S.rest source.old) (S.faults source.old) self.new
@@ -90,13 +122,13 @@ impl Carry {
             Stopped (S.rest source.old) (S.faults source.old) stop (S.rest source.new)
             (S.faults source.new)) }
     {
-        let start = self.bytes.len();
+        let start = self.len;
         let end = start.saturating_add(most);
-        if end == start || self.bytes.resize(end, 0).is_err() {
+        if end == start || lengthen(&mut self.buffer, end).is_err() {
             return Err(Stop::NoMemory);
         }
-        let answer = read_behind(source, self.bytes.as_mut_slice(), start);
-        self.bytes.truncate(start + count_of(answer));
+        let answer = read_between(source, &mut self.buffer, start, end);
+        self.len = start + count_of(answer);
         match answer {
             ReadAnswer::Bytes(0) => Err(Stop::End),
             ReadAnswer::Bytes(_) => Ok(()),
@@ -154,12 +186,43 @@ impl Carry {
         ensures short { OnErr result (length self.new < size) }
         ensures stopped { IfErr result (λ why. why ≡ stop.NoMemory) }
     {
-        let len = self.len();
-        if len < size && self.bytes.reserve(size - len).is_err() {
+        let there = self.buffer.len();
+        if there < size && self.buffer.reserve(size - there).is_err() {
             return Err(Stop::NoMemory);
         }
         Ok(())
     }
+}
+
+/// Makes a buffer so long at least. It keeps what stands in it, and what it grows by is cleared.
+fn lengthen(buffer: &mut Vec<u8>, end: usize) -> Result<(), AllocError>
+    ensures long { OnOk result (end ≤ length buffer.new.items) }
+    ensures grows { length buffer.old.items ≤ length buffer.new.items }
+    ensures front { (len : ℕ) → len ≤ length buffer.old.items
+        → take len buffer.new.items ≡ take len buffer.old.items }
+{
+    if end <= buffer.len() {
+        return Ok(());
+    }
+    buffer.resize(end, 0)
+}
+
+/// Reads into what stands between two places of a buffer, and leaves what stands before.
+fn read_between<S: Source>(
+    source: &mut S,
+    buffer: &mut [u8],
+    start: usize,
+    end: usize,
+) -> ReadAnswer
+    requires room { start < end }
+    requires within { end ≤ length buffer.old }
+    ensures reads { Reads (S.rest source.old) (S.faults source.old)
+        (drop start (take end buffer.old)) result (drop start (take end buffer.new))
+        (S.rest source.new) (S.faults source.new) }
+    ensures front { take start buffer.new ≡ take start buffer.old }
+    ensures kept { length buffer.new ≡ length buffer.old }
+{
+    read_behind(source, &mut buffer[..end], start)
 }
 
 /// How many bytes to ask for where so many are missing, and the last read gave so many: no more than

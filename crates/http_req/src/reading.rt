@@ -56,9 +56,25 @@ fn receive<S: Source>(
     ensures { Received carry.old (S.rest source.old) (S.faults source.old) peer.now result carry.new
         (S.rest source.new) (S.faults source.new) }
 {
-    let mut spans = vec![in alloc; EMPTY_HEADER_SPAN; FIELD_LIMIT]?;
-    let head = read_head(source, carry, &mut spans)?;
-    let request = check(alloc, carry.bytes(), &head, &spans, peer)?;
+    let mut spans = carry.take_spans(alloc)?;
+    let received = receive_with(alloc, source, carry, &mut spans, peer);
+    carry.keep_spans(spans);
+    received
+}
+
+/// Receives a request, with room for the places of its fields.
+fn receive_with<S: Source>(
+    alloc: Global,
+    source: &mut S,
+    carry: &mut Carry,
+    spans: &mut Vec<HeaderSpan>,
+    peer: &Text,
+) -> Result<Request, Got>
+    ensures { Received carry.old (S.rest source.old) (S.faults source.old) peer.now result carry.new
+        (S.rest source.new) (S.faults source.new) }
+{
+    let head = read_head(source, carry, spans)?;
+    let request = check(alloc, carry.bytes(), &head, spans, peer)?;
     read_body(alloc, source, carry, request, head.len)
 }
 
@@ -142,7 +158,7 @@ fn show(
         minor: head.version,
         fields: pairs(alloc, bytes, &spans[..head.headers])?,
         body: Text::empty(alloc),
-        peer: Text::new(alloc, peer.bytes())?,
+        peer: peer.copy(alloc)?,
     })
 }
 

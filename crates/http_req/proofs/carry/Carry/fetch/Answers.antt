@@ -1,20 +1,25 @@
-use Rattle.std.proofs.Common.{rules, ◌≡◌, ◌≤◌, length, take, drop, ap, ◌∙◌}
-use Rattle.std.proofs.lemmas.List.{places}
-use Rattle.http_req.proofs.Carrying.{read_gives, read_counts, front_of_grown, carried}
+use Rattle.std.proofs.Common.{rules, ◌≡◌, ◌+◌, ◌≤◌, ◌<◌, length, take, drop, ap, sym, ◌∙◌}
+use Rattle.std.proofs.lemmas.List.{with_items_is}
+use Rattle.http_req.proofs.Carrying.{read_gives, read_counts, read_fits, room_between, carried}
 use Rattle.http_req.proofs.carry.Carry.fetch.Goals as goal
 
 pub returns-clause-moves : goal.returns-clause-moves
 returns-clause-moves g c =
-    let start = c.len-start.result in
-    let old : c.self.inside.bytes.items ≡ c.args.self.now = search rules in
-    let long : start ≡ length c.self.inside.bytes.items = search rules in
-    let within : start ≤ c.saturating_add-end.result = search rules in
+    let start = c.self.inside.len in
+    let end = c.saturating_add-end.result in
+    let count = c.count_of.result in
+    let read = c.read_between-answer.new.buffer in
+    let reads = c.read_between-answer.ensures.reads in
+    let old : take start c.self.inside.buffer.items ≡ c.args.self.now = search rules in
+    let room : start < end = search rules in
+    let within : start + count ≤ end = room_between c.deref_mut.result.now start end count room
+    (read_fits _ _ _ _ _ _ c.read_between-answer.result count c.count_of.ensures reads) in
+    let long : length read ≡ c.lengthen.new.buffer.len = c.read_between-answer.ensures.kept ∙ ap length c.deref_mut.ensures.value ∙ sym c.lengthen.new.buffer.ok.0 in
     record {
-      given = take c.count_of.result (drop start c.read_behind-answer.new.buffer);
-      gives = read_gives _ _ _ _ _ _ c.read_behind-answer.result c.count_of.result c.count_of.ensures c.read_behind-answer.ensures.reads;
-      kept = carried c.args.self.now c.as_mut_slice.result.now _ c.read_behind-answer.new.buffer _ start c.count_of.result c.truncate.ensures.items
-          (search (rules, places)) c.read_behind-answer.ensures.front
-          (ap (take start) (c.as_mut_slice.ensures.value ∙ c.resize.ensures.items)
-          ∙ front_of_grown c.self.inside.bytes.items start c.saturating_add-end.result _ _ long within ∙ old);
-      counts = read_counts _ _ _ _ _ _ c.read_behind-answer.result c.read_behind-answer.ensures.reads;
+      given = take count (drop start (take end read));
+      gives = read_gives _ _ _ _ _ _ c.read_between-answer.result count c.count_of.ensures reads;
+      kept = ap (take (start + count)) (with_items_is c.lengthen.new.buffer read long) ∙ carried c.args.self.now c.lengthen.new.buffer.items read start count end within
+          (c.read_between-answer.ensures.front ∙ ap (take start) c.deref_mut.ensures.value)
+          (c.lengthen.ensures.front start c.self.invariant ∙ old);
+      counts = read_counts _ _ _ _ _ _ c.read_between-answer.result reads;
     }
