@@ -1,6 +1,6 @@
 //! Field lines.
 
-ghost use Rattle.std.specs.Prelude.{◌≡◌, ◌++◌, IfOk, OnOk, bytes_eq};
+ghost use Rattle.std.specs.Prelude.{◌≡◌, ◌++◌, IfOk, OnOk, bytes_eq, codes};
 ghost use Rattle.std.specs.List.{list_all, list_any};
 ghost use Rattle.http_header.specs.Token.{is_value_byte};
 ghost use Rattle.http_resp.specs.OutputFields.{field_line, is_sent, own_names, output_lines};
@@ -19,6 +19,15 @@ pub fn push_field(text: &mut Text, name: &[u8], value: &[u8]) -> Result<(), NoMe
 {
     text.append(name)?;
     text.append(b": ")?;
+    text.append(value)?;
+    text.append(b"\r\n")
+}
+
+/// Appends a field line that begins with these bytes: a name, a colon and a space.
+pub fn push_line(text: &mut Text, start: &[u8], value: &[u8]) -> Result<(), NoMemory>
+    ensures { OnOk result (text.new ≡ text.old ++ start.now ++ value.now ++ codes "\r\n") }
+{
+    text.append(start)?;
     text.append(value)?;
     text.append(b"\r\n")
 }

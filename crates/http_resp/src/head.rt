@@ -1,11 +1,12 @@
 //! The bytes of a response.
 
-ghost use Rattle.std.specs.Prelude.{◌≡◌, ◌++◌, IfOk, OnOk};
+ghost use Rattle.std.specs.Prelude.{◌≡◌, ◌++◌, IfOk, OnOk, codes};
+ghost use Rattle.http_resp.specs.OutputFields.{field_line};
 ghost use Rattle.http_resp.specs.ResponseBytes.{response_bytes, head_bytes, content_lines, connection_line, has_content};
 ghost use Rattle.http_resp.specs.StatusLine.{reason, status_text, status_line};
 
 use crate::date::fixdate;
-use crate::fields::{push_field, push_output_fields};
+use crate::fields::{push_line, push_output_fields};
 use crate::response::Response;
 use itoa::Buffer;
 use std::alloc::Global;
@@ -16,6 +17,10 @@ const NO_CONTENT: u16 = 204;
 
 /// 304, whose responses have none either (RFC 9110, section 15.4.5).
 const NOT_MODIFIED: u16 = 304;
+
+/// A head's room for its status line and the fields that the server writes itself. More is taken where
+/// it is missing.
+const HEAD_ROOM: usize = 256;
 
 /// The reason phrase of a status code.
 #[tactic(auto, unfolding(crate::specs::StatusLine::reason))]
@@ -76,36 +81,48 @@ fn push_content_fields(text: &mut Text, response: &Response) -> Result<(), NoMem
     if !has_content(response.status) {
         return Ok(());
     }
-    push_field(text, b"Content-Type", response.kind.bytes())?;
+    push_line(text, b"Content-Type: ", response.kind.bytes())?;
     let mut digits = Buffer::new();
-    push_field(
+    push_line(
         text,
-        b"Content-Length",
+        b"Content-Length: ",
         digits.format(response.body.len()).as_bytes(),
     )?;
     Ok(())
 }
 
-/// Appends the field that says whether the connection stays open.
-#[tactic(auto, unfolding(crate::specs::ResponseBytes::connection_line))]
-fn push_connection_field(text: &mut Text, close: bool) -> Result<(), NoMemory>
-    ensures { OnOk result (text.new ≡ text.old ++ connection_line close) }
+/// The field that says whether the connection stays open.
+#[tactic(auto, unfolding(crate::specs::ResponseBytes::connection_line, crate::specs::OutputFields::field_line))]
+fn connection_line(close: bool) -> &'static [u8]
+    ensures { result.now ≡ connection_line close }
 {
-    let option: &[u8] = if close { b"close" } else { b"keep-alive" };
-    push_field(text, b"Connection", option)
+    if close {
+        return b"Connection: close\r\n";
+    }
+    b"Connection: keep-alive\r\n"
 }
 
-/// The head of a response, with its empty line.
+/// Appends the field that names the server.
+#[tactic(auto, unfolding(crate::specs::OutputFields::field_line))]
+fn push_server_field(text: &mut Text) -> Result<(), NoMemory>
+    ensures { OnOk result
+        (text.new ≡ text.old ++ field_line (codes "Server") (codes "AOLserver-profile/1")) }
+{
+    text.append(b"Server: AOLserver-profile/1\r\n")
+}
+
+/// The head of a response, with its empty line. There is room behind it for the body.
 fn head(alloc: Global, response: &Response, moment: u64, close: bool) -> Result<Text, NoMemory>
     ensures { IfOk result (λ text. text ≡ head_bytes response.now moment close) }
 {
-    let mut text = Text::empty(alloc);
+    let room = HEAD_ROOM.saturating_add(response.body.len());
+    let mut text = Text::from_vec(Vec::with_capacity(alloc, room)?);
     push_status_line(&mut text, response.status)?;
-    push_field(&mut text, b"Date", &fixdate(moment))?;
-    push_field(&mut text, b"Server", b"AOLserver-profile/1")?;
+    push_line(&mut text, b"Date: ", &fixdate(moment))?;
+    push_server_field(&mut text)?;
     push_output_fields(alloc, &mut text, &response.fields)?;
     push_content_fields(&mut text, response)?;
-    push_connection_field(&mut text, close)?;
+    text.append(connection_line(close))?;
     text.append(b"\r\n")?;
     Ok(text)
 }

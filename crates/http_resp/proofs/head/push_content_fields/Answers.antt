@@ -1,6 +1,6 @@
-use Rattle.std.proofs.Common.{◌≡◌, true, false, sym, ◌∙◌, append-nil, append_assoc}
+use Rattle.std.proofs.Common.{◌≡◌, true, false, sym, ◌∙◌, ap, append-nil, decimal}
 use Rattle.http_resp.specs.ResponseBytes.{has_content}
-use Rattle.http_resp.proofs.ContentLemmas.{no_content_lines, content_lines_are}
+use Rattle.http_resp.proofs.ContentLemmas.{no_content_lines, content_lines_from}
 use Rattle.http_resp.proofs.head.push_content_fields.Goals as goal
 
 pub returns-then-not-has_content : goal.returns-then-not-has_content
@@ -11,5 +11,5 @@ returns-then-not-has_content c =
 pub returns : goal.returns
 returns c =
     let with_content : has_content c.args.response.now.status ≡ true = sym c.has_content.ensures ∙ c.if-not-has_content.false in
-    rw (content_lines_are c.args.response.now with_content, ← append_assoc)
-    (cc (c.in_ok-push_field.ensures, c.in_ok-push_field-2.ensures, c.bytes.ensures, c.format.ensures.text, c.as_bytes.ensures.value, c.len.ensures))
+    content_lines_from c.args.response.now c.args.text.now _ _ _ _ with_content c.in_ok-push_line.ensures c.in_ok-push_line-2.ensures c.bytes.ensures
+    (c.as_bytes.ensures.value ∙ c.format.ensures.text ∙ ap decimal c.len.ensures)
