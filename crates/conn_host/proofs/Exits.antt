@@ -7,7 +7,8 @@ use Rattle.tcl_host.specs.Outcomes.{EndsWith}
 use Rattle.tcl_host.specs.declared.refusal.Refusal.{Refusal}
 use Rattle.tcl_host.specs.declared.refusal.Refusal.TheVariants.{Error, NoMemory}
 use Rattle.conn_host.specs.Conns.{ConnState}
-use Rattle.conn_host.specs.Checks.{Checked, given, fails, connected}
+use Rattle.tcl_host.specs.Checks.{fails}
+use Rattle.conn_host.specs.Checks.{Checked, given, connected}
 use Rattle.txt_core.specs.ErrorTexts.{no_connection}
 use Rattle.conn_host.specs.Answers.{Finds, Passes, Refuses}
 

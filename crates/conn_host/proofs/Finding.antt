@@ -1,7 +1,8 @@
 -- Checks that stand on other checks.
 use Rattle.std.proofs.Common.{◌≡◌, ap, sym, refl, ℕ, Bool, true, false, List, Ok, Err, ◌&&◌}
 use Rattle.std.specs.Prelude.{ℤ, pos, negsuc}
-use Rattle.conn_host.specs.Checks.{Checked, unfit}
+use Rattle.tcl_host.specs.Checks.{unfit}
+use Rattle.conn_host.specs.Checks.{Checked}
 use Rattle.conn_host.specs.Answers.{Finds}
 use Rattle.conn_host.proofs.Exits.{not_fit_there}
 use Rattle.conn_host.specs.Responding.{status_of}

@@ -1,7 +1,6 @@
 pub mod Fields
 pub mod OneMoreField
 pub mod Taken
-pub mod WordsAt
 pub mod Escaping
 pub mod Exits
 pub mod Finding

@@ -13,7 +13,8 @@ use Rattle.tcl_host.specs.PagePaths.{is_page_path}
 use Rattle.tcl_host.specs.Leaf.{Leaf, wants, stores}
 use Rattle.natives.specs.Words.{arg}
 use Rattle.conn_host.specs.Conns.{ConnState, with_channels}
-use Rattle.conn_host.specs.Checks.{Checked, gives, fails, given, counted, unfit, count}
+use Rattle.tcl_host.specs.Checks.{gives, fails, unfit}
+use Rattle.conn_host.specs.Checks.{Checked, given, counted, count}
 use Rattle.conn_host.specs.Errors.{too_many_channels}
 use Rattle.conn_host.specs.Ids.{channel_id, channel_at}
 

@@ -13,7 +13,8 @@ use Rattle.http_req.specs.declared.request.Request.{Request}
 use Rattle.tcl_host.specs.Leaf.{Leaf}
 use Rattle.natives.specs.Words.{arg}
 use Rattle.conn_host.specs.Conns.{ConnState, headers_set, output_set, form_set}
-use Rattle.conn_host.specs.Checks.{Checked, gives, given, shaped, counted, connection, count, no_subcommand}
+use Rattle.tcl_host.specs.Checks.{gives, shaped, no_subcommand}
+use Rattle.conn_host.specs.Checks.{Checked, given, counted, connection, count}
 use Rattle.conn_host.specs.Credentials.{credentials}
 use Rattle.conn_host.specs.Ids.{set_id}
 use Rattle.conn_host.specs.declared.conn_verb.ConnVerb.{ConnVerb}

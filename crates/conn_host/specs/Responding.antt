@@ -10,7 +10,8 @@ use Rattle.http_resp.specs.declared.response.Response.{Response}
 use Rattle.tcl_host.specs.Leaf.{Leaf}
 use Rattle.natives.specs.Words.{arg}
 use Rattle.conn_host.specs.Conns.{ConnState, with_response, output_fields}
-use Rattle.conn_host.specs.Checks.{Checked, gives, fails, given, counted, connection, integer, unfit}
+use Rattle.tcl_host.specs.Checks.{gives, fails, unfit}
+use Rattle.conn_host.specs.Checks.{Checked, given, counted, connection, integer}
 
 abbrev pub respond_where : Option Response → Response → ConnState → Leaf ConnState
 respond_where None response host = gives [] (with_response host response)

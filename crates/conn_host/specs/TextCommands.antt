@@ -9,7 +9,8 @@ use Rattle.http_resp.specs.Moment.{fixdate}
 use Rattle.tcl_host.specs.Leaf.{Leaf}
 use Rattle.natives.specs.Words.{arg}
 use Rattle.conn_host.specs.Conns.{ConnState}
-use Rattle.conn_host.specs.Checks.{Checked, gives, given, counted, count, unfit}
+use Rattle.tcl_host.specs.Checks.{gives, unfit}
+use Rattle.conn_host.specs.Checks.{Checked, given, counted, count}
 
 -- a letter, a digit, or one of `-_.~` (RFC 3986, section 2.3)
 abbrev pub is_unreserved : ℕ → Bool

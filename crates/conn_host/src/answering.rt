@@ -4,7 +4,6 @@ ghost use Rattle.tcl_host.specs.Outcomes.{Comes};
 ghost use Rattle.conn_host.specs.Leaf.{conn_call, conn_answer};
 
 use crate::channel::{close, eof, gets, open, page_answered, read};
-use crate::checks::word;
 use crate::encoding::{ns_httptime, ns_time, ns_urldecode, ns_urlencode};
 use crate::host::ConnHost;
 use crate::requested::{ns_conn, ns_queryget};
@@ -12,14 +11,14 @@ use crate::responding::{ns_return, ns_returnnotfound, ns_returnredirect};
 use crate::setting::ns_set;
 use crate::verb::{Verb, find_verb};
 use outside::Answer;
-use tcl_host::{HostReply, Refusal, ended};
+use tcl_host::{HostReply, Refusal, arg, ended};
 use txt_core::Words;
 
 /// Does a command.
 pub fn dispatch(host: &mut ConnHost, words: &Words) -> Result<HostReply, Refusal>
     ensures { Comes result host.new (conn_call words.now host.old) }
 {
-    let Some(verb) = find_verb(word(words, 0)) else {
+    let Some(verb) = find_verb(arg(words, 0)) else {
         return Ok(HostReply::NotMine);
     };
     match verb {
@@ -45,7 +44,7 @@ pub fn dispatch(host: &mut ConnHost, words: &Words) -> Result<HostReply, Refusal
 pub fn answer(host: &mut ConnHost, words: &Words, answer: &Answer) -> Result<HostReply, Refusal>
     ensures { Comes result host.new (conn_answer words.now answer.now host.old) }
 {
-    if word(words, 0) != b"open".as_slice() {
+    if arg(words, 0) != b"open".as_slice() {
         return Ok(HostReply::NotMine);
     }
     ended(page_answered(host, words, answer))

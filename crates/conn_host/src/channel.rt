@@ -5,14 +5,14 @@ ghost use Rattle.chan_core.specs.Chans.{channel, left_in, with_left};
 ghost use Rattle.tcl_host.specs.Outcomes.{Comes, EndsWith};
 ghost use Rattle.conn_host.specs.ChannelCommands.{open_page, opens, line_length, page_answered, gets, read, eof, close};
 
-use crate::checks::{count, require_count, require_fit, word};
+use crate::checks::{count, require_count};
 use crate::error::too_many_channels;
 use crate::host::ConnHost;
 use crate::id::{channel_at, channel_id};
 use chan_core::{ChanFault, Chans};
 use natives::word_at;
 use outside::{Answer, Question, Service};
-use tcl_host::{HostReply, Refusal, done, is_page_path, refuse};
+use tcl_host::{HostReply, Refusal, arg, done, is_page_path, refuse, require_fit};
 use txt_core::{NoMemory, Text, Words, error_text, is_too_long, write_int};
 
 /// The length of the line where there is none.
@@ -37,7 +37,7 @@ pub fn open(host: &mut ConnHost, words: &Words) -> Result<HostReply, Refusal>
 {
     let alloc = host.alloc;
     require_count(alloc, 2, 2, words)?;
-    require_fit(alloc, is_page_path(word(words, 1)), words, 1)?;
+    require_fit(alloc, is_page_path(arg(words, 1)), words, 1)?;
     let mut asked = Words::new(alloc);
     asked.add(word_at(words, 1).copy(alloc)?)?;
     Ok(HostReply::Ask(Question {
@@ -63,7 +63,7 @@ pub fn page_answered(host: &mut ConnHost, words: &Words, answer: &Answer) -> Res
     ensures { EndsWith result host.new (page_answered words.now answer.now host.old) }
 {
     let alloc = host.alloc;
-    let path = word(words, 1);
+    let path = arg(words, 1);
     match answer {
         Answer::Page(page) => {
             if is_too_long(page) {

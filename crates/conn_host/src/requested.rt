@@ -11,7 +11,7 @@ ghost use Rattle.conn_host.specs.Conns.{form_set};
 ghost use Rattle.conn_host.specs.RequestCommands.{path_of, version_of, request_line, not_long, content, tells, ns_conn, query_value, ns_queryget};
 
 use crate::authorization::credentials_of;
-use crate::checks::{count, require_count, require_words, unknown_subcommand, word};
+use crate::checks::{count, require_count, unknown_subcommand};
 use crate::conn_verb::{ConnVerb, find_conn_verb};
 use crate::host::{ConnHost, FORM_SET, HEADERS_SET, OUTPUT_SET, kept};
 use crate::id::set_id;
@@ -19,7 +19,7 @@ use crate::responding::require_connection;
 use http_req::Request;
 use natives::word_at;
 use std::alloc::Global;
-use tcl_host::{Refusal, refuse};
+use tcl_host::{Refusal, arg, refuse, require_words};
 use tcl_list::quote;
 use txt_core::{NoMemory, Text, Words, error_text, is_over_limit, write_natural};
 
@@ -131,7 +131,7 @@ pub fn ns_conn(host: &mut ConnHost, words: &Words) -> Result<Text, Refusal>
 {
     let alloc = host.alloc;
     require_count(alloc, 2, 4, words)?;
-    let Some(verb) = find_conn_verb(word(words, 1)) else {
+    let Some(verb) = find_conn_verb(arg(words, 1)) else {
         return Err(unknown_subcommand(alloc, words));
     };
     require_words(alloc, verb.takes(words.len()), words)?;
@@ -162,7 +162,7 @@ fn query_value(host: &ConnHost, words: &Words) -> Result<Text, NoMemory>
     if is_in_form(host, key) {
         kept(host.sets.iget(FORM_SET, key))
     } else {
-        Text::new(host.alloc, word(words, 2))
+        Text::new(host.alloc, arg(words, 2))
     }
 }
 

@@ -5,20 +5,20 @@ ghost use Rattle.ns_sets.specs.Fields.{exact, ignoring_case};
 ghost use Rattle.tcl_host.specs.Outcomes.{EndsWith};
 ghost use Rattle.conn_host.specs.SetCommands.{on_set, set_takes, set_create, set_put, set_get, set_find, set_cput, set_update, set_delkey, set_truncate, set_merge, set_copy, set_free, set_size, set_name, does_set, ns_set};
 
-use crate::checks::{count, require_count, require_words, unknown_subcommand, word};
+use crate::checks::{count, require_count, unknown_subcommand};
 use crate::host::{ConnHost, kept};
 use crate::id::{set_at, set_id};
 use crate::set_field::{set_delete, set_key, set_value};
 use crate::set_verb::{SetVerb, find_set_verb};
 use natives::word_at;
-use tcl_host::Refusal;
+use tcl_host::{Refusal, arg, require_words};
 use txt_core::{Text, Words, write_int, write_natural};
 
 /// `create ?NAME?`.
 fn set_create(host: &mut ConnHost, words: &Words) -> Result<Text, Refusal>
     ensures { EndsWith result host.new (set_create words.now host.old) }
 {
-    let name = Text::new(host.alloc, word(words, 2))?;
+    let name = Text::new(host.alloc, arg(words, 2))?;
     let set = host.sets.create(name)?;
     Ok(set_id(host.alloc, set)?)
 }
@@ -216,7 +216,7 @@ pub fn ns_set(host: &mut ConnHost, words: &Words) -> Result<Text, Refusal>
     ensures { EndsWith result host.new (ns_set words.now host.old) }
 {
     require_count(host.alloc, 2, 5, words)?;
-    let Some(verb) = find_set_verb(word(words, 1)) else {
+    let Some(verb) = find_set_verb(arg(words, 1)) else {
         return Err(unknown_subcommand(host.alloc, words));
     };
     require_words(host.alloc, verb.takes(words.len()), words)?;
