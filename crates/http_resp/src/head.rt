@@ -1,6 +1,6 @@
 //! The bytes of a response.
 
-ghost use Rattle.std.specs.Prelude.{◌≡◌, ◌++◌, IfOk, OnOk, codes};
+ghost use Rattle.std.specs.Prelude.{◌≡◌, ◌++◌, IfOk, OnOk, MatchOption, codes};
 ghost use Rattle.http_resp.specs.OutputFields.{field_line};
 ghost use Rattle.http_resp.specs.ResponseBytes.{response_bytes, head_bytes, content_lines, connection_line, has_content};
 ghost use Rattle.http_resp.specs.StatusLine.{reason, status_text, status_line};
@@ -22,39 +22,50 @@ const NOT_MODIFIED: u16 = 304;
 /// it is missing.
 const HEAD_ROOM: usize = 256;
 
-/// The reason phrase of a status code.
+/// The code and the reason phrase of a status that has a phrase of its own.
 #[tactic(auto, unfolding(crate::specs::StatusLine::reason))]
-fn reason(status: u16) -> &'static [u8]
-    ensures { result.now ≡ reason status }
+fn known_status(status: u16) -> Option<&'static [u8]>
+    ensures { MatchOption result (reason status ≡ codes "Unknown")
+        (λ text. text.now ≡ status_text status) }
 {
     match status {
-        200 => b"OK",
-        201 => b"Created",
-        204 => b"No Content",
-        301 => b"Moved Permanently",
-        302 => b"Found",
-        304 => b"Not Modified",
-        400 => b"Bad Request",
-        401 => b"Unauthorized",
-        403 => b"Forbidden",
-        404 => b"Not Found",
-        405 => b"Method Not Allowed",
-        413 => b"Content Too Large",
-        431 => b"Request Header Fields Too Large",
-        500 => b"Internal Server Error",
-        501 => b"Not Implemented",
-        503 => b"Service Unavailable",
-        _ => b"Unknown",
+        200 => Some(b"200 OK"),
+        201 => Some(b"201 Created"),
+        204 => Some(b"204 No Content"),
+        301 => Some(b"301 Moved Permanently"),
+        302 => Some(b"302 Found"),
+        304 => Some(b"304 Not Modified"),
+        400 => Some(b"400 Bad Request"),
+        401 => Some(b"401 Unauthorized"),
+        403 => Some(b"403 Forbidden"),
+        404 => Some(b"404 Not Found"),
+        405 => Some(b"405 Method Not Allowed"),
+        413 => Some(b"413 Content Too Large"),
+        431 => Some(b"431 Request Header Fields Too Large"),
+        500 => Some(b"500 Internal Server Error"),
+        501 => Some(b"501 Not Implemented"),
+        503 => Some(b"503 Service Unavailable"),
+        _ => None,
     }
+}
+
+/// Appends a status code that has no reason phrase of its own.
+fn push_unknown(text: &mut Text, status: u16) -> Result<(), NoMemory>
+    requires { reason status ≡ codes "Unknown" }
+    ensures { OnOk result (text.new ≡ text.old ++ status_text status) }
+{
+    text.append(Buffer::new().format(status).as_bytes())?;
+    text.append(b" Unknown")
 }
 
 /// Appends a status code and its reason phrase.
 pub fn push_status(text: &mut Text, status: u16) -> Result<(), NoMemory>
     ensures { OnOk result (text.new ≡ text.old ++ status_text status) }
 {
-    text.append(Buffer::new().format(status).as_bytes())?;
-    text.append(b" ")?;
-    text.append(reason(status))
+    match known_status(status) {
+        Some(known) => text.append(known),
+        None => push_unknown(text, status),
+    }
 }
 
 /// Appends the status line.
