@@ -66,11 +66,12 @@ impl<R: Copy + Drop> TcpNet<R> {
     }
 }
 
-/// An address in digits. One of the old form within the new one is written in the old form.
+/// An address in digits. One of the old form within the new one is written in the old form. Each request
+/// of its connection has it once more, so its bytes are shared.
 fn name_of(alloc: Global, address: IpAddr) -> Result<Text, NoMemory> {
     let address = address.to_canonical();
     let name = format!(in alloc; "{address}")?;
-    Text::new(alloc, name.as_bytes())
+    Text::new(alloc, name.as_bytes())?.share(alloc)
 }
 
 /// Whether an error of an accept is of the connection alone that was to be given, or of a signal.
