@@ -665,8 +665,8 @@ module _ {H : Type 0} (P Q : State H → ℕ → Given → Out H → Type 0) (Sh
   frame_good rule any ns (frames.Caught name) k h = catch_end_good name k h
   frame_good rule any ns (frames.Expression expr levels) k h =
       let inner : Inner H = nested ns t levels in
-      on_ok_good (λ v. run_expression inner (expression_tree expr) k) k
-      (λ v. run_expression_good inner (run_script_good rule ns levels) (expression_tree expr) k h) h
+      on_ok_good (λ v. run_expression inner (expression_tree expr.value) k) k
+      (λ v. run_expression_good inner (run_script_good rule ns levels) (expression_tree expr.value) k h) h
   frame_good rule any ns (frames.Operation op) k h = on_ok_good (λ v. give (with_one op v) k) k (λ v. give_good (with_one op v) k h) h
   frame_good rule any ns (frames.Left op right levels) k h =
       let inner : Inner H = nested ns t levels in

@@ -1,7 +1,6 @@
 //! The reading of a file for the plain machine: line by line, from the whole of it.
 
-use crate::plain_site::MOST_STEPS;
-use crate::plain_world::{Connection, World};
+use crate::plain::{Connection, Kind, MOST_STEPS, World};
 use cmd_table::Steps;
 use natives::Natives;
 use rehearse::Rehearsal;
@@ -20,8 +19,7 @@ fn number(alloc: Global, word: &[u8]) -> Result<Option<u64>, NoMemory> {
     match read_int_bytes(word) {
         None => Ok(None),
         Some(n) => {
-            let digits = write_int(alloc, n)?;
-            let same = digits.bytes() == word;
+            let same = write_int(alloc, n)?.bytes() == word;
             Ok(if same && n >= 0 { Some(n as u64) } else { None })
         }
     }
@@ -47,49 +45,6 @@ fn cut_block(bytes: &[u8], size: u64, most: u64) -> Option<(&[u8], &[u8])> {
 }
 
 impl World {
-    /// Sets a page: what is left behind the event; `None` where it is none.
-    fn act_page<'a>(
-        &mut self,
-        alloc: Global,
-        path: &[u8],
-        size: u64,
-        rest: &'a [u8],
-    ) -> Result<Option<&'a [u8]>, NoMemory> {
-        let Some((page, left)) = cut_block(rest, size, 1_048_576) else {
-            return Ok(None);
-        };
-        if path.first() != Some(&b'/') {
-            return Ok(None);
-        }
-        let path = Text::new(alloc, path)?;
-        let page = Text::new(alloc, page)?;
-        self.site.pages.push((path, page))?;
-        Ok(Some(left))
-    }
-
-    /// Gives a worker a connection: what is left behind the event; `None` where it is none.
-    fn act_connect<'a>(
-        &mut self,
-        alloc: Global,
-        worker: &[u8],
-        size: u64,
-        rest: &'a [u8],
-    ) -> Result<Option<&'a [u8]>, NoMemory> {
-        let Some(worker) = number(alloc, worker)? else {
-            return Ok(None);
-        };
-        let Some((input, left)) = cut_block(rest, size, 16_777_216) else {
-            return Ok(None);
-        };
-        if worker >= self.workers.len() as u64 || !self.is_idle(worker as usize) {
-            return Ok(None);
-        }
-        if let Some(slot) = self.workers.get_mut(worker as usize) {
-            *slot = Some(Connection::new(alloc, input)?);
-        }
-        Ok(Some(left))
-    }
-
     /// Sets a page or gives a connection: what is left behind the event; `None` where it is none.
     fn act_with_name<'a>(
         &mut self,
@@ -105,10 +60,34 @@ impl World {
             return Ok(None);
         };
         if name == b"page".as_slice() {
-            self.act_page(alloc, first, size, rest)
-        } else {
-            self.act_connect(alloc, first, size, rest)
+            let Some((page, left)) = cut_block(rest, size, 1_048_576) else {
+                return Ok(None);
+            };
+            if first.first() != Some(&b'/') {
+                return Ok(None);
+            }
+            self.pages
+                .push((Text::new(alloc, first)?, Text::new(alloc, page)?))?;
+            return Ok(Some(left));
         }
+        let Some(worker) = number(alloc, first)? else {
+            return Ok(None);
+        };
+        let Some((input, left)) = cut_block(rest, size, 16_777_216) else {
+            return Ok(None);
+        };
+        if worker >= self.workers.len() as u64 || !self.is_idle(worker as usize) {
+            return Ok(None);
+        }
+        if let Some(slot) = self.workers.get_mut(worker as usize) {
+            *slot = Some(Connection {
+                input: Text::new(alloc, input)?,
+                begun: 0,
+                bytes: 0,
+                run: None,
+            });
+        }
+        Ok(Some(left))
     }
 
     /// Lets an actor take one step, or steps until it is idle; whether there is one.
@@ -172,11 +151,12 @@ impl World {
             let Some((block, left)) = cut_block(rest, value, 8_388_608) else {
                 return Ok(None);
             };
-            self.site.define(alloc, natives, block, steps)?;
+            let run = self.begin(alloc, Kind::Define(Text::new(alloc, block)?))?;
+            self.define(alloc, natives, run, steps)?;
             return Ok(Some(left));
         }
         if name == b"clock".as_slice() && value <= 253_402_300_799 {
-            self.site.moment = value;
+            self.moment = value;
             return Ok(Some(rest));
         }
         if name == b"workers".as_slice() && first && value >= 1 && value <= 16 {
@@ -187,43 +167,29 @@ impl World {
         }
         Ok(None)
     }
-
-    /// Plays a file, and gives how its rehearsal must end.
-    fn play<L: Ledger>(
-        &mut self,
-        alloc: Global,
-        natives: &Natives,
-        file: &[u8],
-        steps: &mut Steps<L>,
-    ) -> Result<Rehearsal, NoMemory> {
-        let mut left = file;
-        for event in 1..MOST_EVENTS {
-            if left.is_empty() {
-                break;
-            }
-            let came = match cut(left, b'\n') {
-                None => None,
-                Some((line, rest)) => self.act(alloc, natives, event == 1, line, rest, steps)?,
-            };
-            match came {
-                Some(rest) if file.len().saturating_sub(rest.len()) <= MOST_BYTES => left = rest,
-                _ => return Ok(Rehearsal::BadEvent { event }),
-            }
-        }
-        Ok(Rehearsal::Done)
-    }
 }
 
-/// Adds what the rehearsal of a file must write, and gives how it must end.
+/// What the rehearsal of a file must answer and write.
 pub fn play<L: Ledger>(
     alloc: Global,
     natives: &Natives,
     file: &[u8],
     steps: &mut Steps<L>,
-    listing: &mut Text,
-) -> Result<Rehearsal, NoMemory> {
+) -> Result<(Rehearsal, Text), NoMemory> {
     let mut world = World::new(alloc, natives)?;
-    let answer = world.play(alloc, natives, file, steps)?;
-    listing.append(world.site.listing.bytes())?;
-    Ok(answer)
+    let mut left = file;
+    for event in 1..MOST_EVENTS {
+        if left.is_empty() {
+            break;
+        }
+        let came = match cut(left, b'\n') {
+            None => None,
+            Some((line, rest)) => world.act(alloc, natives, event == 1, line, rest, steps)?,
+        };
+        match came {
+            Some(rest) if file.len().saturating_sub(rest.len()) <= MOST_BYTES => left = rest,
+            _ => return Ok((Rehearsal::BadEvent { event }, world.listing)),
+        }
+    }
+    Ok((Rehearsal::Done, world.listing))
 }

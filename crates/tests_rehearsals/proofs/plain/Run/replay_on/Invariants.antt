@@ -1,5 +1,5 @@
 use Rattle.ictl.specs.Falls.{StandsAt}
-use Rattle.tests_rehearsals.proofs.plain_run.Run.replay_on.Given as goal
+use Rattle.tests_rehearsals.proofs.plain.Run.replay_on.Given as goal
 
 -- the interpreter stands at what it answered last
 abbrev pub invariant-answers : goal.invariant-answers
