@@ -17,4 +17,4 @@ returns-in_ok-acted-in-Some-Built-clause-means g c = λ gv.
     let ns = names_of c.args.natives.now in
     let t = g.H.Host.table in
     let e = c.args.self.now in
-    built_step ns t (nested ns t c.args.levels) c.args.words c.in_ok-words-in-Some-Built.words c.first_word-name.result.now c.in-Some-Built.own (stack_next ns t e.stack.items) (state_of e) e.budget gv _ (rw c.in-Some-Built.field-0-is at c.in-Some-Built.ensures) c.first_word-name.ensures c.in_ok-words-in-Some-Built.ensures (c.in_ok-acted-in-Some-Built.ensures.means gv)
+    built_step ns t (nested ns t c.args.levels) c.args.words c.in_ok-words-in-Some-Built.words c.first_word-name.result.now c.in-Some-Built.own (stack_next ns t e.stack.items) (state_of e) e.budget gv _ (rw c.in-Some-Built.field-0-is at c.in-Some-Built.ensures) c.first_word-name.ensures (rw c.in-Some-Built.field-0-is at c.in_ok-words-in-Some-Built.ensures) (c.in_ok-acted-in-Some-Built.ensures.means gv)
