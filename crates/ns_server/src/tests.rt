@@ -21,6 +21,9 @@ const WRITE_PIECE: usize = 100;
 
 const ERROR_PIECE: usize = 5;
 
+/// How many bytes are told of the first event.
+const DEFINED: usize = 10;
+
 /// A procedure, its URL and a GET of it. The first event has 79 bytes.
 const HI: &[u8] = b"define 68\n\
     proc hi {} {ns_return 200 text/plain hi}\n\
@@ -69,45 +72,26 @@ const NONE_LISTING: &[u8] = b"response 0 0 176\n\
     404 Not Found\n\n\
     closed 0 ended\n";
 
-/// The calls of the input, the output and the errors that are to fail.
-type Fails<'a> = (&'a [u64], &'a [u64], &'a [u64]);
-
-/// None of them.
-const WELL: Fails<'static> = (&[], &[], &[]);
-
-/// A run of the program, and what must come of it: the words, the input, what is to fail, the status, the
-/// output and the errors.
-type Case<'a> = (&'a [&'a [u8]], &'a [u8], Fails<'a>, u8, &'a [u8], &'a [u8]);
-
-/// The words of a rehearsal, and those of a load of one request and of so many that each of its numbers has
-/// several digits.
-const REHEARSE: &[&[u8]] = &[b"rehearse"];
-
-const LOAD_OF_1: &[&[u8]] = &[b"load", b"1"];
-
-const LOAD_OF_2000: &[&[u8]] = &[b"load", b"2000"];
-
-const COUNTS_OF_1: &[u8] = b"requests 1\nstatus 200 1\nstatus 404 0\nbytes 156\n";
-
-const COUNTS_OF_2000: &[u8] = b"requests 2000\nstatus 200 1302\nstatus 404 698\nbytes 328055\n";
-
-/// What is told of words that are none of the program's.
-const BAD: &[u8] = b"bad words\n";
-
-/// The streams of a run, and the pages of a server.
-#[derive(Drop)]
-struct Streams {
-    input: MemSource,
-    output: MemSink,
-    errors: MemSink,
-    pages: MemPages,
+/// A run of the program, and what must come of it.
+#[derive(Clone, Copy)]
+struct Case {
+    words: &'static [&'static [u8]],
+    input: &'static [u8],
+    read_fails: &'static [u64],
+    write_fails: &'static [u64],
+    error_fails: &'static [u64],
+    status: u8,
+    output: &'static [u8],
+    errors: &'static [u8],
 }
 
-/// What came of a run: its status, its streams, and what the connections were sent.
+/// The status, the output and the errors of a run.
 #[derive(Drop)]
 struct Came {
     status: u8,
-    streams: Streams,
+    output: MemSink,
+    errors: MemSink,
+    /// What the connections were sent.
     replies: Replies,
 }
 
@@ -121,77 +105,6 @@ fn words_of(alloc: Global, texts: &[&[u8]]) -> Result<Words, NoMemory> {
     Ok(words)
 }
 
-/// Pages with the one that starts a server.
-fn start_pages(alloc: Global) -> Result<MemPages, NoMemory> {
-    let mut pages = MemPages::new(alloc, Vec::new(alloc));
-    pages.set(Text::new(alloc, b"/s")?, Text::new(alloc, PAGE)?)?;
-    Ok(pages)
-}
-
-/// A sink that takes so many bytes at once, of whose calls these fail.
-fn sink_of(alloc: Global, piece: usize, fails: &[u64]) -> Result<MemSink, NoMemory> {
-    let fails = Vec::from_slice(alloc, fails)?;
-    Ok(MemSink::new(alloc, piece.max(1), fails))
-}
-
-/// The streams of a case.
-fn streams_of(alloc: Global, case: &Case<'_>) -> Result<Streams, NoMemory> {
-    let (_, input, (reads, writes, tells), _, _, _) = *case;
-    let content = Text::new(alloc, input)?;
-    let reads = Vec::from_slice(alloc, reads)?;
-    Ok(Streams {
-        input: MemSource::new(content, READ_PIECE, reads),
-        output: sink_of(alloc, WRITE_PIECE, writes)?,
-        errors: sink_of(alloc, ERROR_PIECE, tells)?,
-        pages: start_pages(alloc)?,
-    })
-}
-
-/// Runs the program on these streams, and on a net that gives these connections; the status.
-fn status_of<
-    L: Ledger,
-    R: Threads
-        + Wait
-        + Sync
-        + std::rt::Clock
-        + std::net::Net<Listener = TcpListener, Stream = TcpStream>
-        + Copy
-        + Send
-        + Drop,
->(
-    rt: &R,
-    alloc: Global,
-    natives: &Natives,
-    words: &Words,
-    streams: &mut Streams,
-    replies: Replies,
-    conns: Vec<MemConn>,
-    blank: Blank,
-) -> u8
-    requires name { blank.name ≡ L.name }
-    requires parts { blank.parts ≡ L.parts }
-    requires some { 0 < blank.parts }
-{
-    let mut net = MemNet::new(*rt, replies, conns, Vec::new(alloc));
-    let mut clock = MemClock::new(0, 0);
-    let mut steps = [Steps::<L>::new(blank)];
-    run(
-        rt,
-        alloc,
-        natives,
-        words,
-        &mut streams.input,
-        &mut streams.output,
-        &mut streams.errors,
-        &mut net,
-        &mut streams.pages,
-        &mut clock,
-        &OpenGate,
-        &mut steps,
-    )
-}
-
-/// Runs the program for a case.
 fn play<
     L: Ledger,
     R: Threads
@@ -202,36 +115,45 @@ fn play<
         + Copy
         + Send
         + Drop,
->(rt: &R, alloc: Global, natives: &Natives, blank: Blank, case: &Case<'_>) -> Result<Came, NoMemory>
+>(rt: &R, alloc: Global, natives: &Natives, blank: Blank, case: &Case) -> Result<Came, NoMemory>
     requires name { blank.name ≡ L.name }
     requires parts { blank.parts ≡ L.parts }
     requires some { 0 < blank.parts }
 {
-    let words = words_of(alloc, case.0)?;
-    let mut streams = streams_of(alloc, case)?;
+    let words = words_of(alloc, case.words)?;
+    let content = Text::new(alloc, case.input)?;
+    let reads = Vec::from_slice(alloc, case.read_fails)?;
+    let writes = Vec::from_slice(alloc, case.write_fails)?;
+    let tells = Vec::from_slice(alloc, case.error_fails)?;
+    let mut input = MemSource::new(content, READ_PIECE, reads);
+    let mut output = MemSink::new(alloc, WRITE_PIECE, writes);
+    let mut errors = MemSink::new(alloc, ERROR_PIECE, tells);
     let replies = Replies::new(alloc)?;
-    let sent = replies.copy()?;
-    let conns = greetings(alloc)?;
-    let status = status_of::<L, R>(rt, alloc, natives, &words, &mut streams, sent, conns, blank);
+    let mut net = MemNet::new(*rt, replies.copy()?, greetings(alloc)?, Vec::new(alloc));
+    let mut pages = MemPages::new(alloc, Vec::new(alloc));
+    pages.set(Text::new(alloc, b"/s")?, Text::new(alloc, PAGE)?)?;
+    let mut clock = MemClock::new(0, 0);
+    let mut steps = [Steps::<L>::new(blank)];
+    let status = run(
+        rt,
+        alloc,
+        natives,
+        &words,
+        &mut input,
+        &mut output,
+        &mut errors,
+        &mut net,
+        &mut pages,
+        &mut clock,
+        &OpenGate,
+        &mut steps,
+    );
     Ok(Came {
         status,
-        streams,
+        output,
+        errors,
         replies,
     })
-}
-
-/// What comes of a case.
-fn came_of<
-    R: Threads
-        + Wait
-        + Sync
-        + std::rt::Clock
-        + std::net::Net<Listener = TcpListener, Stream = TcpStream>
-        + Copy
-        + Send
-        + Drop,
->(rt: &R, alloc: Global, natives: &Natives, case: &Case<'_>) -> Result<Came, NoMemory> {
-    play::<Brand, R>(rt, alloc, natives, Blank::new(1), case)
 }
 
 /// Two connections of one request.
@@ -249,14 +171,50 @@ fn greetings(alloc: Global) -> Result<Vec<MemConn>, NoMemory> {
     Ok(conns)
 }
 
-/// Whether what came is what must come: the status, the output, and the errors.
-fn compared(came: &Came, case: &Case<'_>) -> [bool; 3] {
-    let (_, _, _, status, output, errors) = *case;
-    [
-        came.status == status,
-        came.streams.output.taken().bytes() == output,
-        came.streams.errors.taken().bytes() == errors,
-    ]
+fn rehearsal(
+    input: &'static [u8],
+    status: u8,
+    output: &'static [u8],
+    errors: &'static [u8],
+) -> Case {
+    Case {
+        words: &[b"rehearse"],
+        input,
+        read_fails: &[],
+        write_fails: &[],
+        error_fails: &[],
+        status,
+        output,
+        errors,
+    }
+}
+
+/// A load of one request, which reads nothing.
+fn load_of_one(status: u8, output: &'static [u8], errors: &'static [u8]) -> Case {
+    Case {
+        words: &[b"load", b"1"],
+        read_fails: &[0],
+        ..rehearsal(HI, status, output, errors)
+    }
+}
+
+/// A load of so many requests that each of its numbers has several digits.
+fn load_of_2000() -> Case {
+    Case {
+        words: &[b"load", b"2000"],
+        ..load_of_one(
+            0,
+            b"requests 2000\nstatus 200 1302\nstatus 404 698\nbytes 328055\n",
+            b"",
+        )
+    }
+}
+
+fn others(words: &'static [&'static [u8]]) -> Case {
+    Case {
+        words,
+        ..rehearsal(HI, 2, b"", b"bad words\n")
+    }
 }
 
 /// Runs the program for each case, and looks at what came.
@@ -271,109 +229,106 @@ fn check_cases<
         + Copy
         + Send
         + Drop,
->(rt: &R, cases: &[Case<'_>]) -> Result<(), Fail> {
+>(rt: &R, cases: &[Case]) -> Result<(), Fail> {
     let natives = Natives::new(rt.alloc());
     for (number, case) in cases.iter().enumerate() {
-        let came = came_of(rt, rt.alloc(), &natives, case)?;
-        assert_eq!(rt; compared(&came, case), [true; 3], "case {number}");
+        let came = play::<Brand, R>(rt, rt.alloc(), &natives, Blank::new(1), case)?;
+        assert_eq!(rt; came.status, case.status, "status of case {number}");
+        assert!(rt;
+            came.output.taken().bytes() == case.output,
+            "output of case {number}"
+        );
+        assert!(rt;
+            came.errors.taken().bytes() == case.errors,
+            "errors of case {number}"
+        );
     }
     Ok(())
 }
 
-const STATUSES: &[Case<'_>] = &[
-    (REHEARSE, HI, WELL, 0, HI_LISTING, b""),
-    (REHEARSE, NONE, WELL, 0, NONE_LISTING, b""),
-    (REHEARSE, b"", WELL, 0, b"", b""),
-    (REHEARSE, b"connect 5 0\n\n", WELL, 1, b"", b"bad event 1\n"),
-    (REHEARSE, HI_AND_MORE, WELL, 1, HI_LISTING, b"bad event 4\n"),
-    (&[], HI, WELL, 2, b"", BAD),
-    (&[b"rehearse", b""], HI, WELL, 2, b"", BAD),
-    (&[b"rehears"], HI, WELL, 2, b"", BAD),
-    (&[b"rehearsed"], HI, WELL, 2, b"", BAD),
-    (&[b"--help"], HI, WELL, 2, b"", BAD),
-    (&[b"serve"], HI, WELL, 2, b"", BAD),
-    (&[b"serve", b"--root", b"r"], HI, WELL, 2, b"", BAD),
-    (
-        REHEARSE,
-        HI,
-        (&[1], &[], &[]),
-        3,
-        b"defined 1\n",
-        b"read fault\n",
-    ),
-    (
-        REHEARSE,
-        HI,
-        (&[], &[1], &[]),
-        4,
-        b"defined 1\n",
-        b"write fault\n",
-    ),
-    (REHEARSE, HI_AND_MORE, (&[], &[], &[0]), 1, HI_LISTING, b""),
-    (REHEARSE, b"\n", (&[], &[], &[1]), 1, b"", b"bad e"),
-];
-
 #[test]
 fn each_status_has_its_cause_and_its_line(rt: HostRuntime) -> Result<(), Fail> {
-    check_cases(&rt, STATUSES)
+    let cases = [
+        rehearsal(HI, 0, HI_LISTING, b""),
+        rehearsal(NONE, 0, NONE_LISTING, b""),
+        rehearsal(b"", 0, b"", b""),
+        rehearsal(b"connect 5 0\n\n", 1, b"", b"bad event 1\n"),
+        rehearsal(HI_AND_MORE, 1, HI_LISTING, b"bad event 4\n"),
+        others(&[]),
+        others(&[b"rehearse", b""]),
+        others(&[b"rehears"]),
+        others(&[b"rehearsed"]),
+        others(&[b"--help"]),
+        others(&[b"serve"]),
+        others(&[b"serve", b"--root", b"r"]),
+        Case {
+            read_fails: &[1],
+            ..rehearsal(HI, 3, b"defined 1\n", b"read fault\n")
+        },
+        Case {
+            write_fails: &[1],
+            ..rehearsal(HI, 4, &HI_LISTING[..DEFINED], b"write fault\n")
+        },
+        Case {
+            error_fails: &[0],
+            ..rehearsal(HI_AND_MORE, 1, HI_LISTING, b"")
+        },
+        Case {
+            error_fails: &[1],
+            ..rehearsal(b"\n", 1, b"", b"bad e")
+        },
+    ];
+    check_cases(&rt, &cases)
 }
-
-/// A load reads nothing, so that each has an input whose first call fails. That of 2000 is run twice.
-const LOADS: &[Case<'_>] = &[
-    (LOAD_OF_1, HI, (&[0], &[], &[]), 0, COUNTS_OF_1, b""),
-    (LOAD_OF_2000, HI, (&[0], &[], &[]), 0, COUNTS_OF_2000, b""),
-    (LOAD_OF_2000, HI, (&[0], &[], &[]), 0, COUNTS_OF_2000, b""),
-    (LOAD_OF_1, HI, (&[0], &[0], &[]), 4, b"", b"write fault\n"),
-    (&[b"load"], HI, WELL, 2, b"", BAD),
-    (&[b"load", b"0"], HI, WELL, 2, b"", BAD),
-    (&[b"load", b"01"], HI, WELL, 2, b"", BAD),
-    (&[b"load", b"+1"], HI, WELL, 2, b"", BAD),
-    (&[b"load", b"100001"], HI, WELL, 2, b"", BAD),
-    (&[b"load", b"1", b"1"], HI, WELL, 2, b"", BAD),
-    (&[b"Load", b"1"], HI, WELL, 2, b"", BAD),
-];
 
 #[test]
 fn loads_tell_what_is_counted(rt: HostRuntime) -> Result<(), Fail> {
-    check_cases(&rt, LOADS)
-}
-
-/// A server of two connections.
-const SERVER: Case<'static> = (
-    &[
-        b"serve",
-        b"--root",
-        b"r",
-        b"--start",
-        b"/s",
-        b"--listen",
-        b"127.0.0.1:0",
-        b"--connections",
-        b"2",
-    ],
-    HI,
-    WELL,
-    0,
-    b"",
-    b"",
-);
-
-/// How many connections were sent a reply of its length, up to the first that wasn't, of two.
-fn served<R: Wait>(rt: &R, replies: &Replies) -> Result<u64, NoMemory> {
-    for connection in 0..2u64 {
-        let text = replies.taken(rt, connection)?;
-        if !text.is_some_and(|text| text.len() == REPLY) {
-            return Ok(connection);
-        }
-    }
-    Ok(2)
+    let cases = [
+        load_of_one(
+            0,
+            b"requests 1\nstatus 200 1\nstatus 404 0\nbytes 156\n",
+            b"",
+        ),
+        load_of_2000(),
+        load_of_2000(),
+        Case {
+            write_fails: &[0],
+            ..load_of_one(4, b"", b"write fault\n")
+        },
+        others(&[b"load"]),
+        others(&[b"load", b"0"]),
+        others(&[b"load", b"01"]),
+        others(&[b"load", b"+1"]),
+        others(&[b"load", b"100001"]),
+        others(&[b"load", b"1", b"1"]),
+        others(&[b"Load", b"1"]),
+    ];
+    check_cases(&rt, &cases)
 }
 
 #[test]
 fn what_a_net_gives_is_served(rt: HostRuntime) -> Result<(), Fail> {
     let natives = Natives::new(rt.alloc());
-    let came = came_of(&rt, rt.alloc(), &natives, &SERVER)?;
-    assert_eq!(rt; compared(&came, &SERVER), [true; 3]);
-    assert_eq!(rt; served(&rt, &came.replies)?, 2);
+    let case = Case {
+        words: &[
+            b"serve",
+            b"--root",
+            b"r",
+            b"--start",
+            b"/s",
+            b"--listen",
+            b"127.0.0.1:0",
+            b"--connections",
+            b"2",
+        ],
+        ..rehearsal(HI, 0, b"", b"")
+    };
+    let came = play::<Brand, _>(&rt, rt.alloc(), &natives, Blank::new(1), &case)?;
+    assert_eq!(rt; came.status, 0);
+    assert!(rt; came.output.taken().is_empty() && came.errors.taken().is_empty());
+    for connection in 0..2 {
+        let text = came.replies.taken(&rt, connection)?;
+        assert!(rt; text.is_some_and(|text| text.len() == REPLY));
+    }
     Ok(())
 }
