@@ -15,7 +15,6 @@ ghost use Rattle.tcl_eval.specs.Laws.{state_in, IsFront};
 ghost use Rattle.tcl_eval.specs.Engine.{Holds, Lasts, FellTo, IsKeepable, kept_by, state_of, at_global, IsIdle, IsOpenTo, IfRan, Leaves, Stands, Answered, StandsOn, Falls, comes_to, with_more};
 ghost use Rattle.tcl_eval.specs.declared.outcome.Outcome.TheVariants.{Asks};
 
-use crate::expression_cache::Expressions;
 use crate::outcome::{Outcome, Work};
 use crate::readings::Readings;
 use crate::stack::Frame;
@@ -52,7 +51,6 @@ pub struct Engine<H> {
     pub(crate) budget: u64,
     pub(crate) question: Option<OpenQuestion>,
     pub(crate) readings: Readings,
-    pub(crate) expressions: Expressions,
 }
 
 impl<H: Host> Engine<H> {
@@ -74,7 +72,6 @@ impl<H: Host> Engine<H> {
             budget: 0,
             question: None,
             readings: Readings::new(),
-            expressions: Expressions::new(),
         }
     }
 

@@ -456,7 +456,7 @@ impl<H: Host> Engine<H> {
             Enters acted (credit self.new + 2 ≤ credit self.old)) }
         ensures holds { Holds self.new self.old }
     {
-        let read = self.expressions.read(self.alloc, text)?;
+        let read = self.readings.read_expression(self.alloc, text)?;
         let acted = self.evaluate_read(&read, levels)?;
         Ok(acted)
     }

@@ -8,13 +8,16 @@ ghost use Rattle.tcl_eval.specs.Engine.{Same, Holds, Enters, Opens, Lower, credi
 ghost use Rattle.tcl_eval.specs.declared.engine.OpenQuestion.{OpenQuestion};
 
 use crate::engine::Engine;
+use crate::expression_cache::Expressions;
 use crate::message::script_fault;
+use crate::read_expr::ReadExpr;
 use crate::stack::{Acted, Frame};
 use crate::value::{done, error};
 use crate::words::copy_word;
 use parse_cache::{Cache, ReadScript, Reading};
 use std::alloc::Global;
 use std::marker::Model;
+use std::rc::Rc;
 use tcl_host::Host;
 use txt_core::{NoMemory, Text, Words};
 
@@ -24,11 +27,12 @@ const SCRIPTS: usize = 512;
 /// How many bytes a text has at most whose script is kept. A longer one is read each time.
 const MOST_KEPT_BYTES: usize = 4_096;
 
-/// The scripts that an engine keeps by their texts, from its first start on. Contracts see nothing of
-/// them, as what is kept changes no run.
+/// The scripts and the expressions that an engine keeps by their texts, scripts from its first start
+/// on. Contracts see nothing of them, as what is kept changes no run.
 #[derive(Drop)]
 pub(crate) struct Readings {
     scripts: Option<Cache>,
+    expressions: Expressions,
 }
 
 impl Model for Readings {
@@ -42,7 +46,10 @@ impl Model for Readings {
 impl Readings {
     /// Nothing is kept yet. It takes no memory.
     pub(crate) fn new() -> Readings {
-        Readings { scripts: None }
+        Readings {
+            scripts: None,
+            expressions: Expressions::new(),
+        }
     }
 
     /// Begins to keep scripts, where that hasn't begun. The only error is want of memory.
@@ -77,6 +84,18 @@ impl Readings {
         let text = copy_word(alloc, words, place)?;
         let reading = self.read(alloc, &text)?;
         Ok(ReadScript::with(text, reading))
+    }
+
+    /// A text with what it is as an expression, which is read where it isn't kept. The only error is
+    /// want of memory.
+    pub(crate) fn read_expression(
+        &mut self,
+        alloc: Global,
+        text: &Text,
+    ) -> Result<Rc<ReadExpr>, NoMemory>
+        ensures { IfOk result (λ read. read.value ≡ text.now) }
+    {
+        self.expressions.read(alloc, text)
     }
 
     /// How often a text was read whose script was kept. It takes no memory.
