@@ -20,11 +20,12 @@ use crate::running::Running;
 use cmd_table::Steps;
 use natives::Natives;
 use outside::Answer;
-use server_host::{Edition, arg};
+use server_host::Edition;
 use std::alloc::Global;
 use std::rc::Rc;
 use std::sync::ledger::Ledger;
 use tcl_eval::Work;
+use tcl_host::arg;
 use txt_core::{MOST_NESTED, NoMemory, Text, Words, read_int_bytes};
 
 /// A definition run in an interpreter of its own, made for a question of another run.

@@ -8,7 +8,8 @@ use Rattle.tcl_host.specs.Leaf.{Leaf, wants, defines}
 use Rattle.natives.specs.Words.{arg}
 use Rattle.blueprint.specs.Scripts.{script_of}
 use Rattle.server_host.specs.Hosts.{HostState, with_mark}
-use Rattle.server_host.specs.Checks.{gives, passing, is_counted, is_defining, shaped, no_subcommand, in_definition_run, fitting}
+use Rattle.tcl_host.specs.Checks.{gives, passing, is_counted, shaped, no_subcommand, fitting}
+use Rattle.server_host.specs.Checks.{is_defining, in_definition_run}
 use Rattle.server_host.specs.declared.ictl_verb.IctlVerb.{IctlVerb}
 use Rattle.server_host.specs.declared.ictl_verb.IctlVerb.TheVariants as verbs
 

@@ -11,7 +11,7 @@ use Rattle.adp_host.specs.Leaving.{left}
 use Rattle.adp_host.specs.Leaf.{page_call, page_answer}
 use Rattle.server_host.specs.Hosts.{HostState, with_conn, with_pages, cleared}
 use Rattle.server_host.specs.Parts.{in_whole, onward_in_whole, end_in_whole}
-use Rattle.server_host.specs.Checks.{gives, fails}
+use Rattle.tcl_host.specs.Checks.{gives, fails}
 use Rattle.server_host.specs.Registering.{ns_register_proc, ns_register_filter}
 use Rattle.server_host.specs.Interpreting.{ns_ictl, ns_eval}
 use Rattle.server_host.specs.Scheduling.{ns_schedule_proc, ns_unschedule_proc}

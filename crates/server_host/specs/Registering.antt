@@ -7,7 +7,8 @@ use Rattle.tcl_host.specs.Leaf.{Leaf, defines}
 use Rattle.natives.specs.Words.{arg}
 use Rattle.blueprint.specs.Reading.{is_method, is_filter_method, begins_with_slash, stage_named}
 use Rattle.server_host.specs.Hosts.{HostState}
-use Rattle.server_host.specs.Checks.{fails, shaped, in_definition_run, unfit, fitting}
+use Rattle.tcl_host.specs.Checks.{fails, shaped, unfit, fitting}
+use Rattle.server_host.specs.Checks.{in_definition_run}
 
 -- ---- `ns_register_proc`
 

@@ -8,7 +8,7 @@ use Rattle.tcl_host.specs.Leaf.{Leaf, wants}
 use Rattle.natives.specs.Words.{arg}
 use Rattle.sched_core.specs.Asking.{is_period, is_once_option}
 use Rattle.server_host.specs.Hosts.{HostState}
-use Rattle.server_host.specs.Checks.{fails, passing, is_counted, shaped, fitting}
+use Rattle.tcl_host.specs.Checks.{fails, passing, is_counted, shaped, fitting}
 
 -- the words are asked of the schedule
 abbrev pub asks_schedule : Words → HostState → Leaf HostState

@@ -20,7 +20,7 @@ use Rattle.outside.specs.declared.question.Question.{Question}
 use Rattle.outside.specs.declared.question.Service.TheVariants as service
 use Rattle.tcl_host.specs.Leaf.{Leaf, wants}
 use Rattle.server_host.specs.Hosts.{HostState, with_gathered}
-use Rattle.server_host.specs.Checks.{gives, fails, is_counted, shaped, no_subcommand}
+use Rattle.tcl_host.specs.Checks.{gives, fails, is_counted, shaped, no_subcommand}
 
 -- ---- commands that ask one question
 

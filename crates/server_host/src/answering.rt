@@ -4,7 +4,6 @@ ghost use Rattle.tcl_host.specs.Answers.{Replies, RepliesTo, Ends};
 ghost use Rattle.server_host.specs.Answers.{Comes};
 ghost use Rattle.server_host.specs.Leaf.{does, of_conn, of_pages, of_parts, host_call, said, conn_answered, page_answered, host_answer, host_text};
 
-use crate::checks::arg;
 use crate::gathering::{names_answered, nsv_names};
 use crate::host::RunHost;
 use crate::interpreting::{ns_eval, ns_ictl};
@@ -14,7 +13,7 @@ use crate::scheduling::{ns_schedule_proc, ns_unschedule_proc};
 use crate::sharing::nsv;
 use crate::verb::{Verb, find_verb};
 use outside::Answer;
-use tcl_host::{HostReply, Refusal, refuse};
+use tcl_host::{HostReply, Refusal, arg, refuse};
 use txt_core::{Text, Words};
 
 /// Does a command that is neither of the connection nor of pages.

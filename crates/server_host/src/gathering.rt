@@ -4,15 +4,15 @@ ghost use Rattle.std.specs.Prelude.{◌≡◌, IfOk};
 ghost use Rattle.tcl_host.specs.Answers.{Replies};
 ghost use Rattle.natives.specs.Sorting.{in_order};
 ghost use Rattle.server_host.specs.Answers.{Comes};
-ghost use Rattle.server_host.specs.Checks.{fails};
+ghost use Rattle.tcl_host.specs.Checks.{fails};
 ghost use Rattle.server_host.specs.Sharing.{names_question, asks_names, nsv_names, all_names, Gathers, by_bytes, names_end, names_next, names_answered, ungathered};
 
-use crate::checks::{is_counted, require_words, words_from};
+use crate::checks::words_from;
 use crate::host::RunHost;
 use crate::reply::done;
 use outside::{Answer, Question, Service};
 use std::alloc::Global;
-use tcl_host::{HostReply, Refusal, refuse};
+use tcl_host::{HostReply, Refusal, is_counted, refuse, require_words};
 use tcl_list::{ListFault, quote, split};
 use txt_core::{BUCKET_COUNT, NoMemory, Text, Words, error_text, write_natural};
 

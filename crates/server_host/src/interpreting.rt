@@ -7,9 +7,7 @@ ghost use Rattle.server_host.specs.Answers.{Comes, Passes};
 ghost use Rattle.server_host.specs.Checks.{is_defining};
 ghost use Rattle.server_host.specs.Interpreting.{cleans_up, sets_global, gives_script, gives_epoch, saves, ictl_does, ictl_by_verb, ns_ictl, inside_itself, ns_eval};
 
-use crate::checks::{
-    arg, is_counted, no_subcommand, require_definition_run, require_fit, require_words,
-};
+use crate::checks::require_definition_run;
 use crate::host::RunHost;
 use crate::ictl_verb::{IctlVerb, find_ictl_verb};
 use crate::kind::is_defining;
@@ -19,7 +17,9 @@ use cmd_table::Def;
 use outside::{Question, Service};
 use std::alloc::Global;
 use tcl_frame::is_element_name;
-use tcl_host::{HostReply, Refusal, refuse};
+use tcl_host::{
+    HostReply, Refusal, arg, is_counted, no_subcommand, refuse, require_fit, require_words,
+};
 use txt_core::{NoMemory, Text, Words, write_natural};
 
 /// A question of one word.

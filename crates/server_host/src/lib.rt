@@ -17,7 +17,6 @@ mod scheduling;
 mod sharing;
 mod verb;
 
-pub use checks::arg;
 pub use edition::Edition;
 pub use host::RunHost;
 pub use kind::Kind;

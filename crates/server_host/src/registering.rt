@@ -5,12 +5,12 @@ ghost use Rattle.natives.specs.Words.{arg};
 ghost use Rattle.server_host.specs.Answers.{Comes};
 ghost use Rattle.server_host.specs.Registering.{is_noinherit, method_place, registers, registers_filter, ns_register_proc, ns_register_filter};
 
-use crate::checks::{arg, require_definition_run, require_fit, require_words, unfit, words_from};
+use crate::checks::{require_definition_run, words_from};
 use crate::host::RunHost;
 use blueprint::{begins_with_slash, is_filter_method, is_method, stage_named};
 use cmd_table::{Def, When};
 use std::alloc::Global;
-use tcl_host::{HostReply, Refusal, refuse};
+use tcl_host::{HostReply, Refusal, arg, refuse, require_fit, require_words, unfit};
 use txt_core::{NoMemory, Text, Words};
 
 /// Whether the second word is the option by which the paths below the URL aren't served.

@@ -5,11 +5,10 @@ ghost use Rattle.txt_core.specs.Number.{number};
 ghost use Rattle.server_host.specs.Answers.{Comes};
 ghost use Rattle.server_host.specs.Scheduling.{asks_schedule, is_once, is_schedule, schedules, by_option, ns_schedule_proc, is_id, unschedules, ns_unschedule_proc};
 
-use crate::checks::{arg, is_counted, require_fit, require_words};
 use crate::host::RunHost;
 use outside::{Question, Service};
 use sched_core::{is_once_option, is_period};
-use tcl_host::{HostReply, Refusal, refuse};
+use tcl_host::{HostReply, Refusal, arg, is_counted, refuse, require_fit, require_words};
 use txt_core::{Words, error_text, read_int_bytes};
 
 /// Asks the schedule these words.

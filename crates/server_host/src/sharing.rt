@@ -4,11 +4,10 @@ ghost use Rattle.std.specs.Prelude.{◌≡◌};
 ghost use Rattle.server_host.specs.Answers.{Comes};
 ghost use Rattle.server_host.specs.Sharing.{is_array_subcommand, lacks_subcommand, asks_nsv, unasked, nsv};
 
-use crate::checks::{arg, is_counted, no_subcommand};
 use crate::host::RunHost;
 use nsv_bucket::is_question;
 use outside::{Question, Service};
-use tcl_host::{HostReply, Refusal, refuse};
+use tcl_host::{HostReply, Refusal, arg, is_counted, no_subcommand, refuse};
 use txt_core::{Words, error_text};
 
 /// Asks the shared arrays these words.
