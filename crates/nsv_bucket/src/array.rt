@@ -32,13 +32,6 @@ impl Model for NsvArray {
     ghost view = { λ a. map.from_entries a.values.entries };
 }
 
-/// A copy of a text.
-pub(crate) fn copied(alloc: Global, text: &Text) -> Result<Text, NoMemory>
-    ensures { IfOk result (λ copy. copy ≡ text.now) }
-{
-    text.copy(alloc)
-}
-
 /// The text of these bytes twice, which share them. The condition is that what is known of it is
 /// true.
 pub(crate) fn twice(alloc: Global, bytes: &[u8], known: Known) -> Result<(Text, Text), NoMemory>
@@ -95,7 +88,7 @@ impl NsvArray {
         ensures before { IfOk result (λ before. before ≡ map.get self.old key.now) }
         ensures err { OnErr result (self.new ≡ self.old) }
     {
-        let key = copied(alloc, key)?;
+        let key = key.copy(alloc)?;
         let before = self.values.insert(key, value)?;
         Ok(before)
     }

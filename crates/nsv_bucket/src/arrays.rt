@@ -7,7 +7,7 @@ ghost use Rattle.txt_core.specs.Knowing.{Holds};
 ghost use Rattle.nsv_bucket.specs.Arrays.{seen, array_of, text_at, value_of, with_value, without_key};
 ghost use Rattle.nsv_bucket.specs.Lists.{with_pairs};
 
-use crate::array::{NsvArray, copied, twice};
+use crate::array::{NsvArray, twice};
 use std::alloc::Global;
 use std::collections::BTreeMap;
 use txt_core::{Known, NoMemory, Text};
@@ -26,7 +26,7 @@ pub(crate) fn place(
     ensures ok { OnOk result (seen arrays.new ≡ map.insert (seen arrays.old) name.now array) }
     ensures err { OnErr result (seen arrays.new ≡ seen arrays.old) }
 {
-    let name = copied(alloc, name)?;
+    let name = name.copy(alloc)?;
     arrays.insert(name, array)?;
     Ok(())
 }

@@ -5,7 +5,7 @@ ghost use Rattle.std.specs.FinMap as map;
 ghost use Rattle.nsv_bucket.specs.Lists.{with_pairs};
 ghost use Rattle.nsv_bucket.specs.Undoing.{undone};
 
-use crate::array::{NsvArray, copied};
+use crate::array::NsvArray;
 use std::alloc::Global;
 use txt_core::{NoMemory, Text};
 
@@ -73,7 +73,7 @@ impl NsvArray {
         ensures noted { undone journal.new.items self.new ≡ undone journal.old.items self.old }
     {
         journal.reserve(1)?;
-        let value = copied(alloc, value)?;
+        let value = value.copy(alloc)?;
         let before = self.replace(alloc, key, value)?;
         journal.push_reserved(Change { key, before });
         Ok(())

@@ -1,12 +1,11 @@
 //! The keys of a map that a pattern picks.
 
-ghost use Rattle.std.specs.Prelude.{◌≡◌, ◌++◌, ◌∷◌, [], IfOk, OnOk};
+ghost use Rattle.std.specs.Prelude.{◌≡◌, IfOk};
 ghost use Rattle.std.specs.Option.{option_copied};
 ghost use Rattle.std.specs.FinMap as fin;
 ghost use Rattle.nsv_bucket.specs.Arrays.{text_cmp};
 ghost use Rattle.nsv_bucket.specs.Listings.{picks, names_in, pairs_in};
 
-use crate::array::copied;
 use std::alloc::Global;
 use std::collections::BTreeMap;
 use txt_core::{NoMemory, Text, Words, glob};
@@ -19,13 +18,6 @@ fn is_picked(pattern: Option<&Text>, text: &Text) -> bool
         None => true,
         Some(pattern) => glob(pattern, text),
     }
-}
-
-/// Puts a copy of a text at the end of a list.
-fn push_copy(alloc: Global, words: &mut Words, text: &Text) -> Result<(), NoMemory>
-    ensures { OnOk result (words.new ≡ words.old ++ text.now ∷ []) }
-{
-    words.add(copied(alloc, text)?)
 }
 
 /// The keys that the pattern picks, in byte order.
@@ -42,7 +34,7 @@ pub(crate) fn names<V>(
     let mut found = Words::new(alloc);
     for (key, _) in map {
         if is_picked(pattern, key) {
-            push_copy(alloc, &mut found, key)?;
+            found.add(key.copy(alloc)?)?;
         }
     }
     Ok(found)
@@ -62,8 +54,8 @@ pub(crate) fn pairs(
     let mut found = Words::new(alloc);
     for (key, value) in map {
         if is_picked(pattern, key) {
-            push_copy(alloc, &mut found, key)?;
-            push_copy(alloc, &mut found, value)?;
+            found.add(key.copy(alloc)?)?;
+            found.add(value.copy(alloc)?)?;
         }
     }
     Ok(found)

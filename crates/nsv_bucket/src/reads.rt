@@ -5,7 +5,6 @@ ghost use Rattle.std.specs.FinMap as map;
 ghost use Rattle.nsv_bucket.specs.Arrays.{seen, array_of};
 ghost use Rattle.nsv_bucket.specs.Reads.{digit_for, get_step, exists_step, names_step, array_get_step, array_names_step, array_size_step, array_exists_step};
 
-use crate::array::copied;
 use crate::arrays::{Arrays, array_named, has_array, value};
 use crate::listing::names;
 use crate::message::{answer, no_array, no_key, refuse};
@@ -13,7 +12,7 @@ use crate::question::word;
 use crate::reply::NsvReply;
 use std::alloc::Global;
 use tcl_list::quote;
-use txt_core::{NoMemory, Text, Words};
+use txt_core::{NoMemory, Text, Words, write_natural};
 
 /// 1 or 0.
 fn digit(alloc: Global, holds: bool) -> Result<Text, NoMemory>
@@ -37,7 +36,7 @@ pub(crate) fn get(alloc: Global, arrays: &Arrays, words: &Words) -> Result<NsvRe
         None => refuse(alloc, no_array(alloc, name)?),
         Some(array) => match array.get(key) {
             None => refuse(alloc, no_key(alloc, key, name)?),
-            Some(value) => answer(alloc, copied(alloc, value)?),
+            Some(value) => answer(alloc, value.copy(alloc)?),
         },
     }
 }
@@ -115,8 +114,7 @@ pub(crate) fn array_size(
     ensures { IfOk result (λ reply. reply ≡ (array_size_step (seen arrays.now) words.now).0) }
 {
     let size = size_of(arrays, word(words, 2));
-    let digits = format!(in alloc; "{size}")?;
-    answer(alloc, Text::from_vec(digits.into_bytes()))
+    answer(alloc, write_natural(alloc, size as u64)?)
 }
 
 /// Answers `nsv_array exists`: 1 where there is the array, else 0.

@@ -10,7 +10,6 @@ ghost use Rattle.nsv_bucket.specs.Arrays.{seen, array_of, text_at, value_of};
 ghost use Rattle.nsv_bucket.specs.Writes.{stored, grown, set_step, sum_of, incr_step, append_step, unset_key, unset_array, unset_step};
 ghost use Rattle.nsv_bucket.specs.Lists.{lappend_step};
 
-use crate::array::copied;
 use crate::arrays::{Arrays, append_value, has_array, put_value, remove_array, remove_key, value};
 use crate::message::{no_array, no_key, refuse, refuse_long};
 use crate::question::word;
@@ -50,7 +49,7 @@ pub(crate) fn set(alloc: Global, arrays: &mut Arrays, words: &Words) -> Result<N
     ensures ok { OnOk result (seen arrays.new ≡ (set_step (seen arrays.old) words.now).1) }
     ensures err { OnErr result (seen arrays.new ≡ seen arrays.old) }
 {
-    let value = copied(alloc, word(words, 3))?;
+    let value = word(words, 3).copy(alloc)?;
     store(alloc, arrays, word(words, 1), word(words, 2), value)
 }
 
@@ -63,7 +62,7 @@ fn standing(alloc: Global, arrays: &Arrays, words: &Words, absent: &[u8]) -> Res
         absent.now) }
 {
     match value(arrays, word(words, 1), word(words, 2)) {
-        Some(value) => copied(alloc, value),
+        Some(value) => value.copy(alloc),
         None => Text::new(alloc, absent),
     }
 }
@@ -73,7 +72,7 @@ fn added(alloc: Global, words: &Words) -> Result<Text, NoMemory>
     ensures { IfOk result (λ text. text ≡ unwrap_or (slice_get words.now 3) (codes "1")) }
 {
     match words.get(3) {
-        Some(number) => copied(alloc, number),
+        Some(number) => number.copy(alloc),
         None => Text::new(alloc, b"1"),
     }
 }
