@@ -17,12 +17,19 @@ use Rattle.ictl.specs.declared.ending.Access.TheVariants.{Allowed, Unauthorized,
 abbrev pub failed : Response
 failed = plain_reply 500
 
--- the replies of a run that was spent, and of one that was too deep
+-- what is said of a run that was spent, and of one that was too deep
+abbrev pub budget_spent : Bytes
+budget_spent = codes "budget spent"
+
+abbrev pub nesting_too_deep : Bytes
+nesting_too_deep = codes "nesting too deep"
+
+-- the replies of these
 abbrev pub budget_reply : Response
-budget_reply = text_reply 500 (codes "budget spent")
+budget_reply = text_reply 500 budget_spent
 
 abbrev pub nesting_reply : Response
-nesting_reply = text_reply 500 (codes "nesting too deep")
+nesting_reply = text_reply 500 nesting_too_deep
 
 -- The reply where the user isn't known. It has the one field that asks for credentials, and no output fields.
 abbrev pub unauthorized : Response

@@ -24,3 +24,4 @@ pub use law::{
     runs_follow_the_stages,
 };
 pub use next::Next;
+pub use reply::{BUDGET_SPENT, NESTING_TOO_DEEP};

@@ -20,6 +20,12 @@ const NOT_FOUND: u16 = 404;
 
 const INTERNAL_SERVER_ERROR: u16 = 500;
 
+/// What is said of a run that was spent.
+pub const BUDGET_SPENT: &[u8] = b"budget spent";
+
+/// What is said of a run that was too deep.
+pub const NESTING_TOO_DEEP: &[u8] = b"nesting too deep";
+
 /// The reply of what fails.
 pub fn failed(alloc: Global) -> Result<Response, NoMemory>
     ensures { IfOk result (λ response. response ≡ failed) }
@@ -31,14 +37,14 @@ pub fn failed(alloc: Global) -> Result<Response, NoMemory>
 pub fn budget_reply(alloc: Global) -> Result<Response, NoMemory>
     ensures { IfOk result (λ response. response ≡ budget_reply) }
 {
-    text_reply(alloc, INTERNAL_SERVER_ERROR, b"budget spent")
+    text_reply(alloc, INTERNAL_SERVER_ERROR, BUDGET_SPENT)
 }
 
 /// The reply of a run that was too deep.
 pub fn nesting_reply(alloc: Global) -> Result<Response, NoMemory>
     ensures { IfOk result (λ response. response ≡ nesting_reply) }
 {
-    text_reply(alloc, INTERNAL_SERVER_ERROR, b"nesting too deep")
+    text_reply(alloc, INTERNAL_SERVER_ERROR, NESTING_TOO_DEEP)
 }
 
 /// The reply that asks for credentials (RFC 9110, section 11.6.1).

@@ -1,6 +1,8 @@
 -- The statuses of the program: their numbers, and what each says on errors.
 use Rattle.std.specs.Prelude.{ℕ, [], ◌∷◌, ◌++◌, codes, decimal}
 use Rattle.txt_core.specs.Names.{Bytes, Words}
+use Rattle.serve_run.specs.Statuses as serving
+use Rattle.serve_run.specs.declared.ended.Ended.TheVariants as served
 use Rattle.ns_server.specs.declared.status.Status.{Status}
 use Rattle.ns_server.specs.declared.status.Status.TheVariants.{Done, BadEvent, BadWords, ReadFault, WriteFault, NoMemory}
 
@@ -17,10 +19,10 @@ number_of NoMemory = 5
 abbrev pub line_of : Status → Bytes
 line_of Done = []
 line_of (BadEvent event) = codes "bad event " ++ decimal event ++ codes "\n"
-line_of BadWords = codes "bad words\n"
+line_of BadWords = serving.line_of served.BadWords
 line_of ReadFault = codes "read fault\n"
 line_of WriteFault = codes "write fault\n"
-line_of NoMemory = codes "out of memory\n"
+line_of NoMemory = serving.line_of served.NoMemory
 
 -- the words of a rehearsal: `rehearse` alone
 abbrev pub rehearse_words : Words

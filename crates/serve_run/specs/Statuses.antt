@@ -2,6 +2,7 @@
 use Rattle.std.specs.Prelude.{◌≡◌, ◌⊎◌, ℕ, [], ◌++◌, codes}
 use Rattle.txt_core.specs.Names.{Bytes}
 use Rattle.txt_core.specs.ErrorTexts.{no_page, page_fault, page_too_long}
+use Rattle.ictl.specs.Replies.{budget_spent, nesting_too_deep}
 use Rattle.serve_run.specs.declared.ended.Ended.{Ended}
 use Rattle.serve_run.specs.declared.ended.Ended.TheVariants.{Done, BadWords, NoMemory, BadStart, NetFault}
 use Rattle.serve_run.specs.declared.ended.StartFault.{StartFault}
@@ -21,8 +22,8 @@ start_text path start.NoPage = no_page path
 start_text path start.Unreadable = page_fault path
 start_text path start.TooLong = page_too_long path
 start_text path (start.Error text) = text
-start_text path start.Spent = codes "budget spent"
-start_text path start.TooDeep = codes "nesting too deep"
+start_text path start.Spent = budget_spent
+start_text path start.TooDeep = nesting_too_deep
 
 -- the line that is written on errors, with its newline; none where all went well
 abbrev pub line_of : Ended → Bytes

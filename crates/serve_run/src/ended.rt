@@ -5,6 +5,7 @@ ghost use Rattle.outside.specs.Sending.{Sends};
 ghost use Rattle.outside.specs.declared.sending.Sent.{Sent};
 ghost use Rattle.serve_run.specs.Statuses.{number_of, start_text, line_of, IsTold};
 
+use ictl::{BUDGET_SPENT, NESTING_TOO_DEEP};
 use outside::{Sink, write_all};
 use std::alloc::Global;
 use txt_core::error_text::{no_page, page_fault, page_too_long};
@@ -52,8 +53,8 @@ impl StartFault {
             StartFault::Unreadable => page_fault(alloc, path.bytes()),
             StartFault::TooLong => page_too_long(alloc, path.bytes()),
             StartFault::Error(text) => text.copy(alloc),
-            StartFault::Spent => Text::new(alloc, b"budget spent"),
-            StartFault::TooDeep => Text::new(alloc, b"nesting too deep"),
+            StartFault::Spent => Text::new(alloc, BUDGET_SPENT),
+            StartFault::TooDeep => Text::new(alloc, NESTING_TOO_DEEP),
         }
     }
 }
