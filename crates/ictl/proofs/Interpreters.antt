@@ -244,19 +244,41 @@ module _ (names : List (List ℕ)) where
   outset_counts old new between after before state inner counts =
       subst (λ (n : ℕ). before + interp_written names new ≤ after + n) (outset_written old between state inner) counts
 
+  -- what comes of a script's end doesn't go by the script's own state
+  end_same : (task : Task) (old : Interp) (between : Settling) (x : Settled) → task_end names (record old { settling = between }) task x ≡ task_end names old task x
+  end_same New old between x = refl
+  end_same (Preauth next) old between x = refl
+  end_same Authorise old between x = refl
+  end_same (Postauth next) old between x = refl
+  end_same (PageAsked path budget) old between x = refl
+  end_same Procedure old between x = refl
+  end_same Page old between x = refl
+  end_same (Writing ending) old between x = refl
+  end_same (Trace next ending) old between x = refl
+  end_same (Cleanup next ending) old between x = refl
+  end_same Script old between x = refl
+  end_same (Define defining) old between x = refl
+  end_same Over old between x = refl
+
   -- a script that begins at its outset comes to the same from the state before
   pub from_outset : (work : Work) (task : Task) (old new : Interp) (between : Settling) (step : Move) (budget inside after before : ℕ) (further : List Answer)
       → interp_state (record old { settling = between }) ≡ outset (interp_state old)
       → between.inner ≡ old.settling.inner → between.questions ≡ old.settling.questions
       → move_gives names step (inside + ((after + interp_written names (record old { settling = between })) - (before + interp_written names new))) new further
-      ≡ task_end names old task (runs names old.blueprint.value old.moment work (at_global (interp_state (record old { settling = between }))) (account_of budget between.questions inside) further)
+      ≡ task_end names (record old { settling = between }) task (runs names old.blueprint.value old.moment work (at_global (interp_state (record old { settling = between }))) (account_of budget between.questions inside) further)
       → move_gives names step (inside + ((after + interp_written names old) - (before + interp_written names new))) new further
       ≡ task_end names old task (runs names old.blueprint.value old.moment work (outset (interp_state old)) (account_of budget old.settling.questions inside) further)
   from_outset work task old new between step budget inside after before further state inner questions same =
       sym (ap (λ (n : ℕ). move_gives names step (inside + ((after + n) - (before + interp_written names new))) new further) (outset_written old between state inner))
       ∙ same
+      ∙ end_same task old between (runs names old.blueprint.value old.moment work (at_global (interp_state (record old { settling = between }))) (account_of budget between.questions inside) further)
       ∙ ap (λ (s : State HostState). task_end names old task (runs names old.blueprint.value old.moment work (at_global s) (account_of budget between.questions inside) further)) state
       ∙ ap (λ (n : ℕ). task_end names old task (runs names old.blueprint.value old.moment work (outset (interp_state old)) (account_of budget n inside) further)) questions
+
+  -- what comes of a script that stopped is what comes of the move
+  pub goes_moved : (step : Move) (stop : Stop) (inside : ℕ) (i : Interp) (further : List Answer) (came : Progress) → step ≡ moves.Goes stop
+      → came ≡ goes_to names stop inside i further → came ≡ move_gives names step inside i further
+  goes_moved step stop inside i further came is goes = goes ∙ ap (λ (m : Move). move_gives names m inside i further) (sym is)
 
   -- where the task alone is another, nothing was written
   pub rest_counts : (old new : Interp) (steps : ℕ) → ((task : Task) × (new ≡ record old { task = task })) → steps + interp_written names new ≤ steps + interp_written names old

@@ -4,7 +4,7 @@ use Rattle.ictl.specs.Main.{page_question}
 use Rattle.ictl.specs.Steps.{asked_path}
 use Rattle.ictl.specs.Falls.{task_number}
 use Rattle.ictl.proofs.Interpreters.{other_asks, other_script, asked_falls, moved_on, answered_on, page_asking, script_answered, script_asking}
-use Rattle.ictl.specs.Interps.{IsWithin, interp_written}
+use Rattle.ictl.specs.Interps.{IsWithin, interp_written, asking_gives}
 use Rattle.ictl.proofs.Withins.{task_within, moved_within, wants}
 use Rattle.ictl.specs.declared.task.Move.TheVariants as moves
 use Rattle.ictl.proofs.interp.Interp.answered.Goals as goal
@@ -77,7 +77,7 @@ pub returns-in_err-next-in-PageAsked-clause-most : goal.returns-in_err-next-in-P
 returns-in_err-next-in-PageAsked-clause-most g c = wants c.from_residual-in_err-next-in-PageAsked.result _ (λ question inside.
     let names = names_of c.args.natives.now in
     let old = c.args.self.now in
-    moved_within names c.in_ok-step-in-PageAsked.step old c.enter_page.new.self c.moves.new.self inside c.args.steps.now c.enter_page.new.steps c.moves.new.steps _ c.enter_page.ensures.counts
+    moved_within names c.in_ok-step-in-PageAsked.step old c.enter_page.new.self c.moves.new.self inside c.args.steps.now c.enter_page.new.steps c.moves.new.steps (asking_gives names question old.task inside old (c.args.answer ∷ [])) c.enter_page.ensures.counts
     (c.in_ok-step-in-PageAsked.ensures.gives inside [] ∙ page_asking names (page_question (asked_path old.task)) question c.in-PageAsked.path c.in-PageAsked.budget old inside c.args.answer [] c.in-PageAsked.is)
     (λ n. c.in_err-next-in-PageAsked.ensures.most n))
 

@@ -6,6 +6,7 @@ use Rattle.ictl.specs.Falls.{first_number}
 use Rattle.ictl.specs.declared.interp.Interp.{Interp}
 use Rattle.ictl.proofs.Interpreters.{moved_on, from_none}
 use Rattle.ictl.proofs.Beginnings.{begun_state, request_begins}
+use Rattle.ictl.specs.Main.{Main}
 use Rattle.ictl.specs.Interps.{IsWithin, interp_written}
 use Rattle.ictl.proofs.Withins.{begun_none, new_writes, within_from, moved_within, wants}
 use Rattle.ictl.proofs.interp.Interp.begin_request.Goals as goal
@@ -82,6 +83,6 @@ returns-in_err-next-clause-most g c =
       moment = c.args.moment;
       visit = c.replace.new.dest;
     } in
-    within_from 0 (0 + interp_written names between) c.args.steps.now c.args.steps.now c.moves.new.steps c.moves.new.self _ (omega arith)
-    (moved_within names c.in_ok-step.step between c.preauth.new.self c.moves.new.self 0 c.args.steps.now c.preauth.new.steps c.moves.new.steps _ c.preauth.ensures.counts
+    within_from 0 (0 + interp_written names between) c.args.steps.now c.args.steps.now c.moves.new.steps c.moves.new.self (Main names bp c.args.request c.args.moment []) (omega arith)
+    (moved_within names c.in_ok-step.step between c.preauth.new.self c.moves.new.self 0 c.args.steps.now c.preauth.new.steps c.moves.new.steps (Main names bp c.args.request c.args.moment []) c.preauth.ensures.counts
     (c.in_ok-step.ensures.gives 0 [] ∙ request_begins names bp c.args.request c.args.moment c.replace.new.dest _ [] visit state) (λ n. c.in_err-next.ensures.most n)))

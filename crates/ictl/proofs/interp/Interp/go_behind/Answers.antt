@@ -1,8 +1,8 @@
-use Rattle.std.proofs.Common.{sym, ap, ◌∙◌, arith, ◌+◌, Option, [], subst, ◌≡◌}
+use Rattle.std.proofs.Common.{sym, ap, ◌∙◌, arith, ◌+◌, Option, [], true, subst, ◌≡◌}
 use Rattle.natives.specs.Names.{names_of}
 use Rattle.ictl.specs.Interps.{ending_of, interp_state, IsWithin, interp_written}
 use Rattle.ictl.specs.Falls.{first_number}
-use Rattle.ictl.specs.Main.{full, traces_from}
+use Rattle.ictl.specs.Main.{full, traces_from, behind}
 use Rattle.ictl.specs.declared.ending.Ending.{Ending}
 use Rattle.ictl.specs.declared.interp.Interp.{Interp}
 use Rattle.ictl.proofs.Interpreters.{moved_on}
@@ -54,5 +54,5 @@ returns-in_err-next-clause-most g c = wants c.from_residual-in_err-next.result _
     let none : inner_written names old.blueprint.value old.settling.inner ≡ 0 = ap (λ (i : Option InnerRun). inner_written names old.blueprint.value i) c.requires.0 in
     let begins = ap (λ (e : Ending). traces_from names old.blueprint.value old.moment old.visit.trace old.cleanups e (interp_state old) (full inside) []) c.ending_now-ending.ensures
     ∙ behind_begins names old request (ending_of old.task) inside [] sound visit in
-    within_from (inside + Writes (interp_state old).made) (inside + interp_written names between) c.args.steps.now c.args.steps.now c.moves.new.steps c.moves.new.self _ (omega (arith, none))
-    (moved_within names c.in_ok-step.step between c.trace.new.self c.moves.new.self inside c.args.steps.now c.trace.new.steps c.moves.new.steps _ c.trace.ensures.counts (c.in_ok-step.ensures.gives inside [] ∙ begins) (λ n. c.in_err-next.ensures.most n)))
+    within_from (inside + Writes (interp_state old).made) (inside + interp_written names between) c.args.steps.now c.args.steps.now c.moves.new.steps c.moves.new.self (behind names old.blueprint.value old.moment true request (ending_of old.task) (interp_state old) inside []) (omega (arith, none))
+    (moved_within names c.in_ok-step.step between c.trace.new.self c.moves.new.self inside c.args.steps.now c.trace.new.steps c.moves.new.steps (behind names old.blueprint.value old.moment true request (ending_of old.task) (interp_state old) inside []) c.trace.ensures.counts (c.in_ok-step.ensures.gives inside [] ∙ begins) (λ n. c.in_err-next.ensures.most n)))

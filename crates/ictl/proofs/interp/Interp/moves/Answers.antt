@@ -2,6 +2,7 @@ use Rattle.std.proofs.Common.{ℕ, sym, ap, ◌∙◌, ◌+◌, [], subst}
 use Rattle.natives.specs.Names.{names_of}
 use Rattle.ictl.specs.Interps.{gives, move_gives, IsWithin, interp_written}
 use Rattle.ictl.specs.declared.task.Move.{Move}
+use Rattle.ictl.proofs.Interpreters.{goes_moved}
 use Rattle.ictl.proofs.Settlings.{none_taken}
 use Rattle.ictl.proofs.Withins.{wants}
 use Rattle.ictl.proofs.interp.Interp.moves.Goals as goal
@@ -26,9 +27,7 @@ returns-in-Stops-clause-gives g c = λ inside further.
 
 pub returns-in_ok-next-in-Goes-clause-gives : goal.returns-in_ok-next-in-Goes-clause-gives
 returns-in_ok-next-in-Goes-clause-gives g c = λ inside further.
-    let names = names_of c.args.natives.now in
-    c.in_ok-next-in-Goes.ensures.gives inside further
-    ∙ ap (λ (m : Move). move_gives names m inside c.args.self.now further) (sym c.in-Goes.is)
+    goes_moved (names_of c.args.natives.now) c.args.step c.in-Goes.stop inside c.args.self.now further _ c.in-Goes.is (c.in_ok-next-in-Goes.ensures.gives inside further)
 
 pub returns-in_err-next-in-Goes-clause-most : goal.returns-in_err-next-in-Goes-clause-most
 returns-in_err-next-in-Goes-clause-most g c = wants c.from_residual.result _ (λ inside.
