@@ -16,6 +16,7 @@ mod Questions
 mod Resets
 mod Runs
 mod Silent
+mod Starts
 mod Settles
 mod Settlings
 mod Updates

@@ -1,14 +1,14 @@
-use Rattle.std.proofs.Common.{◌≡◌, ◌≤◌, ◌+◌, ℕ, List, sym, subst, refl, arith, [], ap, ◌∙◌}
+use Rattle.std.proofs.Common.{◌≡◌, ◌+◌, sym, subst, refl, ap, ◌∙◌}
 use Rattle.natives.specs.Names.{names_of}
-use Rattle.outside.specs.declared.question.Answer.{Answer}
 use Rattle.server_host.specs.declared.edition.Edition.{Edition}
 use Rattle.cmd_table.specs.Commands.{Writes}
 use Rattle.ictl.specs.Main.{Define}
-use Rattle.ictl.specs.Interps.{UnlessNoMemory, gives, taken, interp_written, IsNew, Holds, IsSound, IsWithin, interp_state}
+use Rattle.ictl.specs.Interps.{IsSound, interp_state}
 use Rattle.ictl.specs.declared.interp.Interp.{Interp}
-use Rattle.ictl.proofs.Interpreters.{answered_so, answered_or, ok_both}
-use Rattle.ictl.proofs.Resets.{defined_from, spared_new, holds_from, sound_from, holds_same}
-use Rattle.ictl.proofs.Withins.{begun_none, defined_within, either, new_writes, out_stands}
+use Rattle.ictl.proofs.Interpreters.{answered_or}
+use Rattle.ictl.proofs.Resets.{spared_new, holds_from, sound_from, holds_same}
+use Rattle.ictl.proofs.Starts.{defined, defined_most}
+use Rattle.ictl.proofs.Withins.{begun_none, new_writes, out_stands}
 use Rattle.ictl.proofs.interp.Interp.start_define.Goals as goal
 
 pub begin_define-requires : goal.begin_define-requires
@@ -18,8 +18,7 @@ begin_define-requires g c =
 pub returns-in-Ok-clause-stands : goal.returns-in-Ok-clause-stands
 returns-in-Ok-clause-stands g c =
     let names = names_of c.args.natives.now in
-    defined_from names c.next_of.result (λ (b : Edition). Define names b c.args.script.now c.args.moment) c.begin_define.new.self c.take_spare.new.self c.args.self.now c.take_spare.ensures.rest
-    (answered_so c.begin_define.result c.next_of.result _ c.next_of.ensures c.begin_define.ensures.stands)
+    defined names c.begin_define.result c.next_of.result (λ (b : Edition). Define names b c.args.script.now c.args.moment) c.begin_define.new.self c.take_spare.new.self c.args.self.now c.take_spare.ensures.rest c.next_of.ensures c.begin_define.ensures.stands
 
 pub returns-in-Ok-clause-steps : goal.returns-in-Ok-clause-steps
 returns-in-Ok-clause-steps g c =
@@ -51,9 +50,8 @@ returns-in-Err-clause-steps g c =
 pub returns-in-Ok-clause-most : goal.returns-in-Ok-clause-most
 returns-in-Ok-clause-most g c =
     let names = names_of c.args.natives.now in
-    subst (λ (i : Interp). IsWithin 0 c.args.steps.now c.begin_define.new.steps c.begin_define.new.self (Define names i.blueprint.value c.args.script.now c.args.moment [])) c.take_spare.ensures.rest
-    (either c.begin_define.result _ c.begin_define.ensures.most
-    (ok_both c.begin_define.result _ _ _ (λ next is out. defined_within names next c.take_spare.new.self c.begin_define.new.self c.args.steps.now c.begin_define.new.steps _ c.begin_define.ensures.steps out (is [])) c.begin_define.ensures.stands c.begin_define.ensures.next))
+    defined_most names c.begin_define.result (λ (b : Edition). Define names b c.args.script.now c.args.moment) c.begin_define.new.self c.take_spare.new.self c.args.self.now c.args.steps.now c.begin_define.new.steps c.take_spare.ensures.rest
+    c.begin_define.ensures.steps c.begin_define.ensures.most c.begin_define.ensures.stands c.begin_define.ensures.next
 
 pub returns-in-Err-clause-most : goal.returns-in-Err-clause-most
 returns-in-Err-clause-most g c =

@@ -1,12 +1,13 @@
-use Rattle.std.proofs.Common.{◌≡◌, ◌≤◌, ◌+◌, ℕ, List, sym, subst, refl, arith, [], ap, ◌∙◌}
+use Rattle.std.proofs.Common.{◌≡◌, ◌≤◌, ◌+◌, sym, subst, arith, [], ap, ◌∙◌}
 use Rattle.natives.specs.Names.{names_of}
-use Rattle.outside.specs.declared.question.Answer.{Answer}
+use Rattle.server_host.specs.declared.edition.Edition.{Edition}
 use Rattle.ictl.specs.Visits.{visit_of}
 use Rattle.ictl.specs.Main.{Main}
-use Rattle.ictl.specs.Interps.{UnlessNoMemory, gives, taken, interp_written, IsNew, Holds, IsSound, IsWithin, interp_state}
+use Rattle.ictl.specs.Interps.{UnlessNoMemory, interp_written, IsSound, IsWithin, interp_state}
 use Rattle.ictl.specs.declared.interp.Interp.{Interp}
 use Rattle.ictl.proofs.Interpreters.{answered_so, answered_or, ok_both}
 use Rattle.ictl.proofs.Resets.{spared_new, holds_from, sound_from, holds_same}
+use Rattle.ictl.proofs.Starts.{started}
 use Rattle.cmd_table.specs.Commands.{Writes}
 use Rattle.ictl.proofs.Withins.{began_within, begun_none, either, new_writes, out_stands}
 use Rattle.ictl.proofs.interp.Interp.start_request.Goals as goal
@@ -18,10 +19,7 @@ begin_request-requires g c =
 pub returns-in-Ok-clause-stands : goal.returns-in-Ok-clause-stands
 returns-in-Ok-clause-stands g c =
     let names = names_of c.args.natives.now in
-    let next = c.next_of.result in
-    let new = c.begin_request.new.self in
-    subst (λ (i : Interp). UnlessNoMemory next ((further : List Answer) → Main names i.blueprint.value c.args.request c.args.moment further ≡ gives names next (taken names c.begin_request.new.steps c.args.steps.now new i) new further)) c.take_spare.ensures.rest
-    (answered_so c.begin_request.result next _ c.next_of.ensures c.begin_request.ensures.stands)
+    started names c.begin_request.result c.next_of.result (λ (b : Edition). Main names b c.args.request c.args.moment) c.begin_request.new.self c.take_spare.new.self c.args.self.now c.begin_request.new.steps c.args.steps.now c.take_spare.ensures.rest c.next_of.ensures c.begin_request.ensures.stands
 
 pub returns-in-Ok-clause-visit : goal.returns-in-Ok-clause-visit
 returns-in-Ok-clause-visit g c =

@@ -1,12 +1,12 @@
-use Rattle.std.proofs.Common.{◌≡◌, ◌≤◌, ◌+◌, ℕ, List, sym, subst, refl, arith, [], ap, ◌∙◌}
+use Rattle.std.proofs.Common.{◌≤◌, ◌+◌, sym, subst, arith, [], ap, ◌∙◌}
 use Rattle.natives.specs.Names.{names_of}
-use Rattle.outside.specs.declared.question.Answer.{Answer}
 use Rattle.server_host.specs.declared.edition.Edition.{Edition}
 use Rattle.ictl.specs.Main.{Script}
-use Rattle.ictl.specs.Interps.{UnlessNoMemory, gives, taken, interp_written, IsNew, Holds, IsSound, IsWithin, interp_state}
+use Rattle.ictl.specs.Interps.{interp_written, IsSound, IsWithin, interp_state}
 use Rattle.ictl.specs.declared.interp.Interp.{Interp}
-use Rattle.ictl.proofs.Interpreters.{answered_so, answered_or, ok_both}
-use Rattle.ictl.proofs.Resets.{run_from, spared_new, holds_from, sound_from, holds_same}
+use Rattle.ictl.proofs.Interpreters.{answered_or, ok_both}
+use Rattle.ictl.proofs.Resets.{spared_new, holds_from, sound_from, holds_same}
+use Rattle.ictl.proofs.Starts.{started}
 use Rattle.cmd_table.specs.Commands.{Writes}
 use Rattle.ictl.proofs.Withins.{began_within, begun_none, either, new_writes, out_stands}
 use Rattle.ictl.proofs.interp.Interp.start_script.Goals as goal
@@ -18,8 +18,7 @@ begin_script-requires g c =
 pub returns-in-Ok-clause-stands : goal.returns-in-Ok-clause-stands
 returns-in-Ok-clause-stands g c =
     let names = names_of c.args.natives.now in
-    run_from names c.next_of.result (λ (b : Edition). Script names b c.args.script.now c.args.moment) c.begin_script.new.self c.take_spare.new.self c.args.self.now c.begin_script.new.steps c.args.steps.now c.take_spare.ensures.rest
-    (answered_so c.begin_script.result c.next_of.result _ c.next_of.ensures c.begin_script.ensures.stands)
+    started names c.begin_script.result c.next_of.result (λ (b : Edition). Script names b c.args.script.now c.args.moment) c.begin_script.new.self c.take_spare.new.self c.args.self.now c.begin_script.new.steps c.args.steps.now c.take_spare.ensures.rest c.next_of.ensures c.begin_script.ensures.stands
 
 pub returns-in-Ok-clause-counts : goal.returns-in-Ok-clause-counts
 returns-in-Ok-clause-counts g c =

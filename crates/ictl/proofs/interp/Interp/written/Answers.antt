@@ -1,17 +1,16 @@
-use Rattle.std.proofs.Common.{◌≡◌, ℕ, ◌+◌, List, Bool, true, false, Result, refl, sym, subst, ap, ◌∙◌, Option, [], arith}
+use Rattle.std.proofs.Common.{◌≡◌, ◌+◌, List, Bool, true, false, refl, sym, subst, ◌∙◌, [], arith}
 use Rattle.natives.specs.Names.{names_of}
 use Rattle.outside.specs.declared.question.Answer.{Answer}
 use Rattle.ictl.specs.Main.{behind, answered, both, ends}
-use Rattle.ictl.specs.Interps.{UnlessNoMemory, gives, taken, ending_of, interp_state, IsWithin, interp_written}
+use Rattle.ictl.specs.Interps.{UnlessNoMemory, gives, taken, ending_of, interp_state, IsWithin}
 use Rattle.ictl.specs.Falls.{Falls, first_number}
 use Rattle.ictl.specs.declared.next.Next.{Next}
-use Rattle.ictl.proofs.Interpreters.{answered_so, answered_or, ok_same, unwritten_stands, unwritten_over, over_same, over_holds, ok_both}
+use Rattle.ictl.proofs.Interpreters.{answered_so, answered_or, ok_same, unwritten_stands, unwritten_over, over_same, over_holds}
 use Rattle.ictl.proofs.Resets.{sound_on, writing_runs}
-use Rattle.ictl.specs.declared.inner.InnerRun.{InnerRun}
+use Rattle.ictl.proofs.Starts.{written_most}
 use Rattle.ictl.specs.declared.interp.Interp.{Interp}
 use Rattle.cmd_table.specs.Commands.{Writes}
-use Rattle.ictl.proofs.Withins.{either, err_same, out_within, within_from, out_stands}
-use Rattle.ictl.specs.Standing.{inner_written}
+use Rattle.ictl.proofs.Withins.{out_stands}
 use Rattle.ictl.proofs.interp.Interp.written.Goals as goal
 
 pub returns-then-whole-clause-stands : goal.returns-then-whole-clause-stands
@@ -66,13 +65,8 @@ returns-then-whole-clause-most g c = λ request sound visit inside.
     let names = names_of c.args.natives.now in
     let old = c.args.self.now in
     let new = c.go_behind.new.self in
-    let none : inner_written names old.blueprint.value old.settling.inner ≡ 0 = ap (λ (i : Option InnerRun). inner_written names old.blueprint.value i) c.requires.0 in
     subst (λ (b : Bool). IsWithin (inside + Writes (interp_state old).made) c.args.steps.now c.go_behind.new.steps new (behind names old.blueprint.value old.moment b request (ending_of old.task) (interp_state old) inside [])) (sym c.if-whole.true)
-    (either c.go_behind.result _ (err_same c.go_behind.result _ _ (λ h. h request sound visit inside) c.go_behind.ensures.most)
-    (ok_both c.go_behind.result _ _ _
-    (λ next stands out. within_from (inside + Writes (interp_state old).made) (inside + interp_written names old) c.args.steps.now c.args.steps.now c.go_behind.new.steps new _ (omega (arith, none))
-    (out_within names next old new inside c.args.steps.now c.go_behind.new.steps _ c.go_behind.ensures.counts out (sym (stands request sound visit inside []))))
-    c.go_behind.ensures.stands c.go_behind.ensures.next))
+    (written_most names c.go_behind.result old new c.args.steps.now c.go_behind.new.steps c.requires.0 c.go_behind.ensures.counts c.go_behind.ensures.most c.go_behind.ensures.stands c.go_behind.ensures.next request sound visit inside)
 
 pub returns-else-whole-clause-most : goal.returns-else-whole-clause-most
 returns-else-whole-clause-most g c = λ request sound visit inside.
