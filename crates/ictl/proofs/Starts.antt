@@ -53,9 +53,9 @@ defined_most names came run new with_spare old first last rest counted most stan
 pub written_most : {E : Type 0} (names : Names) (came : Result Next E) (old new : Interp) (first last : ℕ)
     → old.settling.inner ≡ None → first + interp_written names new ≤ last + interp_written names old
     → OnErr came ((request : Request) → IsSound names old → old.visit ≡ visit_of names old.blueprint.value request → (inside : ℕ)
-      → IsWithin (inside + Writes (interp_state old).made) first last new (behind names old.blueprint.value old.moment true request (ending_of old.task) (interp_state old) inside []))
+    → IsWithin (inside + Writes (interp_state old).made) first last new (behind names old.blueprint.value old.moment true request (ending_of old.task) (interp_state old) inside []))
     → IfOk came (λ n. (request : Request) → IsSound names old → old.visit ≡ visit_of names old.blueprint.value request → (inside : ℕ) (further : List Answer)
-      → behind names old.blueprint.value old.moment true request (ending_of old.task) (interp_state old) inside further ≡ gives names n (inside + taken names last first new old) new further)
+    → behind names old.blueprint.value old.moment true request (ending_of old.task) (interp_state old) inside further ≡ gives names n (inside + taken names last first new old) new further)
     → IfOk came (λ n. GoesOut n new)
     → (request : Request) → IsSound names old → old.visit ≡ visit_of names old.blueprint.value request → (inside : ℕ)
     → IsWithin (inside + Writes (interp_state old).made) first last new (behind names old.blueprint.value old.moment true request (ending_of old.task) (interp_state old) inside [])
