@@ -21,7 +21,7 @@ use Rattle.shared_state.specs.Cells.{HaveSameNames}
 use Rattle.worker.specs.Runs.{edition_of}
 use Rattle.worker.specs.Clean.{Standing, edition_in, standing_in}
 use Rattle.worker.specs.Cost.{Build, renewal, renewal_of, renewal_by}
-use Rattle.worker.specs.Renewing.{no_epoch, epoch_unmarked, known_epoch, Follows, AreNew, IsRenewedBy, MayAdd, Adds, IsOf, IsLeft}
+use Rattle.worker.specs.Renewing.{no_epoch, epoch_unmarked, known_epoch, Follows, AreNew, IsRenewedBy, HasUnmarked, MayAdd, Adds, Builds, IsOf, HasOneOf, IsLeft}
 use Rattle.worker.proofs.Tables.{same_built, same_commands}
 use Rattle.worker.proofs.Looking.{since_told, whole_told}
 
@@ -48,9 +48,6 @@ own_epoch names interp state look r free =
 pub same_is_of : (laws : Laws) (names : List (List ℕ)) (interp : Interp) (state : blueprints.State) → IsRenewedBy names (Some interp) state looks.Same → mark_of interp ≡ false → IsOf names state interp
 same_is_of laws names interp state r free =
     (r.are_new, r.follows.3 ∙ ap (λ (s : blueprints.State). edition_of s) (laws.unchanged r.follows.0 state r.follows.1 r.allows r.follows.2 (own_epoch names interp state looks.Same r free)), free)
-
-pub unmarked_is_of : (laws : Laws) (names : List (List ℕ)) (old : Option Interp) (state : blueprints.State) (same : Interp) → IsRenewedBy names old state looks.Same → old ≡ Some same → mark_of same ≡ false → IsOf names state same
-unmarked_is_of laws names old state same r is free = same_is_of laws names same state (subst (λ (o : Option Interp). IsRenewedBy names o state looks.Same) is r) free
 
 -- ---- with what was added
 
@@ -80,9 +77,10 @@ pub may_add : (laws : Laws) (names : List (List ℕ)) (old : Option Interp) (sta
 may_add laws names None state epoch defs r = tt
 may_add laws names (Some interp) state epoch defs r = ((names, r.are_new), since_fits laws names interp state epoch defs r (since_free names interp state epoch defs (mark_of interp) refl r))
 
-pub added_is_of : (laws : Laws) (names : List (List ℕ)) (old : Option Interp) (state : blueprints.State) (epoch : ℕ) (defs : List Def) (new : Interp) → IsRenewedBy names old state (looks.Since epoch defs) → Adds old epoch defs new → IsOf names state new
+pub added_is_of : (laws : Laws) (names : List (List ℕ)) (old : Option Interp) (state : blueprints.State) (epoch : ℕ) (defs : List Def) (new : Option Interp) → IsRenewedBy names old state (looks.Since epoch defs) → Adds old epoch defs new → HasOneOf names state new
 added_is_of laws names None state epoch defs new r a = absurd a
-added_is_of laws names (Some interp) state epoch defs new r a =
+added_is_of laws names (Some interp) state epoch defs None r a = absurd a
+added_is_of laws names (Some interp) state epoch defs (Some new) r a =
     let free = since_free names interp state epoch defs (mark_of interp) refl r in
     let told = laws.added r.follows.0 state r.follows.1 r.allows r.follows.2 epoch defs (own_epoch names interp state (looks.Since epoch defs) r free) in (
       a.0 names r.are_new,
@@ -146,20 +144,32 @@ pub err_any : {A E P : Type 0} (result : Result A E) → P → OnErr result P
 err_any (Ok x) p = tt
 err_any (Err e) p = p
 
-pub same_ok : {E : Type 0} (result : Result Interp E) (laws : Laws) (names : List (List ℕ)) (old : Option Interp) (state : blueprints.State) → IsRenewedBy names old state looks.Same
-    → IfOk result (λ same. (old ≡ Some same) × (mark_of same ≡ false)) → IfOk result (IsOf names state)
-same_ok (Ok same) laws names old state r h = unmarked_is_of laws names old state same r h.0 h.1
-same_ok (Err e) laws names old state r h = tt
+pub same_ok : {A E : Type 0} (result : Result A E) (laws : Laws) (names : List (List ℕ)) (old : Option Interp) (state : blueprints.State) → IsRenewedBy names old state looks.Same
+    → OnOk result (HasUnmarked old) → OnOk result (HasOneOf names state old)
+same_ok (Ok x) laws names None state r free = absurd free
+same_ok (Ok x) laws names (Some interp) state r free = same_is_of laws names interp state r free
+same_ok (Err e) laws names old state r free = tt
 
-pub added_ok : {E : Type 0} (result : Result Interp E) (laws : Laws) (names : List (List ℕ)) (old : Option Interp) (state : blueprints.State) (epoch : ℕ) (defs : List Def) → IsRenewedBy names old state (looks.Since epoch defs)
-    → IfOk result (Adds old epoch defs) → IfOk result (IsOf names state)
-added_ok (Ok new) laws names old state epoch defs r h = added_is_of laws names old state epoch defs new r h
-added_ok (Err e) laws names old state epoch defs r h = tt
+pub adds_ok : {A E : Type 0} (result : Result A E) (old : Option Interp) (interp new : Interp) (epoch : ℕ) (defs : List Def) → old ≡ Some interp
+    → OnOk result ((names : List (List ℕ)) → IsNew names interp → IsNew names new) → OnOk result (edition_in new ≡ added (edition_in interp) epoch defs) → mark_of new ≡ mark_of interp
+    → OnOk result (Adds old epoch defs (Some new))
+adds_ok (Ok x) old interp new epoch defs is fresh at mark = subst (λ (o : Option Interp). Adds o epoch defs (Some new)) (sym is) (fresh, at, mark)
+adds_ok (Err e) old interp new epoch defs is fresh at mark = tt
 
-pub built_ok : {E : Type 0} (result : Result Interp E) (names : List (List ℕ)) (old : Option Interp) (state : blueprints.State) (epoch : ℕ) (defs : List Def) → IsRenewedBy names old state (looks.Whole epoch defs)
-    → IfOk result (λ made. IsNew names made) → IfOk result (λ made. made.blueprint.value ≡ record { epoch = epoch; defs = defs }) → IfOk result (λ made. mark_of made ≡ false) → IfOk result (IsOf names state)
-built_ok (Ok new) names old state epoch defs r is at free = built_is_of names old state epoch defs new r is at free
-built_ok (Err e) names old state epoch defs r is at free = tt
+pub added_ok : {A E : Type 0} (result : Result A E) (laws : Laws) (names : List (List ℕ)) (old new : Option Interp) (state : blueprints.State) (epoch : ℕ) (defs : List Def) → IsRenewedBy names old state (looks.Since epoch defs)
+    → OnOk result (Adds old epoch defs new) → OnOk result (HasOneOf names state new)
+added_ok (Ok x) laws names old new state epoch defs r h = added_is_of laws names old state epoch defs new r h
+added_ok (Err e) laws names old new state epoch defs r h = tt
+
+pub built_ok : {A E : Type 0} (result : Result A E) (names : List (List ℕ)) (old new : Option Interp) (state : blueprints.State) (epoch : ℕ) (defs : List Def) → IsRenewedBy names old state (looks.Whole epoch defs)
+    → OnOk result (Builds names epoch defs new) → OnOk result (HasOneOf names state new)
+built_ok (Ok x) names old None state epoch defs r h = absurd h
+built_ok (Ok x) names old (Some new) state epoch defs r h = built_is_of names old state epoch defs new r h.0 h.1 h.2
+built_ok (Err e) names old new state epoch defs r h = tt
+
+-- the one that there is
+pub one_of : (names : List (List ℕ)) (state : blueprints.State) (kept : Option Interp) (interp : Interp) → kept ≡ Some interp → HasOneOf names state kept → IsOf names state interp
+one_of names state kept interp is has = subst (λ (o : Option Interp). HasOneOf names state o) is has
 
 pub built_most : (laws : Laws) (names : List (List ℕ)) (old : Option Interp) (state : blueprints.State) (epoch : ℕ) (defs : List Def) (before after : ℕ) → IsRenewedBy names old state (looks.Whole epoch defs)
     → after ≤ before + build_steps names defs → after ≤ before + renewal names (standing_in old) state

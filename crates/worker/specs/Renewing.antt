@@ -87,18 +87,35 @@ abbrev pub IsOf : Names → blueprints.State → Interp → Type 0
 IsOf names state interp =
     IsNew names interp × (edition_in interp ≡ edition_of state) × (interp.settling.run.engine.host.marked ≡ false)
 
+-- there is one, which is so
+abbrev pub HasOneOf : Names → blueprints.State → Option Interp → Type 0
+HasOneOf names state None = ⊥
+HasOneOf names state (Some interp) = IsOf names state interp
+
+-- there is one, with no mark
+abbrev pub HasUnmarked : Option Interp → Type 0
+HasUnmarked None = ⊥
+HasUnmarked (Some interp) = interp.settling.run.engine.host.marked ≡ false
+
 -- an interpreter, where there is one, may take these definitions: it is as newly made, and they apply in order behind its own
 abbrev pub MayAdd : Option Interp → List Def → Type 0
 MayAdd None defs = Unit {0}
 MayAdd (Some interp) defs = ((names : Names) × IsNew names interp) × (first_misfit interp.settling.run.engine.table.table defs ≡ None)
 
--- it is the old one with these definitions behind its own, at this epoch, with the mark that it had
-abbrev pub Adds : Option Interp → ℕ → List Def → Interp → Type 0
+-- there is one: the old one with these definitions behind its own, at this epoch, with the mark that it had
+abbrev pub Adds : Option Interp → ℕ → List Def → Option Interp → Type 0
 Adds None epoch defs new = ⊥
-Adds (Some interp) epoch defs new =
+Adds (Some interp) epoch defs None = ⊥
+Adds (Some interp) epoch defs (Some new) =
     ((names : Names) → IsNew names interp → IsNew names new)
     × (edition_in new ≡ added (edition_in interp) epoch defs)
     × (new.settling.run.engine.host.marked ≡ interp.settling.run.engine.host.marked)
+
+-- there is one, as newly made from these definitions at this epoch, with no mark
+abbrev pub Builds : Names → ℕ → List Def → Option Interp → Type 0
+Builds names epoch defs None = ⊥
+Builds names epoch defs (Some new) =
+    IsNew names new × (edition_in new ≡ record { epoch = epoch; defs = defs }) × (new.settling.run.engine.host.marked ≡ false)
 
 -- what is left of an interpreter whose renewal was refused: all of it where the look was refused, and else all of it or nothing
 abbrev pub IsLeft : Look → Option Interp → Option Interp → Type 0

@@ -79,7 +79,7 @@ fn run_script<R: Wait, P: Pages, C: Clock, L: Ledger>(
 {
     let moment = moment_of(clock.moment());
     let Looked { turn, epoch, look } = look(rt, shared, passes, worker);
-    let Ok(mut interp) = renew(alloc, natives, worker, look, steps) else {
+    let Ok(()) = renew(alloc, natives, worker, look, steps) else {
         return Ran {
             id: due.id,
             turn,
@@ -89,8 +89,11 @@ fn run_script<R: Wait, P: Pages, C: Clock, L: Ledger>(
             outcome: Outcome::NoMemory,
         };
     };
+    let Some(interp) = &mut worker.interp else {
+        unreachable!()
+    };
     let mut heard = Heard::new(alloc);
-    let first = begin(&mut interp, natives, &due.script, moment, steps);
+    let first = begin(interp, natives, &due.script, moment, steps);
     let last = answer_all(
         rt,
         alloc,
@@ -98,14 +101,13 @@ fn run_script<R: Wait, P: Pages, C: Clock, L: Ledger>(
         shared,
         passes,
         pages,
-        &mut interp,
+        interp,
         moment,
         first,
         &mut heard,
         steps,
     );
     interp.reset(steps);
-    worker.keep(interp);
     Ran {
         id: due.id,
         turn,

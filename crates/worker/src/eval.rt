@@ -87,7 +87,7 @@ pub fn do_eval<R: Wait, P: Pages, L: Ledger>(
     ensures held { P.held pages.new ≡ P.held pages.old }
 {
     let Looked { turn, epoch, look } = look(rt, shared, passes, worker);
-    let Ok(mut interp) = renew(alloc, natives, worker, look, steps) else {
+    let Ok(()) = renew(alloc, natives, worker, look, steps) else {
         return Evaled {
             turn,
             epoch,
@@ -95,8 +95,11 @@ pub fn do_eval<R: Wait, P: Pages, L: Ledger>(
             outcome: EvalEnd::NoMemory,
         };
     };
+    let Some(interp) = &mut worker.interp else {
+        unreachable!()
+    };
     let mut heard = Heard::new(alloc);
-    let first = begin(&mut interp, natives, script, moment, steps);
+    let first = begin(interp, natives, script, moment, steps);
     let last = answer_all(
         rt,
         alloc,
@@ -104,14 +107,13 @@ pub fn do_eval<R: Wait, P: Pages, L: Ledger>(
         shared,
         passes,
         pages,
-        &mut interp,
+        interp,
         moment,
         first,
         &mut heard,
         steps,
     );
     interp.reset(steps);
-    worker.keep(interp);
     let Heard { answers, published } = heard;
     Evaled {
         turn,

@@ -146,8 +146,11 @@ fn run_item<R: Wait, K: Sink, P: Pages, C: Clock, L: Ledger>(
 {
     let Looked { turn, epoch, look } = look(rt, shared, passes, worker);
     let moment = moment_of(clock.moment());
-    let Ok(mut interp) = renew(alloc, natives, worker, look, steps) else {
+    let Ok(()) = renew(alloc, natives, worker, look, steps) else {
         return Err(Unbegun { moment });
+    };
+    let Some(interp) = &mut worker.interp else {
+        unreachable!()
     };
     let mut heard = Heard::new(alloc);
     let done = run_request(
@@ -156,7 +159,7 @@ fn run_item<R: Wait, K: Sink, P: Pages, C: Clock, L: Ledger>(
         natives,
         shared,
         passes,
-        &mut interp,
+        interp,
         request,
         moment,
         manner,
@@ -166,7 +169,6 @@ fn run_item<R: Wait, K: Sink, P: Pages, C: Clock, L: Ledger>(
         steps,
     );
     interp.reset(steps);
-    worker.keep(interp);
     let served = Served {
         turn,
         epoch,

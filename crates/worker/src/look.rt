@@ -1,13 +1,14 @@
-//! Looks at the blueprint, and interpreters that are of it.
+//! Looks at the blueprint, and interpreters that are made to be of it where they stand.
 
-ghost use Rattle.std.specs.Prelude.{◌≡◌, ◌≢◌, ◌≤◌, ◌+◌, ◌*◌, None, Some, false, IfOk, OnErr, OnOk};
+ghost use Rattle.std.specs.Prelude.{◌≡◌, ◌≢◌, ◌≤◌, ◌+◌, ◌*◌, OnErr, OnOk};
 ghost use Rattle.cmd_table.specs.Commands.{Writes};
 ghost use Rattle.natives.specs.Names.{names_of};
 ghost use Rattle.blueprint.specs.States.{State};
+ghost use Rattle.ictl.specs.Fresh.{build_steps};
 ghost use Rattle.shared_state.specs.Cells.{AreOf};
 ghost use Rattle.worker.specs.Clean.{standing_in, standing_of};
 ghost use Rattle.worker.specs.Cost.{renewal};
-ghost use Rattle.worker.specs.Renewing.{TellsLook, IsRenewedBy, MayAdd, Adds, IsOf, IsLeft, known_epoch, look_in, place_told, epoch_told};
+ghost use Rattle.worker.specs.Renewing.{TellsLook, IsRenewedBy, HasUnmarked, MayAdd, Adds, Builds, HasOneOf, IsLeft, known_epoch, look_in, place_told, epoch_told};
 
 use crate::worker::Worker;
 use blueprint::{
@@ -18,6 +19,7 @@ use ictl::{Interp, fresh_globals};
 use natives::Natives;
 use shared_state::{Passes, Shared};
 use std::alloc::Global;
+use std::mem;
 use std::sync::Wait;
 use std::sync::ledger::Ledger;
 use turn_cell::Turned;
@@ -99,56 +101,73 @@ pub(crate) fn look<R: Wait>(rt: &R, shared: &Shared, passes: &mut Passes, worker
     }
 }
 
-/// The interpreter again, unless there is none or the last run marked it: then there is nothing to use,
-/// and that counts as want of memory.
-fn unmarked(old: Option<Interp>) -> Result<Interp, NoMemory>
-    ensures same { IfOk result (λ same.
-        (old ≡ Some same) × (same.settling.run.engine.host.marked ≡ false)) }
+/// Whether the interpreter can be used as it is: there is one, and the last run didn't mark it. Where there
+/// is nothing to use, that counts as want of memory.
+fn unmarked(kept: &Option<Interp>) -> Result<(), NoMemory>
+    ensures { OnOk result (HasUnmarked kept.now) }
 {
-    match old {
-        Some(interp) if !interp.marked() => Ok(interp),
+    match kept {
+        Some(interp) if !interp.marked() => Ok(()),
         _ => Err(NoMemory),
     }
 }
 
-/// The interpreter with what was added to its blueprint, which has this epoch then. Where there is none,
+/// Gives the interpreter what was added to its blueprint, which has this epoch then. Where there is none,
 /// that counts as want of memory.
 fn updated<L: Ledger>(
-    old: Option<Interp>,
+    kept: &mut Option<Interp>,
     epoch: u64,
     defs: &Defs,
     steps: &mut Steps<L>,
-) -> Result<Interp, NoMemory>
-    requires { MayAdd old defs.now }
-    ensures of { IfOk result (λ new. Adds old epoch defs.now new) }
+) -> Result<(), NoMemory>
+    requires { MayAdd kept.old defs.now }
+    ensures of { OnOk result (Adds kept.old epoch defs.now kept.new) }
     ensures steps { OnOk result (steps.new ≡ steps.old + Writes defs.now) }
     ensures most { steps.new ≤ steps.old + 2 * Writes defs.now }
 {
-    let Some(mut interp) = old else {
+    let Some(interp) = kept else {
         return Err(NoMemory);
     };
-    interp.update(epoch, defs, steps)?;
-    Ok(interp)
+    interp.update(epoch, defs, steps)
 }
 
-/// The interpreter on the blueprint that a look found: the one that there is, updated where definitions
-/// were added; or one that is built anew, as where the old one is marked. The only error is want of
-/// memory, or that nothing is told of the last epoch that there is; the old one is let go then.
+/// Builds an interpreter on these definitions at this epoch, and lets go of one that there was. Its only
+/// error is want of memory, and what there was stays then.
+fn built<L: Ledger>(
+    alloc: Global,
+    natives: &Natives,
+    kept: &mut Option<Interp>,
+    epoch: u64,
+    defs: &Defs,
+    steps: &mut Steps<L>,
+) -> Result<(), NoMemory>
+    ensures of { OnOk result (Builds (names_of natives.now) epoch defs.now kept.new) }
+    ensures most { steps.new ≤ steps.old + build_steps (names_of natives.now) defs.now }
+{
+    let interp = Interp::build(alloc, natives, epoch, defs, steps)?;
+    drop(mem::replace(kept, Some(interp)));
+    Ok(())
+}
+
+/// Makes the interpreter one of the blueprint that a look found, where it stands: it stays as it is, or is
+/// updated where definitions were added; or one is built anew in its place, as where it is marked. The
+/// only error is want of memory, or that nothing is told of the last epoch that there is; what is left is
+/// to be let go then.
 fn renewed<L: Ledger>(
     alloc: Global,
     natives: &Natives,
-    old: Option<Interp>,
+    kept: &mut Option<Interp>,
     look: Look,
     steps: &mut Steps<L>,
-) -> Result<Interp, NoMemory>
-    requires { (state : State) × IsRenewedBy (names_of natives.now) old state look }
-    ensures of { (state : State) → IsRenewedBy (names_of natives.now) old state look
-        → IfOk result (IsOf (names_of natives.now) state) }
-    ensures steps { (state : State) → IsRenewedBy (names_of natives.now) old state look
+) -> Result<(), NoMemory>
+    requires { (state : State) × IsRenewedBy (names_of natives.now) kept.old state look }
+    ensures of { (state : State) → IsRenewedBy (names_of natives.now) kept.old state look
+        → OnOk result (HasOneOf (names_of natives.now) state kept.new) }
+    ensures steps { (state : State) → IsRenewedBy (names_of natives.now) kept.old state look
         → OnOk result
-        (steps.new ≤ steps.old + renewal (names_of natives.now) (standing_in old) state) }
-    ensures most { (state : State) → IsRenewedBy (names_of natives.now) old state look
-        → steps.new ≤ steps.old + 2 * renewal (names_of natives.now) (standing_in old) state }
+        (steps.new ≤ steps.old + renewal (names_of natives.now) (standing_in kept.old) state) }
+    ensures most { (state : State) → IsRenewedBy (names_of natives.now) kept.old state look
+        → steps.new ≤ steps.old + 2 * renewal (names_of natives.now) (standing_in kept.old) state }
     ensures told { OnOk result (look ≢ Look.NoMemory) }
 {
     // What is known of tables of commands and of blueprints.
@@ -158,26 +177,26 @@ fn renewed<L: Ledger>(
     since_is_added();
     since_applies();
     match look {
-        Look::Same => unmarked(old),
-        Look::Since { epoch, defs } => updated(old, epoch, &defs, steps),
-        Look::Whole { epoch, defs } => Interp::build(alloc, natives, epoch, &defs, steps),
+        Look::Same => unmarked(kept),
+        Look::Since { epoch, defs } => updated(kept, epoch, &defs, steps),
+        Look::Whole { epoch, defs } => built(alloc, natives, kept, epoch, &defs, steps),
         // Nothing is told of which an interpreter could be made.
         Look::NoMemory => Err(NoMemory),
     }
 }
 
-/// Takes the interpreter out of the worker, renewed by what a look found. Its error is that of a renewal;
-/// the worker has no interpreter then, or the one that it had, where the look was refused.
+/// Renews the worker's interpreter by what a look found; the worker has one then. Its error is that of a
+/// renewal; the worker has no interpreter then, or the one that it had, where the look was refused.
 pub(crate) fn renew<L: Ledger>(
     alloc: Global,
     natives: &Natives,
     worker: &mut Worker,
     look: Look,
     steps: &mut Steps<L>,
-) -> Result<Interp, NoMemory>
+) -> Result<(), NoMemory>
     requires { (state : State) × IsRenewedBy (names_of natives.now) worker.old.interp state look }
     ensures of { (state : State) → IsRenewedBy (names_of natives.now) worker.old.interp state look
-        → IfOk result (IsOf (names_of natives.now) state) }
+        → OnOk result (HasOneOf (names_of natives.now) state worker.new.interp) }
     ensures steps { (state : State)
         → IsRenewedBy (names_of natives.now) worker.old.interp state look
         → OnOk result
@@ -186,16 +205,18 @@ pub(crate) fn renew<L: Ledger>(
         → IsRenewedBy (names_of natives.now) worker.old.interp state look
         → steps.new ≤ steps.old + 2 * renewal (names_of natives.now) (standing_of worker.old) state }
     ensures number { worker.new.number ≡ worker.old.number }
-    ensures none { OnOk result (worker.new.interp ≡ None) }
     ensures err { OnErr result (IsLeft look worker.old.interp worker.new.interp) }
     ensures refused { OnErr result (look ≡ Look.NoMemory → steps.new ≡ steps.old) }
     ensures told { OnOk result (look ≢ Look.NoMemory) }
 {
     match look {
         Look::NoMemory => Err(NoMemory),
-        look => {
-            let old = worker.interp.take();
-            renewed(alloc, natives, old, look, steps)
-        }
+        look => match renewed(alloc, natives, &mut worker.interp, look, steps) {
+            Ok(()) => Ok(()),
+            Err(NoMemory) => {
+                drop(worker.interp.take());
+                Err(NoMemory)
+            }
+        },
     }
 }

@@ -1,9 +1,8 @@
 //! Workers.
 
-ghost use Rattle.std.specs.Prelude.{◌≡◌, Some, None};
+ghost use Rattle.std.specs.Prelude.{◌≡◌, None};
 
 use ictl::Interp;
-use std::mem;
 
 /// A worker: its number, and the interpreter that it uses again and again, once there is one.
 pub struct Worker {
@@ -29,13 +28,5 @@ impl Worker {
             number,
             interp: None,
         }
-    }
-
-    /// Keeps this interpreter for the next run, and lets go of one that was kept.
-    pub(crate) fn keep(&mut self, interp: Interp)
-        ensures number { self.new.number ≡ self.old.number }
-        ensures interp { self.new.interp ≡ Some interp }
-    {
-        drop(mem::replace(&mut self.interp, Some(interp)));
     }
 }

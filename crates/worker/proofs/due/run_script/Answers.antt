@@ -16,6 +16,7 @@ use Rattle.worker.specs.Working.{eval_end}
 use Rattle.worker.proofs.Turning.{gains_more, keeps_names, keeps_units}
 use Rattle.worker.proofs.Hearing.{hears_of}
 use Rattle.worker.proofs.Looking.{renewable}
+use Rattle.worker.proofs.Renewals.{one_of}
 use Rattle.worker.proofs.OneItem.{ticked, ran_clean, unbegun_clean, standing_again}
 use Rattle.worker.proofs.Paying.{new_alone, new_made, own_within, ended_alone, paid_define, paid_once, paid_all}
 use Rattle.worker.proofs.Scripting.{evaluates_by, evaluates_none, runs_due_by, runs_none}
@@ -30,7 +31,15 @@ renew-requires g c =
 pub begin-first-requires : goal.begin-first-requires
 begin-first-requires g c =
     let t = c.look-turn.ensures.looks in
-    (c.in-Ok.ensures.of t.entry.before (renewable (names_of c.args.natives.now) c.args.passes.now c.look-turn.new.passes c.args.worker.now c.look-turn.result.turn c.look-turn.result.look t c.requires.cells.1 c.requires.clean)).0
+    let r = renewable (names_of c.args.natives.now) c.args.passes.now c.look-turn.new.passes c.args.worker.now c.look-turn.result.turn c.look-turn.result.look t c.requires.cells.1 c.requires.clean in
+    (one_of (names_of c.args.natives.now) t.entry.before c.renew.new.worker.interp c.in-Some.interp c.in-Some.is (c.in-Ok.ensures.of t.entry.before r)).0
+
+-- behind a renewal there is one
+pub unreachable-requires : goal.unreachable-requires
+unreachable-requires g c =
+    let t = c.look-turn.ensures.looks in
+    let r = renewable (names_of c.args.natives.now) c.args.passes.now c.look-turn.new.passes c.args.worker.now c.look-turn.result.turn c.look-turn.result.look t c.requires.cells.1 c.requires.clean in
+    rw c.in_default.is at (c.in-Ok.ensures.of t.entry.before r)
 
 pub returns-clause-runs : goal.returns-clause-runs
 returns-clause-runs g c =
@@ -38,8 +47,8 @@ returns-clause-runs g c =
     let held = g.P.Pages.held c.args.pages.now in
     let t = c.look-turn.ensures.looks in
     let r = renewable names c.args.passes.now c.look-turn.new.passes c.args.worker.now c.look-turn.result.turn c.look-turn.result.look t c.requires.cells.1 c.requires.clean in
-    let of = c.in-Ok.ensures.of t.entry.before r in
-    let i0 = c.in-Ok.interp in
+    let of = one_of names t.entry.before c.renew.new.worker.interp c.in-Some.interp c.in-Some.is (c.in-Ok.ensures.of t.entry.before r) in
+    let i0 = c.in-Some.interp in
     let i1 = c.begin-first.new.interp in
     let i2 = c.answer_all-last.new.interp in
     let s0 = c.renew.new.steps in
@@ -58,7 +67,7 @@ returns-clause-runs g c =
     (subst (λ (e : Edition). Hears names moment (λ further. Script names e c.args.due.now.script moment further) c.look-turn.new.passes held (g.P.Pages.faults c.args.pages.now) c.new-heard.result.published c.new-heard.result.answers
     c.answer_all-last.result inside i2 c.answer_all-last.new.passes (g.P.Pages.faults c.answer_all-last.new.pages) c.answer_all-last.new.heard.published c.answer_all-last.new.heard.answers) of.1 h)
     c.new-heard.ensures.answers c.answer_all-last.ensures.stands c.outcome_of.ensures c.reset.ensures.marked
-    (ap (λ (o : Option Interp). standing_in o) c.keep.ensures.interp ∙ standing_again c.reset.new.self (edition_in i2) (edition_of t.entry.before) c.reset.new.self.settling.run.engine.host.marked c.reset.ensures.blueprint edition refl)
+    (standing_again c.reset.new.self (edition_in i2) (edition_of t.entry.before) c.reset.new.self.settling.run.engine.host.marked c.reset.ensures.blueprint edition refl)
     (λ outcome end. paid_all _ s0 s2 c.reset.new.steps _ (Writes (interp_state i2).made) _ (c.in-Ok.ensures.steps t.entry.before r)
     (paid_once s0 s1 s2 (interp_written names i0) (interp_written names i1) (interp_written names i2) _ (new_alone names i0 of.0) (ended_alone names outcome i2 (subst (λ (n : Next). StandsAt n i2) end c.answer_all-last.ensures.stands)) c.begin-first.ensures.counts c.answer_all-last.ensures.counts)
     (c.reset.ensures.steps names sound))
@@ -84,8 +93,8 @@ returns-clause-clean g c =
     let held = g.P.Pages.held c.args.pages.now in
     let t = c.look-turn.ensures.looks in
     let r = renewable names c.args.passes.now c.look-turn.new.passes c.args.worker.now c.look-turn.result.turn c.look-turn.result.look t c.requires.cells.1 c.requires.clean in
-    let of = c.in-Ok.ensures.of t.entry.before r in
-    let i0 = c.in-Ok.interp in
+    let of = one_of names t.entry.before c.renew.new.worker.interp c.in-Some.interp c.in-Some.is (c.in-Ok.ensures.of t.entry.before r) in
+    let i0 = c.in-Some.interp in
     let i1 = c.begin-first.new.interp in
     let i2 = c.answer_all-last.new.interp in
     let s0 = c.renew.new.steps in
@@ -96,7 +105,7 @@ returns-clause-clean g c =
     let sound = c.answer_all-last.ensures.sound names (c.begin-first.ensures.sound names of.0.0) in
     let edition : edition_in i2 ≡ edition_of t.entry.before = c.answer_all-last.ensures.blueprint ∙ (c.begin-first.ensures.blueprint ∙ of.1) in
     let h = c.answer_all-last.ensures.hears inside0 in
-    rw c.keep.ensures.interp (ran_clean names c.args.passes.now c.look-turn.new.passes c.answer_all-last.new.passes c.look-turn.result.turn _ c.look-turn.result.look t (h.turns ++ h.more) i0 c.reset.new.self
+    (ran_clean names c.args.passes.now c.look-turn.new.passes c.answer_all-last.new.passes c.look-turn.result.turn _ c.look-turn.result.look t (h.turns ++ h.more) i0 c.reset.new.self
     h.gains of.1 (c.reset.ensures.blueprint ∙ (c.answer_all-last.ensures.blueprint ∙ c.begin-first.ensures.blueprint)) (c.reset.ensures.is_new names sound))
 
 pub returns-clause-cells : goal.returns-clause-cells

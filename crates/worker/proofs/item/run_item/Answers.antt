@@ -9,6 +9,7 @@ use Rattle.worker.specs.Turns.{OnBlueprint}
 use Rattle.worker.specs.Sessions.{at}
 use Rattle.worker.proofs.Turning.{keeps_names}
 use Rattle.worker.proofs.Looking.{renewable}
+use Rattle.worker.proofs.Renewals.{one_of}
 use Rattle.worker.proofs.OneItem.{ticked, ran_item, ran_clean, unbegun_clean, begins_none_by, standing_again}
 use Rattle.worker.proofs.item.run_item.Goals as goal
 
@@ -21,7 +22,14 @@ pub run_request-done-requires-clause-fresh : goal.run_request-done-requires-clau
 run_request-done-requires-clause-fresh g c =
     let t = c.look-turn.ensures.looks in
     let r = renewable (names_of c.args.natives.now) c.args.passes.now c.look-turn.new.passes c.args.worker.now c.look-turn.result.turn c.look-turn.result.look t c.requires.cells.1 c.requires.clean in
-    (c.in-Ok.ensures.of t.entry.before r).0
+    (one_of (names_of c.args.natives.now) t.entry.before c.renew.new.worker.interp c.in-Some.interp c.in-Some.is (c.in-Ok.ensures.of t.entry.before r)).0
+
+-- behind a renewal there is one
+pub unreachable-requires : goal.unreachable-requires
+unreachable-requires g c =
+    let t = c.look-turn.ensures.looks in
+    let r = renewable (names_of c.args.natives.now) c.args.passes.now c.look-turn.new.passes c.args.worker.now c.look-turn.result.turn c.look-turn.result.look t c.requires.cells.1 c.requires.clean in
+    rw c.in_default.is at (c.in-Ok.ensures.of t.entry.before r)
 
 -- what was done, behind a look, on the interpreter that is of what it found
 pub returns-clause-item : goal.returns-clause-item
@@ -29,13 +37,13 @@ returns-clause-item g c = λ count before at by.
     let names = names_of c.args.natives.now in
     let t = c.look-turn.ensures.looks in
     let r = renewable names c.args.passes.now c.look-turn.new.passes c.args.worker.now c.look-turn.result.turn c.look-turn.result.look t c.requires.cells.1 c.requires.clean in
-    let of = c.in-Ok.ensures.of t.entry.before r in
+    let of = one_of names t.entry.before c.renew.new.worker.interp c.in-Some.interp c.in-Some.is (c.in-Ok.ensures.of t.entry.before r) in
     let sound = c.run_request-done.ensures.sound names of.0.0 in
     ran_item names _ count before _ c.args.manner.requests c.args.request c.run_request-done.result.sent _ _ _ c.look-turn.result.look c.look-turn.new.passes c.run_request-done.new.interp c.renew.new.steps c.run_request-done.new.steps
     t c.in-Ok.ensures.told c.look-turn.ensures.epoch
     (ticked _ _ c.moment.result c.moment_of-moment.result c.moment.ensures c.moment_of-moment.ensures)
     (c.run_request-done.ensures.ran t.entry.before before of.1 by) at c.bytes_sent.ensures
-    (ap (λ (o : Option Interp). standing_in o) c.keep.ensures.interp ∙ standing_again c.reset.new.self (edition_in c.run_request-done.new.interp) _ _ c.reset.ensures.blueprint (c.run_request-done.ensures.blueprint ∙ of.1) c.reset.ensures.marked)
+    (standing_again c.reset.new.self (edition_in c.run_request-done.new.interp) _ _ c.reset.ensures.blueprint (c.run_request-done.ensures.blueprint ∙ of.1) c.reset.ensures.marked)
     (c.in-Ok.ensures.steps t.entry.before r) (c.reset.ensures.steps names sound)
 
 pub returns-clause-clean : goal.returns-clause-clean
@@ -43,10 +51,10 @@ returns-clause-clean g c =
     let names = names_of c.args.natives.now in
     let t = c.look-turn.ensures.looks in
     let r = renewable names c.args.passes.now c.look-turn.new.passes c.args.worker.now c.look-turn.result.turn c.look-turn.result.look t c.requires.cells.1 c.requires.clean in
-    let of = c.in-Ok.ensures.of t.entry.before r in
+    let of = one_of names t.entry.before c.renew.new.worker.interp c.in-Some.interp c.in-Some.is (c.in-Ok.ensures.of t.entry.before r) in
     let sound = c.run_request-done.ensures.sound names of.0.0 in
     let ran = c.run_request-done.ensures.ran t.entry.before c.args.manner.answered of.1 (omega arith) in
-    rw c.keep.ensures.interp (ran_clean names c.args.passes.now c.look-turn.new.passes c.run_request-done.new.passes c.look-turn.result.turn _ c.look-turn.result.look t (ran.turns ++ ran.more) c.in-Ok.interp c.reset.new.self
+    (ran_clean names c.args.passes.now c.look-turn.new.passes c.run_request-done.new.passes c.look-turn.result.turn _ c.look-turn.result.look t (ran.turns ++ ran.more) c.in-Some.interp c.reset.new.self
     ran.gains of.1 (c.reset.ensures.blueprint ∙ c.run_request-done.ensures.blueprint) (c.reset.ensures.is_new names sound))
 
 pub returns-clause-cells : goal.returns-clause-cells
@@ -54,7 +62,7 @@ returns-clause-cells g c =
     let names = names_of c.args.natives.now in
     let t = c.look-turn.ensures.looks in
     let r = renewable names c.args.passes.now c.look-turn.new.passes c.args.worker.now c.look-turn.result.turn c.look-turn.result.look t c.requires.cells.1 c.requires.clean in
-    let of = c.in-Ok.ensures.of t.entry.before r in
+    let of = one_of names t.entry.before c.renew.new.worker.interp c.in-Some.interp c.in-Some.is (c.in-Ok.ensures.of t.entry.before r) in
     let ran = c.run_request-done.ensures.ran t.entry.before c.args.manner.answered of.1 (omega arith) in
     (c.run_request-done.ensures.cells, keeps_names names c.look-turn.new.passes c.run_request-done.new.passes (ran.turns ++ ran.more) ran.gains (keeps_names names c.args.passes.now c.look-turn.new.passes (OnBlueprint t.entry ∷ []) t.gains.1 c.requires.cells.1))
 
