@@ -95,17 +95,7 @@ fn run_script<R: Wait, P: Pages, C: Clock, L: Ledger>(
     let mut heard = Heard::new(alloc);
     let first = begin(interp, natives, &due.script, moment, steps);
     let last = answer_all(
-        rt,
-        alloc,
-        natives,
-        shared,
-        passes,
-        pages,
-        interp,
-        moment,
-        first,
-        &mut heard,
-        steps,
+        rt, alloc, natives, shared, passes, pages, interp, moment, first, &mut heard, steps,
     );
     interp.reset(steps);
     Ran {

@@ -101,17 +101,7 @@ pub fn do_eval<R: Wait, P: Pages, L: Ledger>(
     let mut heard = Heard::new(alloc);
     let first = begin(interp, natives, script, moment, steps);
     let last = answer_all(
-        rt,
-        alloc,
-        natives,
-        shared,
-        passes,
-        pages,
-        interp,
-        moment,
-        first,
-        &mut heard,
-        steps,
+        rt, alloc, natives, shared, passes, pages, interp, moment, first, &mut heard, steps,
     );
     interp.reset(steps);
     let Heard { answers, published } = heard;

@@ -154,19 +154,8 @@ fn run_item<R: Wait, K: Sink, P: Pages, C: Clock, L: Ledger>(
     };
     let mut heard = Heard::new(alloc);
     let done = run_request(
-        rt,
-        alloc,
-        natives,
-        shared,
-        passes,
-        interp,
-        request,
-        moment,
-        manner,
-        &mut heard,
-        sink,
-        pages,
-        steps,
+        rt, alloc, natives, shared, passes, interp, request, moment, manner, &mut heard, sink,
+        pages, steps,
     );
     interp.reset(steps);
     let served = Served {
