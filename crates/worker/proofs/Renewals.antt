@@ -21,7 +21,7 @@ use Rattle.shared_state.specs.Cells.{HaveSameNames}
 use Rattle.worker.specs.Runs.{edition_of}
 use Rattle.worker.specs.Clean.{Standing, edition_in, standing_in}
 use Rattle.worker.specs.Cost.{Build, renewal, renewal_of, renewal_by}
-use Rattle.worker.specs.Renewing.{no_epoch, epoch_unmarked, known_epoch, Follows, AreNew, IsRenewedBy, HasUnmarked, MayAdd, Adds, Builds, IsOf, HasOneOf, IsLeft}
+use Rattle.worker.specs.Renewing.{no_epoch, epoch_unmarked, known_epoch, Follows, AreNew, IsRenewedBy, mark_in, MayAdd, Adds, Builds, IsOf, HasOneOf, IsLeft}
 use Rattle.worker.proofs.Tables.{same_built, same_commands}
 use Rattle.worker.proofs.Looking.{since_told, whole_told}
 
@@ -145,9 +145,9 @@ err_any (Ok x) p = tt
 err_any (Err e) p = p
 
 pub same_ok : {A E : Type 0} (result : Result A E) (laws : Laws) (names : List (List ℕ)) (old : Option Interp) (state : blueprints.State) → IsRenewedBy names old state looks.Same
-    → OnOk result (HasUnmarked old) → OnOk result (HasOneOf names state old)
-same_ok (Ok x) laws names None state r free = absurd free
-same_ok (Ok x) laws names (Some interp) state r free = same_is_of laws names interp state r free
+    → OnOk result (mark_in old ≡ Some false) → OnOk result (HasOneOf names state old)
+same_ok (Ok x) laws names None state r free = absurd (cc)
+same_ok (Ok x) laws names (Some interp) state r free = let is : mark_of interp ≡ false = cc in same_is_of laws names interp state r is
 same_ok (Err e) laws names old state r free = tt
 
 pub adds_ok : {A E : Type 0} (result : Result A E) (old : Option Interp) (interp new : Interp) (epoch : ℕ) (defs : List Def) → old ≡ Some interp

@@ -92,10 +92,10 @@ abbrev pub HasOneOf : Names → blueprints.State → Option Interp → Type 0
 HasOneOf names state None = ⊥
 HasOneOf names state (Some interp) = IsOf names state interp
 
--- there is one, with no mark
-abbrev pub HasUnmarked : Option Interp → Type 0
-HasUnmarked None = ⊥
-HasUnmarked (Some interp) = interp.settling.run.engine.host.marked ≡ false
+-- whether the last run marked the one that there is
+abbrev pub mark_in : Option Interp → Option Bool
+mark_in None = None
+mark_in (Some interp) = Some interp.settling.run.engine.host.marked
 
 -- an interpreter, where there is one, may take these definitions: it is as newly made, and they apply in order behind its own
 abbrev pub MayAdd : Option Interp → List Def → Type 0

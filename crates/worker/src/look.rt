@@ -1,6 +1,6 @@
 //! Looks at the blueprint, and interpreters that are made to be of it where they stand.
 
-ghost use Rattle.std.specs.Prelude.{◌≡◌, ◌≢◌, ◌≤◌, ◌+◌, ◌*◌, OnErr, OnOk};
+ghost use Rattle.std.specs.Prelude.{◌≡◌, ◌≢◌, ◌≤◌, ◌+◌, ◌*◌, Some, false, OnErr, OnOk};
 ghost use Rattle.cmd_table.specs.Commands.{Writes};
 ghost use Rattle.natives.specs.Names.{names_of};
 ghost use Rattle.blueprint.specs.States.{State};
@@ -8,7 +8,7 @@ ghost use Rattle.ictl.specs.Fresh.{build_steps};
 ghost use Rattle.shared_state.specs.Cells.{AreOf};
 ghost use Rattle.worker.specs.Clean.{standing_in, standing_of};
 ghost use Rattle.worker.specs.Cost.{renewal};
-ghost use Rattle.worker.specs.Renewing.{TellsLook, IsRenewedBy, HasUnmarked, MayAdd, Adds, Builds, HasOneOf, IsLeft, known_epoch, look_in, place_told, epoch_told};
+ghost use Rattle.worker.specs.Renewing.{TellsLook, IsRenewedBy, MayAdd, Adds, Builds, HasOneOf, IsLeft, known_epoch, look_in, place_told, epoch_told, mark_in};
 
 use crate::worker::Worker;
 use blueprint::{
@@ -104,7 +104,7 @@ pub(crate) fn look<R: Wait>(rt: &R, shared: &Shared, passes: &mut Passes, worker
 /// Whether the interpreter can be used as it is: there is one, and the last run didn't mark it. Where there
 /// is nothing to use, that counts as want of memory.
 fn unmarked(kept: &Option<Interp>) -> Result<(), NoMemory>
-    ensures { OnOk result (HasUnmarked kept.now) }
+    ensures { OnOk result (mark_in kept.now ≡ Some false) }
 {
     match kept {
         Some(interp) if !interp.marked() => Ok(()),

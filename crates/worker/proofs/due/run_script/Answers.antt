@@ -32,7 +32,7 @@ pub begin-first-requires : goal.begin-first-requires
 begin-first-requires g c =
     let t = c.look-turn.ensures.looks in
     let r = renewable (names_of c.args.natives.now) c.args.passes.now c.look-turn.new.passes c.args.worker.now c.look-turn.result.turn c.look-turn.result.look t c.requires.cells.1 c.requires.clean in
-    (one_of (names_of c.args.natives.now) t.entry.before c.renew.new.worker.interp c.in-Some.interp c.in-Some.is (c.in-Ok.ensures.of t.entry.before r)).0
+    (one_of (names_of c.args.natives.now) t.entry.before c.renew.new.worker.interp _ c.in-Some.is (c.in-Ok.ensures.of t.entry.before r)).0
 
 -- behind a renewal there is one
 pub unreachable-requires : goal.unreachable-requires
@@ -47,7 +47,7 @@ returns-clause-runs g c =
     let held = g.P.Pages.held c.args.pages.now in
     let t = c.look-turn.ensures.looks in
     let r = renewable names c.args.passes.now c.look-turn.new.passes c.args.worker.now c.look-turn.result.turn c.look-turn.result.look t c.requires.cells.1 c.requires.clean in
-    let of = one_of names t.entry.before c.renew.new.worker.interp c.in-Some.interp c.in-Some.is (c.in-Ok.ensures.of t.entry.before r) in
+    let of = one_of names t.entry.before c.renew.new.worker.interp _ c.in-Some.is (c.in-Ok.ensures.of t.entry.before r) in
     let i0 = c.in-Some.interp in
     let i1 = c.begin-first.new.interp in
     let i2 = c.answer_all-last.new.interp in
@@ -93,7 +93,7 @@ returns-clause-clean g c =
     let held = g.P.Pages.held c.args.pages.now in
     let t = c.look-turn.ensures.looks in
     let r = renewable names c.args.passes.now c.look-turn.new.passes c.args.worker.now c.look-turn.result.turn c.look-turn.result.look t c.requires.cells.1 c.requires.clean in
-    let of = one_of names t.entry.before c.renew.new.worker.interp c.in-Some.interp c.in-Some.is (c.in-Ok.ensures.of t.entry.before r) in
+    let of = one_of names t.entry.before c.renew.new.worker.interp _ c.in-Some.is (c.in-Ok.ensures.of t.entry.before r) in
     let i0 = c.in-Some.interp in
     let i1 = c.begin-first.new.interp in
     let i2 = c.answer_all-last.new.interp in

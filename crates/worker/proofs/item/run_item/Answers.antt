@@ -22,7 +22,7 @@ pub run_request-done-requires-clause-fresh : goal.run_request-done-requires-clau
 run_request-done-requires-clause-fresh g c =
     let t = c.look-turn.ensures.looks in
     let r = renewable (names_of c.args.natives.now) c.args.passes.now c.look-turn.new.passes c.args.worker.now c.look-turn.result.turn c.look-turn.result.look t c.requires.cells.1 c.requires.clean in
-    (one_of (names_of c.args.natives.now) t.entry.before c.renew.new.worker.interp c.in-Some.interp c.in-Some.is (c.in-Ok.ensures.of t.entry.before r)).0
+    (one_of (names_of c.args.natives.now) t.entry.before c.renew.new.worker.interp _ c.in-Some.is (c.in-Ok.ensures.of t.entry.before r)).0
 
 -- behind a renewal there is one
 pub unreachable-requires : goal.unreachable-requires
@@ -37,7 +37,7 @@ returns-clause-item g c = λ count before at by.
     let names = names_of c.args.natives.now in
     let t = c.look-turn.ensures.looks in
     let r = renewable names c.args.passes.now c.look-turn.new.passes c.args.worker.now c.look-turn.result.turn c.look-turn.result.look t c.requires.cells.1 c.requires.clean in
-    let of = one_of names t.entry.before c.renew.new.worker.interp c.in-Some.interp c.in-Some.is (c.in-Ok.ensures.of t.entry.before r) in
+    let of = one_of names t.entry.before c.renew.new.worker.interp _ c.in-Some.is (c.in-Ok.ensures.of t.entry.before r) in
     let sound = c.run_request-done.ensures.sound names of.0.0 in
     ran_item names _ count before _ c.args.manner.requests c.args.request c.run_request-done.result.sent _ _ _ c.look-turn.result.look c.look-turn.new.passes c.run_request-done.new.interp c.renew.new.steps c.run_request-done.new.steps
     t c.in-Ok.ensures.told c.look-turn.ensures.epoch
@@ -51,7 +51,7 @@ returns-clause-clean g c =
     let names = names_of c.args.natives.now in
     let t = c.look-turn.ensures.looks in
     let r = renewable names c.args.passes.now c.look-turn.new.passes c.args.worker.now c.look-turn.result.turn c.look-turn.result.look t c.requires.cells.1 c.requires.clean in
-    let of = one_of names t.entry.before c.renew.new.worker.interp c.in-Some.interp c.in-Some.is (c.in-Ok.ensures.of t.entry.before r) in
+    let of = one_of names t.entry.before c.renew.new.worker.interp _ c.in-Some.is (c.in-Ok.ensures.of t.entry.before r) in
     let sound = c.run_request-done.ensures.sound names of.0.0 in
     let ran = c.run_request-done.ensures.ran t.entry.before c.args.manner.answered of.1 (omega arith) in
     (ran_clean names c.args.passes.now c.look-turn.new.passes c.run_request-done.new.passes c.look-turn.result.turn _ c.look-turn.result.look t (ran.turns ++ ran.more) c.in-Some.interp c.reset.new.self
@@ -62,7 +62,7 @@ returns-clause-cells g c =
     let names = names_of c.args.natives.now in
     let t = c.look-turn.ensures.looks in
     let r = renewable names c.args.passes.now c.look-turn.new.passes c.args.worker.now c.look-turn.result.turn c.look-turn.result.look t c.requires.cells.1 c.requires.clean in
-    let of = one_of names t.entry.before c.renew.new.worker.interp c.in-Some.interp c.in-Some.is (c.in-Ok.ensures.of t.entry.before r) in
+    let of = one_of names t.entry.before c.renew.new.worker.interp _ c.in-Some.is (c.in-Ok.ensures.of t.entry.before r) in
     let ran = c.run_request-done.ensures.ran t.entry.before c.args.manner.answered of.1 (omega arith) in
     (c.run_request-done.ensures.cells, keeps_names names c.look-turn.new.passes c.run_request-done.new.passes (ran.turns ++ ran.more) ran.gains (keeps_names names c.args.passes.now c.look-turn.new.passes (OnBlueprint t.entry ∷ []) t.gains.1 c.requires.cells.1))
 
