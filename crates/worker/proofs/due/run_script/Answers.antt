@@ -39,7 +39,7 @@ pub unreachable-requires : goal.unreachable-requires
 unreachable-requires g c =
     let t = c.look-turn.ensures.looks in
     let r = renewable (names_of c.args.natives.now) c.args.passes.now c.look-turn.new.passes c.args.worker.now c.look-turn.result.turn c.look-turn.result.look t c.requires.cells.1 c.requires.clean in
-    rw c.in_default.is at (c.in-Ok.ensures.of t.entry.before r)
+    rw c.in_default-interp.is at (c.in-Ok.ensures.of t.entry.before r)
 
 pub returns-clause-runs : goal.returns-clause-runs
 returns-clause-runs g c =

@@ -29,7 +29,7 @@ pub unreachable-requires : goal.unreachable-requires
 unreachable-requires g c =
     let t = c.look-turn.ensures.looks in
     let r = renewable (names_of c.args.natives.now) c.args.passes.now c.look-turn.new.passes c.args.worker.now c.look-turn.result.turn c.look-turn.result.look t c.requires.cells.1 c.requires.clean in
-    rw c.in_default.is at (c.in-Ok.ensures.of t.entry.before r)
+    rw c.in_default-interp.is at (c.in-Ok.ensures.of t.entry.before r)
 
 -- what was done, behind a look, on the interpreter that is of what it found
 pub returns-clause-item : goal.returns-clause-item
