@@ -5,10 +5,9 @@ use Rattle.server_host.specs.declared.edition.Edition.{Edition}
 use Rattle.ictl.specs.Falls.{StandsAt}
 use Rattle.ictl.specs.Interps.{taken, interp_state, interp_written, IsWithin}
 use Rattle.ictl.specs.Main.{Define, Script}
-use Rattle.ictl.specs.declared.interp.Interp.{Interp}
 use Rattle.ictl.specs.declared.next.Next.{Next}
 use Rattle.worker.specs.Asking.{Hears}
-use Rattle.worker.specs.Clean.{edition_in, standing_in}
+use Rattle.worker.specs.Clean.{edition_in}
 use Rattle.worker.specs.Cost.{renewal}
 use Rattle.worker.specs.Turns.{OnBlueprint}
 use Rattle.worker.specs.Runs.{edition_of}

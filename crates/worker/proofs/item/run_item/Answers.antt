@@ -1,10 +1,9 @@
-use Rattle.std.proofs.Common.{◌≡◌, ◌∙◌, ◌+◌, ◌≤◌, ◌++◌, ◌∷◌, [], ℕ, List, Option, refl, sym, ap, subst, arith}
+use Rattle.std.proofs.Common.{◌≡◌, ◌∙◌, ◌+◌, ◌≤◌, ◌++◌, ◌∷◌, [], ℕ, List, refl, arith}
 use Rattle.std.specs.Prelude.{min, Some}
 use Rattle.cmd_table.specs.Commands.{Writes}
 use Rattle.natives.specs.Names.{names_of}
 use Rattle.ictl.specs.Interps.{interp_state}
-use Rattle.ictl.specs.declared.interp.Interp.{Interp}
-use Rattle.worker.specs.Clean.{edition_in, standing_in}
+use Rattle.worker.specs.Clean.{edition_in}
 use Rattle.worker.specs.Turns.{OnBlueprint}
 use Rattle.worker.specs.Sessions.{at}
 use Rattle.worker.proofs.Turning.{keeps_names}
