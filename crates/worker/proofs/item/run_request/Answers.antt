@@ -9,9 +9,10 @@ use Rattle.ictl.specs.Falls.{StandsAt}
 use Rattle.outside.specs.declared.question.Answer.{Answer}
 use Rattle.cmd_table.specs.Commands.{Writes}
 use Rattle.ictl.specs.Main.{Progress, Main, behind}
-use Rattle.ictl.specs.Interps.{taken, ending_of, interp_state, interp_written, IsWithin}
+use Rattle.ictl.specs.Interps.{taken, ending_of, interp_state, interp_written, gives, Stands, IsWithin}
 use Rattle.ictl.specs.Visits.{visit_of}
 use Rattle.ictl.specs.declared.next.Next.{Next}
+use Rattle.worker.specs.Asking.{Hears}
 use Rattle.worker.specs.Clean.{edition_in}
 use Rattle.worker.specs.Cost.{run_cost}
 use Rattle.worker.specs.Items.{bytes_of}
@@ -56,11 +57,12 @@ returns-in_default-clause-ran g c = λ state before is by.
     let h = c.answer_all-main.ensures.hears inside1 in
     let main = heard_main names state request moment (edition_in i0) c.start_request-first.result inside1 i1 p held (g.P.Pages.faults c.args.pages.now) known c.args.heard.now.answers
     c.answer_all-main.result inside2 i2 q f2 noted had is c.start_request-first.ensures.stands c.answer_all-main.ensures.stands h in
+    let within : KeepsWithin names c.start_request-first.result i1 s1 c.args.heard.now.answers c.answer_all-main.result i2 s2 had = c.answer_all-main.ensures.within in
     wants_before names held state request moment number before c.tell_want.result.sent p q (g.K.Sink.taken c.args.sink.now) (g.K.Sink.taken c.tell_want.new.sink)
     (g.P.Pages.faults c.args.pages.now) f2 s0 s2 known noted c.args.heard.now.answers had c.answer_all-main.result inside2 i2 c.tell_want.result.outcome main c.requires.none c.tell_want.ensures.outcome c.tell_want.ensures.sent
     (cost_within i2 _ s0 s2 (subst (λ (e : Edition). IsWithin 0 s0 s2 i2 (Main names e request moment had)) is
     (within_all names (λ further. Main names (edition_in i0) request moment further) c.args.heard.now.answers _ _ i2 had 0 s0 s2
-    (c.answer_all-main.ensures.within (λ further. Main names (edition_in i0) request moment further) inside1 0 s0 (record { stands = c.start_request-first.ensures.stands })
+    (within (λ further. Main names (edition_in i0) request moment further) inside1 0 s0 (record { stands = c.start_request-first.ensures.stands })
     (first_within s0 s1 w0 w1) c.start_request-first.ensures.most) c.requires.none)))
 
 -- memory wanted in the bytes of the response
@@ -179,17 +181,18 @@ returns-in-Whole-clause-ran g c = λ state before is by.
     let had = c.answer_all-main.new.heard.answers in
     let known = c.args.heard.now.published in
     let noted = c.answer_all-main.new.heard.published in
-    let h = c.answer_all-main.ensures.hears inside1 in
+    let h : Hears names moment (λ further. gives names c.start_request-first.result inside1 i1 further) p held (g.P.Pages.faults c.args.pages.now) known c.args.heard.now.answers c.answer_all-main.result inside2 i2 q f2 noted had = c.answer_all-main.ensures.hears inside1 in
+    let stands : StandsAt c.answer_all-main.result i2 = c.answer_all-main.ensures.stands in
     let main = heard_main names state request moment (edition_in i0) c.start_request-first.result inside1 i1 p held (g.P.Pages.faults c.args.pages.now) known c.args.heard.now.answers
-    c.answer_all-main.result inside2 i2 q f2 noted had is c.start_request-first.ensures.stands c.answer_all-main.ensures.stands h in
+    c.answer_all-main.result inside2 i2 q f2 noted had is c.start_request-first.ensures.stands stands h in
     let written = rw c.in-Write.is at main in
     let reply = reply_for request c.in-Write.response moment number before had in
     let as_asked : response_bytes c.in-Write.response moment c.args.manner.head_only (closes c.args.manner.asks number (before + bytes_of had)) ≡ reply =
     λ i. response_bytes c.in-Write.response moment (c.requires.manner.1 i) (closes (c.requires.manner.0 i) number (before + bytes_of had)) in
-    let writing = rw c.in-Write.is at c.answer_all-main.ensures.stands in
+    let writing = rw c.in-Write.is at stands in
     let sound = c.answer_all-main.ensures.sound names (c.start_request-first.ensures.sound names c.requires.fresh.0) in
     let visited = begun names moment ((i1.visit ≡ visit_of names (edition_in i0) request) × (i1.moment ≡ moment)) c.start_request-first.result inside1 i1 p held (g.P.Pages.faults c.args.pages.now) known c.args.heard.now.answers
-    c.answer_all-main.result inside2 i2 q f2 noted had c.start_request-first.ensures.visit c.answer_all-main.ensures.stands (λ none. let e = c.in-Write.is in cc) h in
+    c.answer_all-main.result inside2 i2 q f2 noted had c.start_request-first.ensures.visit stands (λ none. let e = c.in-Write.is in cc) h in
     let edition : edition_in i2 ≡ edition_in i0 = c.answer_all-main.ensures.blueprint ∙ c.start_request-first.ensures.holds.blueprint in
     let visit : i2.visit ≡ visit_of names (edition_in i2) request = c.answer_all-main.ensures.same.visit ∙ (visited.0 ∙ ap (λ (e : Edition). visit_of names e request) (sym edition)) in
     let d = c.in-Whole.ensures before by in
@@ -199,23 +202,25 @@ returns-in-Whole-clause-ran g c = λ state before is by.
     let s4 = c.answer_all-last.new.steps in
     let inside3 = inside2 + taken names s3 s2 i3 i2 in
     let inside4 = inside3 + taken names s4 s3 i4 i3 in
+    let goes : Stands names (behind names (edition_in i2) i2.moment true request (ending_of i2.task) (interp_state i2) inside2) c.written-behind.result inside3 i3 [] = c.written-behind.ensures.stands request sound visit inside2 in
+    let last : StandsAt c.answer_all-last.result i4 = c.answer_all-last.ensures.stands in
     let heard = heard_behind names state request moment true (edition_in i2) i2.moment (ending_of i2.task) (interp_state i2) inside2 c.written-behind.result inside3 i3 q held f2 noted had
     c.answer_all-last.result inside4 i4 c.answer_all-last.new.passes (g.P.Pages.faults c.answer_all-last.new.pages) c.answer_all-last.new.heard.published c.answer_all-last.new.heard.answers
-    (edition ∙ is) (c.answer_all-main.ensures.same.moment ∙ visited.1) (c.written-behind.ensures.stands request sound visit inside2) c.answer_all-last.ensures.stands (rw c.answer_all-main.ensures.held at (c.answer_all-last.ensures.hears inside3)) in
+    (edition ∙ is) (c.answer_all-main.ensures.same.moment ∙ visited.1) goes last (rw c.answer_all-main.ensures.held at (c.answer_all-last.ensures.hears inside3)) in
     let both = hears_both names held state request moment true p q c.answer_all-last.new.passes (g.P.Pages.faults c.args.pages.now) f2 (g.P.Pages.faults c.answer_all-last.new.pages) known noted noted c.answer_all-last.new.heard.published
     c.args.heard.now.answers had c.answer_all-last.new.heard.answers c.in-Write.response i2 inside2 c.answer_all-last.result i4 inside4 written c.requires.none heard in
     let within : KeepsWithin names c.written-behind.result i3 s3 had c.answer_all-last.result i4 s4 c.answer_all-last.new.heard.answers = c.answer_all-last.ensures.within in
     let behind_run : Edition → ℕ → List Answer → Progress = λ edition now further. behind names edition now true request (ending_of i2.task) (interp_state i2) inside2 further in
     written_whole names held state request moment number before c.in-Whole.bytes p c.answer_all-last.new.passes (g.K.Sink.taken c.args.sink.now) (g.K.Sink.taken c.write.new.sink) (g.P.Pages.faults c.args.pages.now) (g.P.Pages.faults c.answer_all-last.new.pages) s0 s4
-    had c.answer_all-last.new.heard.answers c.in-Write.response i2 inside2 c.answer_all-last.result i4 inside4 c.outcome_of.result both c.answer_all-last.ensures.stands c.outcome_of.ensures
+    had c.answer_all-last.new.heard.answers c.in-Write.response i2 inside2 c.answer_all-last.result i4 inside4 c.outcome_of.result both last c.outcome_of.ensures
     (subst (λ (l : List ℕ). c.in-Whole.bytes ≡ length l) as_asked d.0) (subst (λ (l : List ℕ). Gains (g.K.Sink.taken c.args.sink.now) l (g.K.Sink.taken c.write.new.sink)) as_asked d.1)
     (λ outcome end. paid_twice s0 s1 s2 s3 s4 w0 w1 w2 (interp_written names i3) (interp_written names i4) _ (new_alone names i0 c.requires.fresh)
-    (ended_alone names outcome i4 (subst (λ (n : Next). StandsAt n i4) end c.answer_all-last.ensures.stands)) c.start_request-first.ensures.counts c.answer_all-main.ensures.counts c.written-behind.ensures.counts c.answer_all-last.ensures.counts)
+    (ended_alone names outcome i4 (subst (λ (n : Next). StandsAt n i4) end last)) c.start_request-first.ensures.counts c.answer_all-main.ensures.counts c.written-behind.ensures.counts c.answer_all-last.ensures.counts)
     (λ none. subst (λ (run : Progress). s4 + Writes (interp_state i4).made ≤ s0 + run_cost run)
     ((λ k. behind_run ((edition ∙ is) k) ((c.answer_all-main.ensures.same.moment ∙ visited.1) k) both.left) ∙ sym both.behind_is)
     (cost_behind i4 _ s0 s1 s2 s4 w0 w1 w2 _ (new_alone names i0 c.requires.fresh) (writing_alone names i2 writing) c.start_request-first.ensures.counts c.answer_all-main.ensures.counts
     (within_left names (behind_run (edition_in i2) i2.moment) had both.left _ _ i4 c.answer_all-last.new.heard.answers (inside2 + Writes (interp_state i2).made) s2 s4
-    (within (behind_run (edition_in i2) i2.moment) inside3 (inside2 + Writes (interp_state i2).made) s2 (record { stands = c.written-behind.ensures.stands request sound visit inside2 })
+    (within (behind_run (edition_in i2) i2.moment) inside3 (inside2 + Writes (interp_state i2).made) s2 (record { stands = goes })
     (behind_within s2 s3 w2 (interp_written names i3) inside2 _ (writing_alone names i2 writing)) (c.written-behind.ensures.most request sound visit inside2)) both.all_are)))
 
 pub returns-in-Whole-clause-sound : goal.returns-in-Whole-clause-sound
