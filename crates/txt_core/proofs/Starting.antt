@@ -137,11 +137,17 @@ left_next part t behind x n e no_star left = by_match left.rest left.counted lef
 pub left_last : (p t : List ℕ) (n : ℕ) → p ≡ [] → LeftOf p t n → length t ≡ n
 left_last p t n e left = omega (arith, left.counted, ap length (no_pattern p left.rest e left.matched))
 
+-- a part that is no `*` takes a byte more
+pub more_left : (part t behind : List ℕ) (x n : ℕ) → part ≡ x ∷ behind → (x ≡ 42 → ⊥) → LeftOf part t n → n < length t
+more_left part t behind x n e no_star left =
+    let next : LeftOf (behind_part (x ∷ behind)) t (n + 1) = left_next part t behind x n e no_star left in
+    omega (arith, next.counted)
+
 -- a text that is shorter than each that the pattern matches
-pub last_short : (p t : List ℕ) (n : ℕ) → ((u : List ℕ) → Matches p u → length u ≡ n) → length t < n → Matches (42 ∷ p) t → ⊥
-last_short p t n count short m =
+pub too_short : (p t : List ℕ) → ((u : List ℕ) → Matches p u → length t < length u) → Matches (42 ∷ p) t → ⊥
+too_short p t more m =
     let a : AfterStar p t = of_star (42 ∷ p) t p m refl in
-    omega (arith, short, count a.rest a.matched, ap length a.split, length-append a.some a.rest)
+    omega (arith, more a.rest a.matched, ap length a.split, length-append a.some a.rest)
 
 -- the one end of a text that is as long as each that the pattern matches
 pub last_here : (p t : List ℕ) (n : ℕ) → ((u : List ℕ) → Matches p u → length u ≡ n) → n ≤ length t → Matches (42 ∷ p) t → Matches p (drop (length t - n) t)

@@ -1,11 +1,10 @@
 //! What the front of a pattern tells of the places where it can match.
 
-ghost use Rattle.std.specs.Prelude.{◌≡◌, ◌≤◌, ◌<◌, ◌∷◌, ⊤, MatchOption, IfSome, length, position};
+ghost use Rattle.std.specs.Prelude.{◌≡◌, ◌≤◌, ◌<◌, ◌∷◌, IfSome, length, position};
 ghost use Rattle.std.specs.List.{position_or_len, before_first};
-ghost use Rattle.txt_core.specs.Names.{Bytes};
-ghost use Rattle.txt_core.specs.Pattern.{Matches, is_bracket};
+ghost use Rattle.txt_core.specs.Pattern.{is_bracket};
 ghost use Rattle.txt_core.specs.PatternLaws.{behind_part};
-ghost use Rattle.txt_core.specs.PatternRuns.{is_special};
+ghost use Rattle.txt_core.specs.PatternRuns.{is_special, LengthsAre};
 
 /// Whether a byte of a pattern is more than itself.
 fn is_special(byte: u8) -> bool
@@ -71,20 +70,34 @@ fn behind_first(first: u8, behind: &[u8]) -> &[u8]
     behind
 }
 
-/// How many bytes each text has that a pattern matches, where no part of it is a `*`: one for each
-/// part. A class that isn't closed is its last part, whatever stands in it.
-pub fn one_length(pattern: &[u8]) -> Option<usize>
-    ensures { MatchOption result ⊤ (λ count.
-        (text : Bytes) → Matches pattern.now text → length text ≡ count) }
+/// How long the texts are that a pattern matches, as far as it was read.
+#[derive(Clone, Copy)]
+pub enum Lengths {
+    /// Each has so many bytes.
+    One(usize),
+    /// Each has more bytes than the call asked for.
+    More,
+    /// A `*` comes, and they may have any number of bytes.
+    Any,
+}
+
+/// How long the texts are that a pattern matches. Its parts take one byte each, up to the first `*`;
+/// a class that isn't closed is the last one, whatever stands in it. No more parts are read than the
+/// text has bytes that is to be matched.
+pub fn lengths_of(pattern: &[u8], most: usize) -> Lengths
+    ensures { LengthsAre pattern.now most result }
 {
     let mut rest = pattern;
-    let mut count = 0usize;
+    let mut count = 0;
     'parts: while let Some((first, behind)) = rest.split_first() {
         if *first == b'*' {
-            return None;
+            return Lengths::Any;
+        }
+        if count == most {
+            return Lengths::More;
         }
         rest = behind_first(*first, behind);
         count += 1;
     }
-    Some(count)
+    Lengths::One(count)
 }
