@@ -119,9 +119,6 @@ pub record LeftOf (part text : List ℕ) (count : ℕ) : Type 0 where
   pub matched : Matches part rest
   pub counted : length text ≡ count + length rest
 
-pub left_first : (p t : List ℕ) → Matches p t → LeftOf p t 0
-left_first p t m = record { rest = t; matched = m; counted = omega arith }
-
 pub left_next : (part t behind : List ℕ) (x n : ℕ) → part ≡ x ∷ behind → (x ≡ 42 → ⊥) → LeftOf part t n → LeftOf (behind_part (x ∷ behind)) t (n + 1)
 left_next part t behind x n e no_star left = by_match left.rest left.counted left.matched
   where

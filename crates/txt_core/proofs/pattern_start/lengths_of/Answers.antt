@@ -1,6 +1,6 @@
-use Rattle.std.proofs.Common.{◌≡◌, ℕ, List, ◌+◌, ◌∷◌, arith, subst, sym, ap, length}
+use Rattle.std.proofs.Common.{◌≡◌, ℕ, List, ◌+◌, ◌∷◌, arith, subst, sym}
 use Rattle.std.proofs.lemmas.List.{nil_from_length}
-use Rattle.txt_core.specs.PatternLaws.{part_within, behind_part}
+use Rattle.txt_core.specs.PatternLaws.{behind_part}
 use Rattle.txt_core.proofs.Starting.{LeftOf, left_next, left_last, more_left}
 use Rattle.txt_core.proofs.pattern_start.lengths_of.Goals as goal
 
