@@ -58,7 +58,7 @@ fn version(request: &Request) -> &'static [u8]
 fn request_line(alloc: Global, request: &Request) -> Result<Text, NoMemory>
     ensures { IfOk result (λ line. line ≡ request_line request.now) }
 {
-    let mut line = Text::new(alloc, request.method.bytes())?;
+    let mut line = request.method.copy(alloc)?;
     line.append(b" ")?;
     line.append(request.target.bytes())?;
     line.append(b" ")?;

@@ -169,10 +169,7 @@ fn pairs(alloc: Global, bytes: &[u8], spans: &[HeaderSpan]) -> Result<Pairs, NoM
 {
     let mut pairs = Pairs::new(alloc);
     for span in spans {
-        let pair = pair(alloc, bytes, span)?;
-        if pairs.push(pair).is_err() {
-            return Err(NoMemory);
-        }
+        pairs.add(pair(alloc, bytes, span)?)?;
     }
     Ok(pairs)
 }

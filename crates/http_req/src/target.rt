@@ -77,10 +77,7 @@ pub(crate) fn segments(alloc: Global, target: &[u8]) -> Result<Words, NoMemory>
     let mut segments = Words::new(alloc);
     for part in path(target).split(|byte| *byte == b'/') {
         if !part.is_empty() {
-            let segment = decoded(alloc, part)?;
-            if segments.push(segment).is_err() {
-                return Err(NoMemory);
-            }
+            segments.add(decoded(alloc, part)?)?;
         }
     }
     Ok(segments)

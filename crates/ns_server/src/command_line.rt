@@ -13,9 +13,7 @@ pub fn command_words<R: Env + AllocGlobal>(rt: &R) -> Result<Words, NoMemory> {
         let Some(word) = word_at(rt, place)? else {
             break;
         };
-        if words.push(word).is_err() {
-            return Err(NoMemory);
-        }
+        words.add(word)?;
     }
     Ok(words)
 }

@@ -14,13 +14,6 @@ use txt_core::{NoMemory, Text};
 /// The answer of a call that puts a field, where it put none.
 const NO_PLACE: i64 = -1;
 
-/// A copy of a text.
-fn copied(alloc: Global, text: &Text) -> Result<Text, NoMemory>
-    ensures { IfOk result (λ copy. copy ≡ text.now) }
-{
-    Text::new(alloc, text.bytes())
-}
-
 /// Keys with their values, in order. Contracts see the list of them.
 #[derive(Debug, Drop)]
 pub struct Fields {
@@ -99,7 +92,7 @@ impl Fields {
         ensures { IfOk result (λ value. value ≡ value_of (same matching) self.now key.now) }
     {
         match self.find(matching, key) {
-            Some(at) => copied(alloc, &self.list[at].1),
+            Some(at) => self.list[at].1.copy(alloc),
             None => Ok(Text::empty(alloc)),
         }
     }
@@ -112,7 +105,7 @@ impl Fields {
         ensures other { result ≢ Err SetFault.NoSet }
     {
         match self.list.get(at as usize) {
-            Some(field) => Ok(copied(alloc, &field.0)?),
+            Some(field) => Ok(field.0.copy(alloc)?),
             None => Err(SetFault::NoField),
         }
     }
@@ -125,7 +118,7 @@ impl Fields {
         ensures other { result ≢ Err SetFault.NoSet }
     {
         match self.list.get(at as usize) {
-            Some(field) => Ok(copied(alloc, &field.1)?),
+            Some(field) => Ok(field.1.copy(alloc)?),
             None => Err(SetFault::NoField),
         }
     }
@@ -136,7 +129,7 @@ impl Fields {
         ensures ok { OnOk result (self.new ≡ with_field self.old key.now value.now) }
         ensures err { OnErr result (self.new ≡ self.old) }
     {
-        let field = (copied(alloc, key)?, copied(alloc, value)?);
+        let field = (key.copy(alloc)?, value.copy(alloc)?);
         self.list.push(field)?;
         Ok(self.last_place())
     }

@@ -19,7 +19,7 @@ impl Set {
         ensures { IfOk result (λ set. set ≡ self.now) }
     {
         Ok(Set {
-            name: Text::new(alloc, self.name.bytes())?,
+            name: self.name.copy(alloc)?,
             fields: self.fields.copied(alloc)?,
         })
     }

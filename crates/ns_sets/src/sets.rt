@@ -341,7 +341,7 @@ impl Sets {
         ensures other { result ≢ Err SetFault.NoField }
     {
         let set = self.standing(set)?;
-        Ok(Text::new(self.alloc, set.name.bytes())?)
+        Ok(set.name.copy(self.alloc)?)
     }
 
     /// The key of the field at a place, counted from 0. `NoSet` comes exactly where no set has

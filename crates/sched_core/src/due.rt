@@ -33,9 +33,7 @@ fn due_scripts(alloc: Global, plans: &Plans, now: u64) -> Result<DueList, NoMemo
     let mut list = DueList::new(alloc);
     for (key, plan) in plans.range(..(now + 1, 0)) {
         let script = Text::new(alloc, plan.script.bytes())?;
-        if list.push(DueScript { id: key.1, script }).is_err() {
-            return Err(NoMemory);
-        }
+        list.add(DueScript { id: key.1, script })?;
     }
     Ok(list)
 }

@@ -25,8 +25,7 @@ use crate::value::{
 };
 use crate::verb::{Verb, find_verb};
 use crate::words::{
-    BYTES_FOR_ONE, behind_name, copy_word, first_word, joined, push_word, share_word, with_name,
-    word_at,
+    BYTES_FOR_ONE, behind_name, copy_word, first_word, joined, share_word, with_name, word_at,
 };
 use cmd_table::{Cmd, Def, Renamed, Steps};
 use natives::{Fault, Native, Natives};
@@ -37,7 +36,7 @@ use tcl_frame::{VarFault, is_element_name};
 use tcl_host::{Host, HostReply, OK};
 use tcl_varcmd::{is_var_command, var_command};
 use txt_core::error_text::unknown_command;
-use txt_core::{MOST_BYTES, MOST_NESTED, NoMemory, Pairs, Text, Words};
+use txt_core::{MOST_BYTES, MOST_NESTED, NoMemory, Pairs, Text, Words, write_natural};
 
 /// How deep scripts may stand in one another.
 pub const MOST_LEVELS: u32 = MOST_NESTED;
@@ -61,9 +60,8 @@ fn addressed(alloc: Global, question: Question, levels: u32) -> Result<Question,
     match question.service {
         Service::Inner => {
             let depth = (MOST_LEVELS + 1).saturating_sub(levels);
-            let depth = Text::new(alloc, format!(in alloc; "{depth}")?.as_bytes())?;
             let Question { service, mut words } = question;
-            push_word(&mut words, depth)?;
+            words.add(write_natural(alloc, depth as u64)?)?;
             Ok(Question { service, words })
         }
         Service::Page | Service::Nsv | Service::Schedule | Service::Publish | Service::Save => Ok(

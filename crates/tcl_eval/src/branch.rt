@@ -163,7 +163,7 @@ fn with_last(alloc: Global, clauses: Pairs, words: &[Text]) -> Result<Option<Bra
             if !behind.is_empty() {
                 return Ok(None);
             }
-            let last = Some(Text::new(alloc, body.bytes())?);
+            let last = Some(body.copy(alloc)?);
             Ok(Some(Branches { clauses, last }))
         }
     }

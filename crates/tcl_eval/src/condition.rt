@@ -35,8 +35,8 @@ impl<H: Host> Engine<H> {
     {
         match branches.clauses.get(at) {
             Some(clause) => {
-                let condition = Text::new(self.alloc, clause.0.bytes())?;
-                let body = Text::new(self.alloc, clause.1.bytes())?;
+                let condition = clause.0.copy(self.alloc)?;
+                let body = clause.1.copy(self.alloc)?;
                 let next = place_behind(at, 1, branches.clauses.len());
                 let again = branches.clone()?;
                 self.stack.push(Frame::Branch(Branch::If {

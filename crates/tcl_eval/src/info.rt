@@ -12,7 +12,7 @@ use crate::message::no_procedure;
 use crate::parameter::{Parameter, parameters};
 use crate::stack::Ended;
 use crate::value::{error, wrong_words};
-use crate::words::{copy_word, push_word, word_at};
+use crate::words::{copy_word, word_at};
 use cmd_table::Cmd;
 use std::alloc::Global;
 use tcl_host::{Host, OK};
@@ -32,7 +32,7 @@ fn picked(alloc: Global, names: &[Text], pattern: Option<&Text>) -> Result<Words
             Some(pattern) => glob(pattern, name),
         };
         if is_picked {
-            push_word(&mut found, Text::new(alloc, name.bytes())?)?;
+            found.add(name.copy(alloc)?)?;
         }
     }
     Ok(found)
@@ -44,7 +44,7 @@ fn names_of(alloc: Global, parameters: &[Parameter]) -> Result<Words, NoMemory>
 {
     let mut names = Words::new(alloc);
     for parameter in parameters {
-        push_word(&mut names, Text::new(alloc, parameter.name.bytes())?)?;
+        names.add(parameter.name.copy(alloc)?)?;
     }
     Ok(names)
 }
@@ -95,7 +95,7 @@ impl<H: Host> Engine<H> {
         match self.table.get(name) {
             Some(Cmd::Proc { body, .. }) => Ok(Ended {
                 code: OK,
-                result: Text::new(self.alloc, body.bytes())?,
+                result: body.copy(self.alloc)?,
             }),
             _ => error(self.alloc, no_procedure(self.alloc, name.bytes())?),
         }

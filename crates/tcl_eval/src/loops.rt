@@ -54,15 +54,15 @@ fn assigned(alloc: Global, names: &[Text], values: &[Text]) -> Result<Pairs, NoM
     let mut pairs = Pairs::new(alloc);
     let mut left = values;
     'names: for name in names {
-        let name = Text::new(alloc, name.bytes())?;
+        let name = name.copy(alloc)?;
         let value = match left.split_first() {
             None => Text::empty(alloc),
             Some((value, behind)) => {
                 left = behind;
-                Text::new(alloc, value.bytes())?
+                value.copy(alloc)?
             }
         };
-        pairs.push((name, value)).map_err(|_| NoMemory)?;
+        pairs.add((name, value))?;
     }
     Ok(pairs)
 }

@@ -9,7 +9,7 @@ use tcl_expr::{ExprFault, Op};
 use tcl_frame::VarFault;
 use tcl_parse::Kind;
 use txt_core::error_text::{is_an_array, is_no_array, no_variable, overflow, variable_exists};
-use txt_core::{NoMemory, Text};
+use txt_core::{NoMemory, Text, write_natural};
 
 /// Appends a text in double quotes.
 fn push_quoted(message: &mut Text, text: &[u8]) -> Result<(), NoMemory>
@@ -64,7 +64,7 @@ pub fn script_fault(alloc: Global, kind: Kind, place: u64) -> Result<Text, NoMem
 {
     let mut message = Text::new(alloc, fault_name(kind))?;
     message.append(b" at ")?;
-    message.append(format!(in alloc; "{place}")?.as_bytes())?;
+    message.append(write_natural(alloc, place)?.bytes())?;
     Ok(message)
 }
 
@@ -101,7 +101,7 @@ pub fn bad_expression(alloc: Global, place: u64) -> Result<Text, NoMemory>
     ensures { IfOk result (λ message. message ≡ bad_expression place) }
 {
     let mut message = Text::new(alloc, b"syntax error in expression at ")?;
-    message.append(format!(in alloc; "{place}")?.as_bytes())?;
+    message.append(write_natural(alloc, place)?.bytes())?;
     Ok(message)
 }
 

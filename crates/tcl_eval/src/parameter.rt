@@ -6,7 +6,7 @@ ghost use Rattle.txt_core.specs.Quoting.{quoting};
 ghost use Rattle.tcl_eval.specs.Parameters.{parameter, read_all, parameters, bind, bound};
 ghost use Rattle.tcl_eval.specs.ParametersSeen.{ParametersAre, ValuesAre};
 
-use crate::words::{behind_name, copy_word, push_all, word_at};
+use crate::words::{behind_name, copy_word, word_at};
 use std::alloc::Global;
 use tcl_list::{ListFault, quote, split};
 use txt_core::error_text::{bad_value, no_list, wrong_words};
@@ -79,9 +79,7 @@ fn push_value(alloc: Global, values: &mut Pairs, name: &Text, value: Text) -> Re
 fn listed(alloc: Global, words: &[Text]) -> Result<Text, NoMemory>
     ensures { IfOk result (λ text. text ≡ quoting words.now) }
 {
-    let mut all = Words::new(alloc);
-    push_all(alloc, &mut all, words)?;
-    quote(alloc, &all)
+    quote(alloc, &Words::of_copies(alloc, words)?)
 }
 
 /// The values of parameters for these words, or none where the number of words is wrong.

@@ -19,7 +19,7 @@ use crate::words::BYTES_FOR_ONE;
 use std::rc::Rc;
 use tcl_host::{Host, OK};
 use tcl_parse::Script;
-use txt_core::{MOST_BYTES, NoMemory, Text};
+use txt_core::{MOST_BYTES, NoMemory, Text, write_natural};
 
 #[tactic(auto, using(crate::proofs::Stacks::frees_push))]
 impl<H: Host> Engine<H> {
@@ -170,12 +170,12 @@ impl<H: Host> Engine<H> {
                 })
             }
             Some(Seen::Variable(name)) => {
-                let name = Text::new(self.alloc, name.bytes())?;
+                let name = name.copy(self.alloc)?;
                 let step = self.pass_variable(&name, place.behind(), so_far, levels)?;
                 Ok(step)
             }
             Some(Seen::Element(array)) => {
-                let array = Text::new(self.alloc, array.bytes())?;
+                let array = array.copy(self.alloc)?;
                 let step = self.enter_index(array, place, so_far, levels)?;
                 Ok(step)
             }
@@ -514,8 +514,7 @@ impl<H: Host> Engine<H> {
         ensures keeps { IfOk result (λ step. Stays step self.new self.old) }
         ensures holds { Holds self.new self.old }
     {
-        let code = value.code;
-        let code = Text::new(self.alloc, format!(in self.alloc; "{code}")?.as_bytes())?;
+        let code = write_natural(self.alloc, value.code as u64)?;
         match name {
             None => Ok(Step::Value(Ended {
                 code: OK,

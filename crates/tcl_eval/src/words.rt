@@ -1,6 +1,6 @@
 //! The words of commands.
 
-ghost use Rattle.std.specs.Prelude.{◌≡◌, ◌∷◌, ◌<◌, ◌++◌, IfOk, OnOk, IsTrue, drop, []};
+ghost use Rattle.std.specs.Prelude.{◌≡◌, ◌∷◌, ◌<◌, IfOk, IsTrue, drop, []};
 ghost use Rattle.tcl_eval.specs.Eval.{command_cost, arg, joined};
 
 use std::alloc::Global;
@@ -59,20 +59,6 @@ pub fn command_cost(words: &Words) -> u128
     1 + bytes / (BYTES_FOR_ONE as u128)
 }
 
-/// Puts a word at the end.
-pub fn push_word(words: &mut Words, word: Text) -> Result<(), NoMemory>
-    ensures { OnOk result (words.new ≡ words.old ++ word ∷ []) }
-{
-    words.add(word)
-}
-
-/// Puts copies of words at the end.
-pub fn push_all(alloc: Global, words: &mut Words, more: &[Text]) -> Result<(), NoMemory>
-    ensures { OnOk result (words.new ≡ words.old ++ more.now) }
-{
-    words.append_copies(alloc, more)
-}
-
 /// The words behind the first one.
 pub fn behind_name(words: &Words) -> &[Text]
     ensures { result.now ≡ drop 1 words.now }
@@ -114,7 +100,7 @@ fn renamed(alloc: Global, name: &Text, mut words: Words) -> Result<Words, NoMemo
 {
     let name = name.copy(alloc)?;
     if words.len() == 0 {
-        push_word(&mut words, name)?;
+        words.add(name)?;
         return Ok(words);
     }
     drop(words.replace(0, name));

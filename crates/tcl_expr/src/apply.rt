@@ -126,6 +126,6 @@ pub fn expression_value(alloc: Global, value: &Text) -> Result<Text, NoMemory>
 {
     match read_int(value) {
         Some(n) => write_int(alloc, n),
-        None => Text::new(alloc, value.bytes()),
+        None => value.copy(alloc),
     }
 }

@@ -70,7 +70,7 @@ impl Elements {
         ensures noted { undone journal.new.items self.new ≡ undone journal.old.items self.old }
     {
         journal.reserve(1)?;
-        let value = Text::new(self.alloc, value.bytes())?;
+        let value = value.copy(self.alloc)?;
         let before = self.replace(index.bytes(), value)?;
         journal.push_reserved(Change { index, before });
         Ok(())

@@ -82,7 +82,7 @@ fn element_at(alloc: Global, list: &Words, place: i128) -> Result<Text, Fault>
     ensures { Answers (Ok (unwrap_or (at_place list.now place) [])) result }
 {
     match at_place(list, place) {
-        Some(element) => Ok(Text::new(alloc, element.bytes())?),
+        Some(element) => Ok(element.copy(alloc)?),
         None => Ok(Text::empty(alloc)),
     }
 }

@@ -70,7 +70,7 @@ fn copied(alloc: Global, elements: &[Text]) -> Result<Vec<Text>, NoMemory>
 {
     let mut copied = Vec::new(alloc);
     'elements: for element in elements {
-        copied.push(Text::new(alloc, element.bytes())?)?;
+        copied.push(element.copy(alloc)?)?;
     }
     Ok(copied)
 }

@@ -12,5 +12,5 @@ returns-clause-noted c =
     let value = c.in_ok-value.value in
     let change : Change = record { index = c.args.index; before = c.in_ok-before.before } in
     ap (λ items. undone items c.replace.new.self) (c.push_reserved.ensures.items ∙ ap (λ items. items ++ change ∷ []) c.reserve.ensures.items)
-    ∙ ap (undone (noted ++ change ∷ [])) (c.in_ok-before.ensures.ok ∙ ap (λ k. map.insert elements k value) c.bytes-2.ensures)
-    ∙ undone_written noted change elements value (c.in_ok-before.ensures.before ∙ ap (map.get elements) c.bytes-2.ensures)
+    ∙ ap (undone (noted ++ change ∷ [])) (c.in_ok-before.ensures.ok ∙ ap (λ k. map.insert elements k value) c.bytes.ensures)
+    ∙ undone_written noted change elements value (c.in_ok-before.ensures.before ∙ ap (map.get elements) c.bytes.ensures)
