@@ -6,21 +6,15 @@ ghost use Rattle.txt_core.specs.Number.{trimmed_front};
 ghost use Rattle.tcl_expr.specs.Tokens.{double, single, sign, level, Binds, operator_at, next_operator, next_sign, next_question, next_colon, stuck};
 
 use crate::operator::Op;
-use txt_core::is_space;
+use txt_core::trim_front;
 
 /// Passes over blanks and newlines.
+#[tactic(auto, using(crate::specs::Laws::Fits::trimmed_within))]
 pub fn skip(bytes: &[u8]) -> &[u8]
     ensures same { result.now ≡ trimmed_front bytes.now }
     ensures shorter { length result.now ≤ length bytes.now }
 {
-    let mut rest = bytes;
-    'front: while let Some((byte, tail)) = rest.split_first() {
-        if !is_space(*byte) {
-            break;
-        }
-        rest = tail;
-    }
-    rest
+    trim_front(bytes)
 }
 
 /// The binary operator that two bytes spell.
