@@ -1,6 +1,6 @@
 -- A list that is kept as it is written, and elements behind it.
-use Rattle.std.proofs.Common.{◌≡◌, ◌<◌, ◌+◌, ℕ, List, [], ◌∷◌, ◌++◌, length, take, drop, get_or, Ok, refl, ap, sym, ◌∙◌, subst, arith, append_assoc, append-nil}
-use Rattle.std.proofs.lemmas.List.{take-append-drop, drop_more}
+use Rattle.std.proofs.Common.{◌≡◌, ℕ, List, [], ◌∷◌, ◌++◌, length, false, Some, Ok, refl, ap, sym, ◌∙◌, subst, arith, append_assoc, append-nil}
+use Rattle.txt_core.specs.Counting.{braced, braced_matches}
 use Rattle.txt_core.specs.Knowing.{IsWrittenList}
 use Rattle.txt_core.specs.Lists.{elements}
 use Rattle.txt_core.specs.Listing.{listing}
@@ -9,14 +9,10 @@ use Rattle.tcl_list.specs.Answers.{AppendsTo}
 use Rattle.tcl_list.specs.Appending.{Begins, spaced}
 use Rattle.tcl_list.proofs.Quoting.{listing_quoting}
 
--- a text, cut round the byte at a place
-cut_at : (t : List ℕ) (i b : ℕ) → i < length t → get_or t i 0 ≡ b → t ≡ take i t ++ (b ∷ drop (i + 1) t)
-cut_at t i b lt e = sym (take-append-drop i t) ∙ ap (λ (u : List ℕ). take i t ++ u) (drop_more t i 0 lt ∙ ap (λ (c : ℕ). c ∷ drop (i + 1) t) e)
-
 -- an element in braces, up to the brace that closes it
-pub braces_begin : (t x rest : List ℕ) (i : ℕ) → i < length t → get_or t i 0 ≡ 125 → x ≡ take i t → rest ≡ drop (i + 1) t → written x ≡ 123 ∷ (x ++ (125 ∷ [])) → Begins (123 ∷ t) rest
-braces_begin t x rest i lt e ex er w =
-    let cut : t ≡ x ++ (125 ∷ rest) = cut_at t i 125 lt e ∙ (rw (ex, er) refl) in
+pub braces_begin : (t x rest : List ℕ) → braced false 0 t ≡ Some (x, rest) → written x ≡ 123 ∷ (x ++ (125 ∷ [])) → Begins (123 ∷ t) rest
+braces_begin t x rest found w =
+    let cut : t ≡ x ++ (125 ∷ rest) = (braced_matches t x rest found).0 in
     (x, ap (λ (u : List ℕ). 123 ∷ u) (cut ∙ sym (append_assoc x (125 ∷ []) rest)) ∙ ap (λ (u : List ℕ). u ++ rest) (sym w))
 
 -- an element that is written as itself

@@ -1,41 +1,28 @@
--- Steps of reading an element in braces.
-use Rattle.std.proofs.Common.{◌≡◌, ◌≢◌, ℕ, ◌+◌, ◌-◌, List, [], ◌∷◌, ◌++◌, Bool, true, false, Option, Some, None, refl, ap, arith, append-nil, length}
-use Rattle.std.proofs.lemmas.Bool.Decides.{nat_tests}
-use Rattle.txt_core.specs.Counting.{braced, in_front, front_append}
+-- Ends of counting braces.
+use Rattle.std.proofs.Common.{◌≡◌, ◌≤◌, ℕ, List, [], ◌∷◌, Bool, true, false, None, take, drop, length, refl, sym, ap, ◌∙◌}
+use Rattle.std.specs.Prelude.{◌&&◌}
+use Rattle.std.proofs.lemmas.List.{drop_all}
+use Rattle.txt_core.specs.Counting.{braced, balances, in_front}
+use Rattle.txt_core.specs.Quoting.{none_special, is_plain, escaped, written}
 
-pub front_push : (bs : List ℕ) (b : ℕ) (o : Option (List ℕ × List ℕ)) → in_front (bs ++ (b ∷ [])) o ≡ in_front bs (in_front (b ∷ []) o)
-front_push bs b o = front_append bs (b ∷ []) o
-
-pub braced_taken : (n b : ℕ) (s t : List ℕ) → s ≡ b ∷ t → braced true n s ≡ in_front (b ∷ []) (braced false n t)
+nothing_left : (p : Bool) (n : ℕ) → braced p n [] ≡ None
 unfolding braced
-braced_taken n b s t es = rw es refl
+nothing_left p n = refl
 
-pub braced_takes : (n b : ℕ) (s t : List ℕ) → s ≡ b ∷ t → b ≡ 92 → braced false n s ≡ in_front (b ∷ []) (braced true n t)
-unfolding braced
-braced_takes n b s t es eb = rw (es, eb) refl
+-- no brace closes
+pub none_closes : (s : List ℕ) (at n : ℕ) (p : Bool) → length s ≤ at → in_front (take at s) (braced p n (drop at s)) ≡ None
+none_closes s at n p end = ap (in_front (take at s)) (ap (braced p n) (drop_all at s end) ∙ nothing_left p n)
 
-pub braced_open : (n b : ℕ) (s t : List ℕ) → s ≡ b ∷ t → b ≡ 123 → braced false n s ≡ in_front (b ∷ []) (braced false (n + 1) t)
-unfolding braced
-braced_open n b s t es eb = rw (es, eb) refl
+never : (b : Bool) → (b && false) ≡ false
+never true = refl
+never false = refl
 
-pub braced_shut : (n b : ℕ) (s t : List ℕ) → s ≡ b ∷ t → b ≡ 125 → n ≢ 0 → braced false n s ≡ in_front (b ∷ []) (braced false (n - 1) t)
-unfolding braced
-braced_shut n b s t es eb en = rw (es, eb) (grind (arith, nat_tests))
-
-pub braced_done : (n b : ℕ) (s t : List ℕ) → s ≡ b ∷ t → b ≡ 125 → n ≡ 0 → braced false n s ≡ Some ([], t)
-unfolding braced
-braced_done n b s t es eb en = rw (es, eb, en) refl
-
-pub braced_byte : (n b : ℕ) (s t : List ℕ) → s ≡ b ∷ t → b ≢ 92 → b ≢ 123 → b ≢ 125 → braced false n s ≡ in_front (b ∷ []) (braced false n t)
-unfolding braced
-braced_byte n b s t es e1 e2 e3 = rw es (grind (arith, nat_tests))
-
-pub braced_end : (taken : Bool) (n : ℕ) (s : List ℕ) → length s ≡ 0 → braced taken n s ≡ None
-unfolding braced
-braced_end taken n [] es = refl
-braced_end taken n (b ∷ s) es = absurd (omega arith)
-
-pub done_front : (bs t : List ℕ) → in_front bs (Some ([], t)) ≡ Some (bs, t)
-done_front bs t = ap (λ (y : List ℕ). Some (y, t)) (append-nil bs)
-
-pub ruleset braced_steps = (front_push, braced_taken, braced_takes, braced_open, braced_shut, braced_done, braced_byte, braced_end, done_front)
+-- a text in which a brace closes nothing is written with backslashes
+pub written_slashed : (text rest t : List ℕ) (b n : ℕ) (plain p : Bool) → rest ≡ b ∷ t → b ≡ 125
+    → (plain && none_special rest) ≡ is_plain text → balances p n rest ≡ balances false 0 text
+    → ((more : List ℕ) → balances p n (b ∷ more) ≡ false) → written text ≡ escaped text
+written_slashed text rest t b n plain p er eb plainly same closes =
+    let special : none_special rest ≡ false = rw (er, eb) refl in
+    let not_plain : is_plain text ≡ false = sym plainly ∙ ap (λ (s : Bool). plain && s) special ∙ never plain in
+    let unbalanced : balances false 0 text ≡ false = sym same ∙ ap (balances p n) er ∙ closes t in
+    rw (not_plain, unbalanced) refl

@@ -1,10 +1,11 @@
 //! Elements behind a list.
 
-ghost use Rattle.std.specs.Prelude.{◌≡◌, ◌<◌, ◌++◌, ◌∷◌, true, length, get_or, Ok, IfOk, IfSome, OnOk};
+ghost use Rattle.std.specs.Prelude.{◌≡◌, ◌++◌, ◌∷◌, true, Ok, IfOk, IfSome, OnOk};
 ghost use Rattle.txt_core.specs.Knowing.{IsWrittenList};
 ghost use Rattle.tcl_list.specs.Answers.{AppendsTo};
 ghost use Rattle.tcl_list.specs.Appending.{Begins, spaced};
 
+use crate::brace::in_braces;
 use crate::fault::ListFault;
 use crate::splitting::split;
 use crate::writing::{Manner, manner_of, put_element, quote};
@@ -22,36 +23,13 @@ fn to_space(bytes: &[u8]) -> (&[u8], &[u8])
     bytes.split_at(count)
 }
 
-/// Where the brace stands that closes an element, read behind the one that opens it.
-fn closing_brace(bytes: &[u8]) -> Option<usize>
-    ensures { IfSome result (λ at. (at < length bytes.now) × (get_or bytes.now at 0 ≡ 125)) }
-{
-    let mut open_now = 0usize;
-    let mut taken = false;
-    'bytes: for (at, b) in bytes.iter().enumerate() {
-        if taken {
-            taken = false;
-        } else if *b == b'\\' {
-            taken = true;
-        } else if *b == b'{' {
-            open_now += 1;
-        } else if *b == b'}' {
-            if open_now == 0 {
-                return Some(at);
-            }
-            open_now -= 1;
-        }
-    }
-    None
-}
-
 /// What is left behind an element that is written in braces, read behind the one that opens it.
 fn behind_braces(bytes: &[u8]) -> Option<&[u8]>
     ensures { IfSome result (λ rest. Begins (123 ∷ bytes.now) rest.now) }
 {
-    let at = closing_brace(bytes)?;
-    match manner_of(&bytes[..at]) {
-        Manner::InBraces => Some(&bytes[at + 1..]),
+    let (text, rest) = in_braces(bytes)?;
+    match manner_of(text) {
+        Manner::InBraces => Some(rest),
         _ => None,
     }
 }

@@ -1,44 +1,12 @@
 //! The bytes of elements.
 
-ghost use Rattle.std.specs.Prelude.{◌≡◌, ◌<◌, ◌≤◌, true, false, length, IfOk, IfSome};
-ghost use Rattle.std.specs.Option.{option_map};
-ghost use Rattle.txt_core.specs.Counting.{braced};
+ghost use Rattle.std.specs.Prelude.{◌≡◌, ◌<◌, ◌≤◌, false, length, IfOk};
 ghost use Rattle.txt_core.specs.Lists.{ends_element, next, BytesAt};
 ghost use Rattle.tcl_list.specs.Answers.{step_of, IsShorter};
 
 use crate::gap::is_blank_or_newline;
 use std::alloc::{AllocError, Global};
 use txt_core::{Form, read_escape};
-
-/// What stands before the brace that closes, and what is left behind it; `None` where none closes.
-#[tactic(auto, using(crate::proofs::Braces::braced_steps))]
-pub fn in_braces(alloc: Global, bytes: &[u8]) -> Result<Option<(Vec<u8>, &[u8])>, AllocError>
-    ensures same { IfOk result (λ found.
-        option_map (λ x. (x.0.items, x.1.now)) found ≡ braced false 0 bytes.now) }
-    ensures goes { IfOk result (λ found. IfSome found (λ x. length x.1.now ≤ length bytes.now)) }
-{
-    let mut text = Vec::new(alloc);
-    let mut open_now = 0usize;
-    let mut taken = false;
-    let mut rest = bytes;
-    'braces: while let Some((b, tail)) = rest.split_first() {
-        if taken {
-            taken = false;
-        } else if *b == b'\\' {
-            taken = true;
-        } else if *b == b'{' {
-            open_now += 1;
-        } else if *b == b'}' {
-            if open_now == 0 {
-                return Ok(Some((text, tail)));
-            }
-            open_now -= 1;
-        }
-        text.push(*b)?;
-        rest = tail;
-    }
-    Ok(None)
-}
 
 /// What comes next in an element that isn't in braces.
 #[derive(Clone, Copy)]

@@ -2,6 +2,7 @@
 #![tactic(auto)]
 
 mod appending;
+mod brace;
 mod element;
 mod fault;
 mod gap;

@@ -7,7 +7,8 @@ ghost use Rattle.txt_core.specs.Listing.{close_brace};
 ghost use Rattle.tcl_list.specs.declared.fault.Stop.TheVariants.{Bad};
 ghost use Rattle.tcl_list.specs.Answers.{Gives, QuoteGives, SplitsAs};
 
-use crate::element::{bytes_of, in_braces};
+use crate::brace::in_braces;
+use crate::element::bytes_of;
 use crate::fault::{ListFault, Stop};
 use crate::gap::{element_ends, to_element};
 use std::alloc::Global;
@@ -37,9 +38,9 @@ fn braced_element(alloc: Global, bytes: &[u8]) -> Result<(Text, &[u8]), Stop>
         close_brace (length bytes.now + 1) (braced false 0 bytes.now) ≡ o) }
     ensures goes { IfOk result (λ x. length x.1.now ≤ length bytes.now) }
 {
-    match in_braces(alloc, bytes)? {
+    match in_braces(bytes) {
         None => Err(unclosed(bytes)),
-        Some((text, rest)) => closed(text, rest),
+        Some((text, rest)) => closed(Vec::from_slice(alloc, text)?, rest),
     }
 }
 

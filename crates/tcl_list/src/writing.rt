@@ -6,6 +6,7 @@ ghost use Rattle.txt_core.specs.Knowing.{Holds};
 ghost use Rattle.tcl_list.specs.Manners.{written_by};
 ghost use Rattle.txt_core.specs.Quoting.{is_special, letter_of, with_backslashes, escaped, written, quoting};
 
+use crate::brace::Nesting;
 use crate::gap::{FORM_FEED, VERTICAL_TAB, is_blank_or_newline};
 use std::alloc::{AllocError, Global};
 use txt_core::{Known, NoMemory, Text, Words};
@@ -32,31 +33,22 @@ pub(crate) fn manner_of(text: &[u8]) -> Manner
     ensures { written text.now ≡ written_by result text.now }
 {
     let mut plain = text.first().is_some_and(|b| *b != b'#');
-    let mut taken = false;
-    let mut open_now = 0usize;
+    let mut nesting = Nesting::front();
     let mut rest = text;
     'bytes: while let Some((b, tail)) = rest.split_first() {
         plain = plain && !special(*b);
-        if taken {
-            if *b == b'\n' {
-                return Manner::WithBackslashes;
-            }
-            taken = false;
-        } else if *b == b'\\' {
-            taken = true;
-        } else if *b == b'{' {
-            open_now += 1;
-        } else if *b == b'}' {
-            if open_now == 0 {
-                return Manner::WithBackslashes;
-            }
-            open_now -= 1;
+        if nesting.passes && *b == b'\n' {
+            return Manner::WithBackslashes;
+        }
+        match nesting.behind(*b) {
+            None => return Manner::WithBackslashes,
+            Some(behind) => nesting = behind,
         }
         rest = tail;
     }
     if plain {
         Manner::Itself
-    } else if !taken && open_now == 0 {
+    } else if nesting.may_end() {
         Manner::InBraces
     } else {
         Manner::WithBackslashes

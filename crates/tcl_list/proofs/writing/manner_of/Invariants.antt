@@ -6,8 +6,8 @@ use Rattle.tcl_list.proofs.writing.manner_of.Given as goal
 abbrev pub invariant-bytes : goal.invariant-bytes
 invariant-bytes l = record {
   plain : (l.plain && none_special l.rest) ≡ is_plain l.text;
-  same : balances l.taken l.open_now l.rest ≡ balances false 0 l.text;
-  room : l.open_now + length l.rest ≤ length l.text;
+  same : balances l.nesting.passes l.nesting.braces l.rest ≡ balances false 0 l.text;
+  room : l.nesting.braces + length l.rest ≤ length l.text;
 }
 
 abbrev pub decreases-bytes : goal.decreases-bytes
