@@ -4,6 +4,7 @@
 mod fault;
 mod index;
 mod law;
+mod list;
 mod native;
 mod natives;
 mod word;
@@ -11,6 +12,7 @@ mod word;
 pub use fault::Fault;
 pub use index::{cut_place, index_in, read_index};
 pub use law::{elements_have_an_order, sorting_is_stable};
+pub use list::list_in;
 pub use native::{Call, Native};
 pub use natives::Natives;
 pub use word::{number_in, within_limit, word_at};

@@ -7,8 +7,8 @@ ghost use Rattle.natives.specs.Lists.{put_before, replaced, linsert_in, linsert_
 ghost use Rattle.natives.specs.Pure.{pure_of};
 ghost use Rattle.natives.specs.Ranges.{InRange};
 
-use crate::elements::{cut_behind, last_of, list_in, text_of_parts};
-use natives::{Fault, cut_place, index_in, within_limit, word_at};
+use crate::elements::{cut_behind, last_of, text_of_parts};
+use natives::{Fault, cut_place, index_in, list_in, within_limit, word_at};
 use std::alloc::Global;
 use txt_core::{Text, Words};
 

@@ -1,31 +1,14 @@
-//! A word as a list, a list as a text, and copies of elements.
+//! A list as a text, and copies of elements.
 
 ghost use Rattle.std.specs.Prelude.{◌≡◌, ◌++◌, length, min, pos, ◌+ℤ◌, Ok};
 ghost use Rattle.txt_core.specs.Quoting.{quoting};
-ghost use Rattle.natives.specs.Answers.{Answers, Tried};
-ghost use Rattle.natives.specs.Checks.{items, list_error};
+ghost use Rattle.natives.specs.Answers.{Answers};
 ghost use Rattle.natives.specs.Indexes.{cut, last_of};
 
 use natives::{Fault, cut_place};
 use std::alloc::Global;
-use tcl_list::{ListFault, quote, split};
+use tcl_list::quote;
 use txt_core::{NoMemory, Text, Words};
-
-/// The elements of a word that must be a list.
-///
-/// # Errors
-///
-/// `Error` exactly where it is none, with the text `bad list at PLACE`; `NoMemory` for want of
-/// memory alone.
-pub fn list_in(alloc: Global, word: &Text) -> Result<Words, Fault>
-    ensures { Tried (list_error word.now) (λ list. list ≡ items word.now) result }
-{
-    match split(alloc, word) {
-        Ok(list) => Ok(list),
-        Err(ListFault::Bad { at }) => Err(Fault::no_list(alloc, at)),
-        Err(ListFault::NoMemory) => Err(Fault::NoMemory),
-    }
-}
 
 /// The text of a list. Its only error is want of memory.
 pub fn text_of(alloc: Global, list: &Words) -> Result<Text, Fault>

@@ -9,8 +9,8 @@ ghost use Rattle.natives.specs.Lists.{list_reply, llength_reply, lindex_reply, l
 ghost use Rattle.natives.specs.Pure.{pure_of};
 ghost use Rattle.natives.specs.Ranges.{InRange};
 
-use crate::elements::{cut_behind, last_of, list_in, text_of};
-use natives::{Fault, cut_place, index_in, within_limit, word_at};
+use crate::elements::{cut_behind, last_of, text_of};
+use natives::{Fault, cut_place, index_in, list_in, within_limit, word_at};
 use std::alloc::Global;
 use txt_core::{Text, Words, write_natural};
 

@@ -6,9 +6,8 @@ ghost use Rattle.natives.specs.Searching.{is_found, is_search_option, is_no_sear
 ghost use Rattle.natives.specs.Pure.{pure_of};
 ghost use Rattle.natives.specs.Ranges.{InRange};
 
-use crate::elements::list_in;
 use crate::options::{check_options, is_word, last_is};
-use natives::{Fault, within_limit, word_at};
+use natives::{Fault, list_in, within_limit, word_at};
 use std::alloc::Global;
 use txt_core::{Text, Words, glob, write_natural};
 

@@ -8,9 +8,9 @@ ghost use Rattle.natives.specs.Sorting.{in_order, order_of, sorts_before, is_sor
 ghost use Rattle.natives.specs.Pure.{pure_of};
 ghost use Rattle.natives.specs.Ranges.{InRange};
 
-use crate::elements::{list_in, text_of};
+use crate::elements::text_of;
 use crate::options::{check_options, is_word, last_is};
-use natives::{Fault, number_in, within_limit, word_at};
+use natives::{Fault, list_in, number_in, within_limit, word_at};
 use std::alloc::Global;
 use std::cmp::Ordering;
 use txt_core::{NoMemory, Text, Words, read_int};

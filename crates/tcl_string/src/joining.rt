@@ -3,30 +3,16 @@
 ghost use Rattle.std.specs.Prelude.{◌≡◌, ◌≤◌, codes, length, Ok, OnOk};
 ghost use Rattle.natives.specs.Answers.{Answers};
 ghost use Rattle.natives.specs.Cutting.{join_reply};
-ghost use Rattle.natives.specs.Checks.{list_error, items};
 ghost use Rattle.natives.specs.Lists.{joined};
 ghost use Rattle.natives.specs.Pure.{pure_of};
 ghost use Rattle.natives.specs.Ranges.{InRange};
-ghost use Rattle.natives.specs.Answers.{Tried};
 ghost use Rattle.tcl_string.specs.Early.{Comes};
 ghost use Rattle.tcl_string.specs.Joins.{with_next};
 
 use crate::argument::word_or;
-use natives::{Fault, within_limit, word_at};
+use natives::{Fault, list_in, within_limit, word_at};
 use std::alloc::Global;
-use tcl_list::{ListFault, split};
 use txt_core::{NoMemory, Text, Words, is_too_long};
-
-/// The elements of a word that is a list.
-fn items_of(alloc: Global, word: &Text) -> Result<Words, Fault>
-    ensures { Tried (list_error word.now) (λ list. list ≡ items word.now) result }
-{
-    match split(alloc, word) {
-        Ok(list) => Ok(list),
-        Err(ListFault::Bad { at }) => Err(Fault::no_list(alloc, at)),
-        Err(ListFault::NoMemory) => Err(Fault::NoMemory),
-    }
-}
 
 /// Puts a text behind others, with these bytes before it where it isn't the first.
 fn put_next(text: &mut Text, first: bool, between: &[u8], word: &[u8]) -> Result<(), NoMemory>
@@ -58,7 +44,7 @@ fn join_reply(alloc: Global, words: &Words) -> Result<Text, Fault>
     requires { 2 ≤ length words.now }
     ensures { Comes (join_reply words.now) result }
 {
-    let list = items_of(alloc, word_at(words, 1))?;
+    let list = list_in(alloc, word_at(words, 1))?;
     joined(alloc, word_or(words, 2, b" "), &list)
 }
 

@@ -10,6 +10,8 @@ use Rattle.tcl_frame.specs.Stack.{Stack}
 use Rattle.tcl_frame.specs.Frames.{has, is_array, elements_of, removed, pairs_written}
 use Rattle.tcl_varcmd.specs.declared.part.Part.{Part}
 use Rattle.tcl_varcmd.specs.declared.part.Part.TheVariants.{Exists, Size, Unset, Get, Names, Set}
+use Rattle.tcl_varcmd.specs.declared.array.Listed.{Listed}
+use Rattle.tcl_varcmd.specs.declared.array.Listed.TheVariants.{Elements, Indexes}
 use Rattle.txt_core.specs.ErrorTexts.{unknown_subcommand, bad_value, no_list}
 use Rattle.tcl_varcmd.specs.Answers.{Came, gives, fails, unless}
 use Rattle.natives.specs.Checks.{items}
@@ -34,6 +36,11 @@ picked pattern pairs = filter (λ pair. is_picked pattern pair.0) pairs
 abbrev pub in_turn : List Pair → Words
 in_turn [] = []
 in_turn (pair ∷ pairs) = pair.0 ∷ pair.1 ∷ in_turn pairs
+
+-- what `array get` and `array names` list of elements: their indexes and values in turn, or their indexes
+abbrev pub listed_words : Listed → List Pair → Words
+listed_words Elements pairs = in_turn pairs
+listed_words Indexes pairs = map (λ pair. pair.0) pairs
 
 -- a list must have as many values as indexes
 abbrev pub uneven : Bytes → Words → Option Bytes

@@ -10,13 +10,12 @@ ghost use Rattle.tcl_varcmd.specs.Answers.{Answers, IfNoMemory};
 ghost use Rattle.natives.specs.Checks.{items};
 ghost use Rattle.natives.specs.Words.{truth_text};
 ghost use Rattle.tcl_varcmd.specs.Errors.{array_error};
-ghost use Rattle.tcl_varcmd.specs.Arrays.{is_picked, picked, in_turn, pairs_error, array_set, unset_array, array_part, array_came, info_came};
+ghost use Rattle.tcl_varcmd.specs.Arrays.{is_picked, picked, in_turn, listed_words, pairs_error, array_set, unset_array, array_part, array_came, info_came};
 
 use crate::message::{check_count, refusal};
 use crate::part::{Part, part_of};
-use crate::value::list_in;
 use crate::variable::{remove, write_array};
-use natives::{Fault, word_at};
+use natives::{Fault, list_in, word_at};
 use std::alloc::Global;
 use tcl_frame::{Frames, VarFault, is_element_name};
 use tcl_list::quote;
@@ -72,28 +71,35 @@ fn indexes(alloc: Global, pairs: &Pairs, pattern: Option<&Text>) -> Result<Words
     Ok(words)
 }
 
-/// `array get a ?glob?`.
-fn get(
-    alloc: Global,
-    frames: &Frames,
-    name: &Text,
-    pattern: Option<&Text>,
-) -> Result<Text, NoMemory>
-    ensures { IfOk result (λ text.
-        text
-        ≡ quoting
-        (in_turn
-        (picked (option_copied pattern.entry)
-        (finite.entries (elements_of frames.now name.now))))) }
-{
-    let pairs = frames.elements(name)?;
-    let words = elements_in_turn(alloc, &pairs, pattern)?;
-    quote(alloc, &words)
+/// What is listed of those elements that are listed.
+#[derive(Clone, Copy)]
+enum Listed {
+    /// Their indexes and values in turn.
+    Elements,
+    /// Their indexes.
+    Indexes,
 }
 
-/// `array names a ?glob?`.
-fn names(
+/// What is listed of elements.
+fn listed_words(
     alloc: Global,
+    listed: Listed,
+    pairs: &Pairs,
+    pattern: Option<&Text>,
+) -> Result<Words, NoMemory>
+    ensures { IfOk result (λ words.
+        words ≡ listed_words listed (picked (option_copied pattern.entry) pairs.now)) }
+{
+    match listed {
+        Listed::Elements => elements_in_turn(alloc, pairs, pattern),
+        Listed::Indexes => indexes(alloc, pairs, pattern),
+    }
+}
+
+/// `array get a ?glob?` and `array names a ?glob?`.
+fn list_text(
+    alloc: Global,
+    listed: Listed,
     frames: &Frames,
     name: &Text,
     pattern: Option<&Text>,
@@ -101,13 +107,12 @@ fn names(
     ensures { IfOk result (λ text.
         text
         ≡ quoting
-        (map (λ pair. pair.0)
+        (listed_words listed
         (picked (option_copied pattern.entry)
         (finite.entries (elements_of frames.now name.now))))) }
 {
     let pairs = frames.elements(name)?;
-    let words = indexes(alloc, &pairs, pattern)?;
-    quote(alloc, &words)
+    quote(alloc, &listed_words(alloc, listed, &pairs, pattern)?)
 }
 
 /// `array size a`.
@@ -197,8 +202,8 @@ fn run_part(alloc: Global, frames: &mut Frames, part: Part, words: &Words) -> Re
             check_count(alloc, words, 3, 3, "array")?;
             unset(alloc, frames, name)
         }
-        Part::Get => Ok(get(alloc, frames, name, words.get(3))?),
-        Part::Names => Ok(names(alloc, frames, name, words.get(3))?),
+        Part::Get => Ok(list_text(alloc, Listed::Elements, frames, name, words.get(3))?),
+        Part::Names => Ok(list_text(alloc, Listed::Indexes, frames, name, words.get(3))?),
         Part::Set => {
             check_count(alloc, words, 4, 4, "array")?;
             set(alloc, frames, name, word_at(words, 3))

@@ -10,8 +10,8 @@ ghost use Rattle.tcl_varcmd.specs.Errors.{sum_error};
 use crate::message::overflow;
 use natives::Fault;
 use std::alloc::Global;
-use tcl_list::{ListFault, append_elements, split};
-use txt_core::{Text, Words};
+use tcl_list::{ListFault, append_elements};
+use txt_core::Text;
 
 /// The sum of two numbers.
 pub(crate) fn sum(alloc: Global, left: i64, right: i64) -> Result<i64, Fault>
@@ -31,16 +31,6 @@ fn bad_list(alloc: Global, fault: ListFault) -> Fault
     match fault {
         ListFault::Bad { at } => Fault::no_list(alloc, at),
         ListFault::NoMemory => Fault::NoMemory,
-    }
-}
-
-/// The elements of a text that is a list.
-pub(crate) fn list_in(alloc: Global, text: &Text) -> Result<Words, Fault>
-    ensures { Tried (list_error text.now) (λ list. list ≡ items text.now) result }
-{
-    match split(alloc, text) {
-        Ok(list) => Ok(list),
-        Err(fault) => Err(bad_list(alloc, fault)),
     }
 }
 

@@ -1,8 +1,8 @@
 use Rattle.std.proofs.Common.{◌≡◌, sym, List, ℕ}
 use Rattle.natives.specs.Checks.{items, list_error, list_found, no_list_found}
 use Rattle.txt_core.specs.ErrorTexts.{no_list}
-use Rattle.tcl_listcmd.proofs.Saying.{tried_said}
-use Rattle.tcl_listcmd.proofs.elements.list_in.Goals as goal
+use Rattle.natives.proofs.Saying.{tried_said}
+use Rattle.natives.proofs.list.list_in.Goals as goal
 
 pub returns-in-Ok : goal.returns-in-Ok
 returns-in-Ok c =
