@@ -1,11 +1,10 @@
 -- What a text is as a script, by cases on the rules. Each relation is between a text and the outcome of reading it from its front:
 -- a value and what is left behind it, or the first fault that is reached and how many bytes are left where it stands.
 -- A fault of something that isn't closed is told only at the end of the text, so it is that of the innermost thing that is open there.
-use Rattle.std.specs.Prelude.{◌≡◌, ℕ, zero, ◌+◌, suc, [], ◌∷◌, length, drop, Bool, true, false, Option, Some, None, ◌==◌, if◌then◌else◌}
+use Rattle.std.specs.Prelude.{◌≡◌, ℕ, zero, ◌+◌, suc, [], ◌∷◌, length, drop, Bool, true, false, Option, Some, None, if◌then◌else◌}
 use Rattle.txt_core.specs.Names.{Bytes}
 use Rattle.tcl_parse.specs.declared.fault.Kind.{Kind}
 use Rattle.tcl_parse.specs.declared.fault.Kind.TheVariants.{Quote, Brace, Bracket, Variable, Extra, Deep}
-use Rattle.tcl_parse.specs.Bytes.{quote_mark, left_brace}
 use Rattle.tcl_parse.specs.Gaps.{skip, between, skip_blanks, at_end, ends_word}
 use Rattle.tcl_parse.specs.Braces.{BracedAt}
 use Rattle.tcl_parse.specs.Names.{named_part}
@@ -13,6 +12,8 @@ use Rattle.tcl_parse.specs.Tree.{Part, element, bracket, Word, Command, Script, 
 use Rattle.tcl_parse.specs.Outcome.{Outcome, done, fault, put, put_text}
 use Rattle.tcl_parse.specs.Steps.{Mode, bare_word, quotes, index, Substitution, named, indexed, opened, unnamed, ends, bytes, substituted, step_at, next}
 use Rattle.txt_core.specs.Limits.{most_nested}
+-- How a word begins, as an element of a list does: with an opening brace, with a quote, or with any other byte.
+pub use Rattle.txt_core.specs.Lists.{Opening, by_brace, by_quote, bare, opening}
 
 -- An element of the array x, from what reading its index gives: the index ends at the closing parenthesis before which reading stops.
 -- Where the text ends before it, the fault `Variable` stands at the element's dollar, from which on left bytes are left.
@@ -45,16 +46,6 @@ close_quote left (fault k n) = fault k n
 abbrev pub followed : Bool → Outcome Word → Outcome Word
 followed nested (done w r) = if ends_word nested r then done w r else fault Extra (length r)
 followed nested (fault k n) = fault k n
-
--- How a word begins: with an opening brace, with a quote, or with any other byte.
-pub data Opening : Type 0 where
-  by_brace : Opening
-  by_quote : Opening
-  bare : Opening
-
-abbrev pub opening : Bytes → Opening
-opening [] = bare
-opening (b ∷ t) = if b == left_brace then by_brace else if b == quote_mark then by_quote else bare
 
 -- InBracket says what reading the script of a bracket gives, and InIndex what reading an index gives, from behind the opening byte on.
 module _ (InBracket : Bytes → Outcome Script → Type 0) (InIndex : Bytes → Outcome Word → Type 0) where

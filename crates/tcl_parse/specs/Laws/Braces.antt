@@ -5,6 +5,7 @@ use Rattle.std.specs.Prelude.{◌||◌, ◌==◌, if◌then◌else◌}
 use Rattle.txt_core.specs.Names.{Bytes}
 use Rattle.txt_core.specs.Escape.{skip_margin}
 use Rattle.txt_core.specs.EscapeWithin.{margin_within}
+use Rattle.txt_core.specs.Counting.{in_front, front_append}
 use Rattle.tcl_parse.specs.Bytes.{space, tab, backslash, left_brace, right_brace, joins_lines}
 use Rattle.tcl_parse.specs.Braces.{Braced, BracedAt, matching_brace, joined_lines, taken_byte, inner_braces, plain_byte}
 
@@ -31,11 +32,6 @@ is_escaped escaped = true
 is_escaped joining = false
 is_escaped margin = false
 
--- these bytes in front
-abbrev pub in_front : Bytes → Option (Bytes × Bytes) → Option (Bytes × Bytes)
-in_front bs None = None
-in_front bs (Some x) = Some (bs ++ x.0, x.1)
-
 -- what stands before the brace that closes, with open_now braces between, and what is left behind it
 unfoldable pub braced : Inside → ℕ → Bytes → Option (Bytes × Bytes)
 braced m open_now [] = None
@@ -47,11 +43,6 @@ braced m open_now (b ∷ t) =
     else if b == left_brace then in_front (b ∷ []) (braced plain (open_now + 1) t)
     else if b == right_brace then (if open_now == 0 then Some ([], t) else in_front (b ∷ []) (braced plain (open_now - 1) t))
     else in_front (b ∷ []) (braced plain open_now t)
-
--- bytes in front, and others before them
-pub in_front-append : (bs cs : Bytes) (x : Option (Bytes × Bytes)) → in_front (bs ++ cs) x ≡ in_front bs (in_front cs x)
-in_front-append bs cs None = refl
-in_front-append bs cs (Some x) = ap (λ (y : Bytes). Some (y, x.1)) (append_assoc bs cs x.0)
 
 margin_step : (n b : ℕ) (t : Bytes) → braced margin n t ≡ braced plain n (skip_margin t) → (v : Bool) → ((b == 32) || (b == 9)) ≡ v → braced margin n (b ∷ t) ≡ braced plain n (skip_margin (b ∷ t))
 unfolding braced skip_margin
@@ -95,7 +86,7 @@ pub braced_byte : (n b : ℕ) (s t : Bytes) → s ≡ b ∷ t → b ≢ 92 → b
 unfolding braced
 braced_byte n b s t es e1 e2 e3 = rw es (grind (arith, nat_tests))
 
-pub ruleset braced_steps = (in_front-append, braced_line, braced_pair, braced_open, braced_shut, braced_byte)
+pub ruleset braced_steps = (front_append, braced_line, braced_pair, braced_open, braced_shut, braced_byte)
 
 -- closing one level more leaves the levels below
 shut_suc : (n : ℕ) (t : Bytes) → braced plain (suc n) (right_brace ∷ t) ≡ in_front (right_brace ∷ []) (braced plain n t)
@@ -111,17 +102,17 @@ around w v = ap (λ x. left_brace ∷ x) (append_assoc w (right_brace ∷ []) (v
 deeper : (n : ℕ) {t v r : Bytes} → Braced t v r → braced plain (suc n) t ≡ in_front (v ++ right_brace ∷ []) (braced plain n r)
 deeper n (matching_brace r) = shut_suc n r
 deeper n (joined_lines {t = t} {v = v} {r = r} h) =
-    rw (braced_line (suc n) 92 10 (92 ∷ 10 ∷ t) (10 ∷ t) t refl refl refl refl, deeper n h) (sym (in_front-append (32 ∷ []) (v ++ right_brace ∷ []) (braced plain n r)))
+    rw (braced_line (suc n) 92 10 (92 ∷ 10 ∷ t) (10 ∷ t) t refl refl refl refl, deeper n h) (sym (front_append (32 ∷ []) (v ++ right_brace ∷ []) (braced plain n r)))
 deeper n (taken_byte {c = c} {t = t} {v = v} {r = r} other h) =
-    rw (braced_pair (suc n) 92 c (92 ∷ c ∷ t) (c ∷ t) t refl refl refl other, deeper n h, ← in_front-append (c ∷ []) (v ++ right_brace ∷ []) (braced plain n r)) (sym (in_front-append (92 ∷ []) ((c ∷ []) ++ (v ++ right_brace ∷ [])) (braced plain n r)))
+    rw (braced_pair (suc n) 92 c (92 ∷ c ∷ t) (c ∷ t) t refl refl refl other, deeper n h, ← front_append (c ∷ []) (v ++ right_brace ∷ []) (braced plain n r)) (sym (front_append (92 ∷ []) ((c ∷ []) ++ (v ++ right_brace ∷ [])) (braced plain n r)))
 deeper n (inner_braces {t = t} {w = w} {u = u} {v = v} {r = r} h k) =
     let first : braced plain (suc n) (left_brace ∷ t) ≡ in_front (left_brace ∷ []) (braced plain (suc (suc n)) t) = rw (← add-one (suc n)) (braced_open (suc n) left_brace (left_brace ∷ t) t refl refl) in
     first ∙ ap (in_front (left_brace ∷ [])) (deeper (suc n) h ∙ ap (in_front (w ++ right_brace ∷ [])) (deeper n k))
-    ∙ ap (in_front (left_brace ∷ [])) (sym (in_front-append (w ++ right_brace ∷ []) (v ++ right_brace ∷ []) (braced plain n r)))
-    ∙ sym (in_front-append (left_brace ∷ []) ((w ++ right_brace ∷ []) ++ (v ++ right_brace ∷ [])) (braced plain n r))
+    ∙ ap (in_front (left_brace ∷ [])) (sym (front_append (w ++ right_brace ∷ []) (v ++ right_brace ∷ []) (braced plain n r)))
+    ∙ sym (front_append (left_brace ∷ []) ((w ++ right_brace ∷ []) ++ (v ++ right_brace ∷ [])) (braced plain n r))
     ∙ ap (λ x. in_front x (braced plain n r)) (around w v)
 deeper n (plain_byte {b = b} {t = t} {v = v} {r = r} e1 e2 e3 h) =
-    rw (braced_byte (suc n) b (b ∷ t) t refl e1 e2 e3, deeper n h) (sym (in_front-append (b ∷ []) (v ++ right_brace ∷ []) (braced plain n r)))
+    rw (braced_byte (suc n) b (b ∷ t) t refl e1 e2 e3, deeper n h) (sym (front_append (b ∷ []) (v ++ right_brace ∷ []) (braced plain n r)))
 
 -- what the rules give is read
 matched : {t v r : Bytes} → Braced t v r → braced plain 0 t ≡ Some (v, r)
@@ -192,7 +183,7 @@ pair_levels k n c u v r true ec lt go e =
     along n (92 ∷ c ∷ u) v ((32 ∷ []) ++ f.behind) r f.whole (lift (32 ∷ []) (skip_margin u) (92 ∷ c ∷ u) one n f.behind r inside)
 pair_levels k n c u v r false ec lt go e =
     let pair : braced plain n (92 ∷ c ∷ u) ≡ in_front (92 ∷ []) (in_front (c ∷ []) (braced plain n u)) = braced_pair n 92 c (92 ∷ c ∷ u) (c ∷ u) u refl refl refl (isnt c 10 ec) in
-    let f = front (92 ∷ c ∷ []) (braced plain n u) v r (in_front-append (92 ∷ []) (c ∷ []) (braced plain n u) ∙ sym pair ∙ e) in
+    let f = front (92 ∷ c ∷ []) (braced plain n u) v r (front_append (92 ∷ []) (c ∷ []) (braced plain n u) ∙ sym pair ∙ e) in
     let inside = go n u f.behind r lt f.gives in
     let one : (w y : Bytes) → Braced u w y → Braced (92 ∷ c ∷ u) ((92 ∷ c ∷ []) ++ w) y = λ w y g. taken_byte (isnt c 10 ec) g in
     along n (92 ∷ c ∷ u) v ((92 ∷ c ∷ []) ++ f.behind) r f.whole (lift (92 ∷ c ∷ []) u (92 ∷ c ∷ u) one n f.behind r inside)

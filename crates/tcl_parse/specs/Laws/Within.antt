@@ -13,7 +13,8 @@ use Rattle.tcl_parse.specs.Outcome.{Outcome, done, fault, put, put_text}
 use Rattle.tcl_parse.specs.Steps.{Mode, quotes, index, bare_word, Substitution, named, indexed, opened, unnamed, Step, ends, bytes, substituted, behind_dollar, between_braces, behind_name, by_name, step_at, next, stops}
 use Rattle.tcl_parse.specs.Grammar.{PartIs, PartsAt, no_part, some_bytes, bad_part, one_part, EnclosedAt, in_braces, in_quotes, WordAt, enclosed, in_nothing, WordsAt, no_word, bad_word, one_word, ScriptAt, no_command, bad_command, one_command, InBracket, InIndex, Reads, close_bracket, close_index, close_brace, close_quote, followed}
 use Rattle.tcl_parse.specs.Braces.{BracedAt}
-use Rattle.tcl_parse.specs.Laws.Braces.{Inside, braced, in_front, passes, is_escaped, braced_is}
+use Rattle.txt_core.specs.Counting.{in_front}
+use Rattle.tcl_parse.specs.Laws.Braces.{Inside, braced, passes, is_escaped, braced_is}
 use Rattle.tcl_parse.specs.Laws.Braces as braces
 
 -- A list has at most n elements.

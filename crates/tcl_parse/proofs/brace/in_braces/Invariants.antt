@@ -1,5 +1,6 @@
 use Rattle.std.proofs.Common.{◌≡◌, ◌≤◌, length, ◌+◌}
-use Rattle.tcl_parse.specs.Laws.Braces.{braced, plain, in_front}
+use Rattle.txt_core.specs.Counting.{in_front}
+use Rattle.tcl_parse.specs.Laws.Braces.{braced, plain}
 use Rattle.tcl_parse.proofs.brace.in_braces.Given as goal
 
 abbrev pub invariant-loop-b : goal.invariant-loop-b
