@@ -73,6 +73,14 @@ HasPlace slots row = IsSome (get text_cmp slots row.name)
 abbrev pub HavePlaces : Slots → List Row → Type 0
 HavePlaces slots rows = AllByRecursion (HasPlace slots) rows
 
+-- what the names were before the changes stays the same, whatever else is changed
+abbrev pub HasSamePast : Slots → List Row → Slots → List Row → Type 0
+HasSamePast slots rows after more = (name : Bytes) → undone more (is_there after) name ≡ undone rows (is_there slots) name
+
+-- where each name that was changed had its place, each has
+abbrev pub KeepsPlaces : Slots → List Row → Slots → List Row → Type 0
+KeepsPlaces slots rows after more = HavePlaces slots rows → HavePlaces after more
+
 -- what is kept of the names is what is a command
 abbrev pub AreCommands : Slots → Table → Type 0
 AreCommands slots table = (name : Bytes) → is_there slots name ≡ is_some (command_of table name)

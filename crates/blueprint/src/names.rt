@@ -33,7 +33,7 @@ pub(crate) struct Names {
 }
 
 impl Names {
-    ghost use Rattle.blueprint.specs.Kept.{is_there, with_name, undone, HavePlaces, HasPlace, AreCommands, same_name};
+    ghost use Rattle.blueprint.specs.Kept.{is_there, with_name, undone, HavePlaces, HasPlace, HasSamePast, KeepsPlaces, AreCommands, same_name};
 
     /// These names.
     pub fn new(alloc: Global, names: &[Text]) -> Result<Names, NoMemory>
@@ -62,11 +62,10 @@ impl Names {
         ensures there { OnOk result
             ((q : Bytes)
             → is_there self.new.slots q ≡ with_name name.now there (is_there self.old.slots) q) }
-        ensures past { (q : Bytes)
-            → undone journal.new.items (is_there self.new.slots) q
-            ≡ undone journal.old.items (is_there self.old.slots) q }
-        ensures places { HavePlaces self.old.slots journal.old.items
-            → HavePlaces self.new.slots journal.new.items }
+        ensures past { HasSamePast self.old.slots journal.old.items self.new.slots
+            journal.new.items }
+        ensures places { KeepsPlaces self.old.slots journal.old.items self.new.slots
+            journal.new.items }
     {
         let before = self.has(name);
         let noted = name.copy(self.alloc)?;
@@ -112,11 +111,10 @@ impl Names {
             → IfOk result (λ applies. applies ≡ is_done (rename_answer table old.now new.now)) }
         ensures made { (table : Table) → IsInOrder table → AreCommands self.old.slots table
             → OnOk result (AreCommands self.new.slots (renamed table old.now new.now)) }
-        ensures past { (q : Bytes)
-            → undone journal.new.items (is_there self.new.slots) q
-            ≡ undone journal.old.items (is_there self.old.slots) q }
-        ensures places { HavePlaces self.old.slots journal.old.items
-            → HavePlaces self.new.slots journal.new.items }
+        ensures past { HasSamePast self.old.slots journal.old.items self.new.slots
+            journal.new.items }
+        ensures places { KeepsPlaces self.old.slots journal.old.items self.new.slots
+            journal.new.items }
     {
         tables_are_maps();
         if !self.has(old) {
@@ -140,11 +138,10 @@ impl Names {
             → IfOk result (λ applies. applies ≡ fits table def.now) }
         ensures made { (table : Table) → IsInOrder table → AreCommands self.old.slots table
             → OnOk result (AreCommands self.new.slots (defined table def.now)) }
-        ensures past { (q : Bytes)
-            → undone journal.new.items (is_there self.new.slots) q
-            ≡ undone journal.old.items (is_there self.old.slots) q }
-        ensures places { HavePlaces self.old.slots journal.old.items
-            → HavePlaces self.new.slots journal.new.items }
+        ensures past { HasSamePast self.old.slots journal.old.items self.new.slots
+            journal.new.items }
+        ensures places { KeepsPlaces self.old.slots journal.old.items self.new.slots
+            journal.new.items }
     {
         tables_are_maps();
         match def {
@@ -172,11 +169,10 @@ impl Names {
             → AreCommands self.old.slots (Commands natives before)
             → IfOk result (λ place.
             place ≡ None → AreCommands self.new.slots (Commands natives (before ++ defs.now))) }
-        ensures past { (q : Bytes)
-            → undone journal.new.items (is_there self.new.slots) q
-            ≡ undone journal.old.items (is_there self.old.slots) q }
-        ensures places { HavePlaces self.old.slots journal.old.items
-            → HavePlaces self.new.slots journal.new.items }
+        ensures past { HasSamePast self.old.slots journal.old.items self.new.slots
+            journal.new.items }
+        ensures places { KeepsPlaces self.old.slots journal.old.items self.new.slots
+            journal.new.items }
     {
         tables_are_maps();
         'defs: for (place, def) in defs.iter().enumerate() {

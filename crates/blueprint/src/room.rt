@@ -7,7 +7,7 @@ ghost use Rattle.cmd_table.specs.Commands.{Commands};
 ghost use Rattle.blueprint.specs.Scripts.{script_of};
 ghost use Rattle.blueprint.specs.States.{most_definitions, most_script};
 ghost use Rattle.blueprint.specs.Publishing.{answer, by_room};
-ghost use Rattle.blueprint.specs.Kept.{AreCommands, HavePlaces, undone, is_there, IsChecked};
+ghost use Rattle.blueprint.specs.Kept.{AreCommands, HasSamePast, KeepsPlaces, IsChecked};
 
 use crate::names::{Journal, Names};
 use crate::reply::{Limit, Published};
@@ -50,11 +50,10 @@ impl Room {
         ensures made { (natives : NameList) → (before : List Def)
             → AreCommands names.old.slots (Commands natives before)
             → OnOk result (AreCommands names.new.slots (Commands natives (before ++ defs.now))) }
-        ensures past { (q : Bytes)
-            → undone journal.new.items (is_there names.new.slots) q
-            ≡ undone journal.old.items (is_there names.old.slots) q }
-        ensures places { HavePlaces names.old.slots journal.old.items
-            → HavePlaces names.new.slots journal.new.items }
+        ensures past { HasSamePast names.old.slots journal.old.items names.new.slots
+            journal.new.items }
+        ensures places { KeepsPlaces names.old.slots journal.old.items names.new.slots
+            journal.new.items }
     {
         match names.find_misfit(journal, defs.as_slice()) {
             Err(NoMemory) => Err(Published::NoMemory),

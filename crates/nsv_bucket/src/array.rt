@@ -53,6 +53,15 @@ impl NsvArray {
         }
     }
 
+    /// An array that holds this key alone. Its only error is want of memory.
+    pub fn of_one(alloc: Global, key: &Text, value: Text) -> Result<NsvArray, NoMemory>
+        ensures { IfOk result (λ array. array ≡ map.insert map.empty key.now value) }
+    {
+        let mut array = NsvArray::new(alloc);
+        array.put(alloc, key, value)?;
+        Ok(array)
+    }
+
     /// How many keys there are.
     pub fn len(&self) -> usize
         ensures { result ≡ map.len self.now }

@@ -31,24 +31,6 @@ pub(crate) fn place(
     Ok(())
 }
 
-/// Makes an array of this name that holds one key.
-fn place_first(
-    alloc: Global,
-    arrays: &mut Arrays,
-    name: &Text,
-    key: &Text,
-    value: Text,
-) -> Result<(), NoMemory>
-    ensures ok { OnOk result
-        (seen arrays.new
-        ≡ map.insert (seen arrays.old) name.now (map.insert map.empty key.now value)) }
-    ensures err { OnErr result (seen arrays.new ≡ seen arrays.old) }
-{
-    let mut array = NsvArray::new(alloc);
-    array.put(alloc, key, value)?;
-    place(alloc, arrays, name, array)
-}
-
 /// Puts a value at a key of the array of this name; an absent array is made. Its only error is want
 /// of memory, and the arrays are then as they were.
 pub(crate) fn put_value(
@@ -64,7 +46,7 @@ pub(crate) fn put_value(
 {
     match arrays.get_mut(name) {
         Some(array) => array.put(alloc, key, value),
-        None => place_first(alloc, arrays, name, key, value),
+        None => place(alloc, arrays, name, NsvArray::of_one(alloc, key, value)?),
     }
 }
 
@@ -92,7 +74,8 @@ pub(crate) fn append_value(
         Some(array) => array.append(alloc, key, more, known),
         None => {
             let (value, said) = twice(alloc, more, known)?;
-            place_first(alloc, arrays, name, key, value)?;
+            let array = NsvArray::of_one(alloc, key, value)?;
+            place(alloc, arrays, name, array)?;
             Ok(said)
         }
     }

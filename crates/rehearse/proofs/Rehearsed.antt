@@ -21,9 +21,9 @@ use Rattle.rehearse.specs.Files.{End, whole, bad, ComesNext, Opens, Holds}
 use Rattle.rehearse.specs.Intakes.{IntakeState}
 use Rattle.rehearse.specs.Lines.{Line, listing_of}
 use Rattle.rehearse.specs.Plays.{MayCome, Plays, no_event}
-use Rattle.rehearse.specs.Playing.{StopsAt, Fetches, FindsEvent, HasFew, IsNoEvent, ShowsWorkers, Shows, IsMachineReady, Played, Tells, SoFar, IsOfSink, outside_of, ending_of, by_left, IsCounted}
+use Rattle.rehearse.specs.Playing.{StopsAt, Fetches, FindsEvent, HasFew, IsNoEvent, ShowsWorkers, Shows, IsMachineReady, Played, Tells, SoFar, IsOfSink, ending_of, by_left, IsCounted}
 use Rattle.rehearse.specs.Reading.{IsShort}
-use Rattle.rehearse.specs.Rehearsing.{Outside, InputHolds, AreFirst, IsProperFront, HadBadEvent, HadWriteFault, RanOut, Ends, Rehearses}
+use Rattle.rehearse.specs.Rehearsing.{Outside, outside_of, InputHolds, AreFirst, IsProperFront, HadBadEvent, HadWriteFault, RanOut, Ends, Rehearses}
 use Rattle.rehearse.specs.Summary.{nothing, with_lines}
 use Rattle.rehearse.specs.World.{World, Worker, opening}
 use Rattle.rehearse.proofs.Finding.{may_be_short}
@@ -223,14 +223,8 @@ failed natives before now play output faults sent less gains le rose s =
     sym (take-append-add s.passed play.listing.text sent) ∙ ap (λ (k : ℕ). take (k + sent) (s.passed ++ play.listing.text)) (sym s.written)
     ∙ ap (λ (t : List ℕ). take n t) (sym s.listed) in
     record {
-      given = s.given;
-      events = s.events;
       lines = s.lines;
-      world = s.world;
-      left = play.intake.left;
-      read = s.read;
-      opens = s.opens;
-      input = first;
+      played = record { given = s.given; events = s.events; world = s.world; left = play.intake.left; read = s.read; opens = s.opens; input = first };
       sent_less = sent_less;
       front = is_front natives before.input s.lines n sent_less first;
       written = gains_more before.output now.output output s.passed (take sent play.listing.text) (take n (listing_of s.lines)) s.gained gains front;
@@ -278,14 +272,16 @@ all_passed natives before now play empty s =
 
 pub ran_out : (natives : List (List ℕ)) (before now : Outside) (play : Play) → play.listing.text ≡ [] → SoFar natives before now play → RanOut natives before now
 ran_out natives before now play empty s = record {
-  given = s.given;
-  events = s.events;
   lines = s.lines;
-  world = s.world;
-  left = play.intake.left;
-  read = s.read;
-  opens = s.opens;
-  input = are_first natives before.input now.input s.given s.events s.lines s.world play.intake.left s.read s.opens;
+  played = record {
+    given = s.given;
+    events = s.events;
+    world = s.world;
+    left = play.intake.left;
+    read = s.read;
+    opens = s.opens;
+    input = are_first natives before.input now.input s.given s.events s.lines s.world play.intake.left s.read s.opens;
+  };
   written = all_passed natives before now play empty s;
 }
 

@@ -557,11 +557,6 @@ IsOfSink (Some answers.ReadFault) = ⊥
 IsOfSink (Some (answers.WriteFault sent)) = Unit {0}
 IsOfSink (Some answers.NoMemory) = ⊥
 
--- what a source and a sink tell of themselves
-abbrev pub outside_of : Option Bytes → ℕ → Option Bytes → ℕ → Outside
-outside_of input read_faults output write_faults =
-    record { input = input; read_faults = read_faults; output = output; write_faults = write_faults }
-
 -- what was counted of the whole input, where that is told
 abbrev pub IsCounted : Names → Option Bytes → Rehearsal → Tally → Type 0
 IsCounted natives told answers.Done tally =

@@ -22,6 +22,10 @@ pub record Outside : Type 0 where
   -- how many faults the sink has met
   pub write_faults : ℕ
 
+abbrev pub outside_of : Option Bytes → ℕ → Option Bytes → ℕ → Outside
+outside_of input read_faults output write_faults =
+    record { input = input; read_faults = read_faults; output = output; write_faults = write_faults }
+
 -- No count of faults fell.
 abbrev pub KeepsCounts : Outside → Outside → Type 0
 KeepsCounts before after = (before.read_faults ≤ after.read_faults) × (before.write_faults ≤ after.write_faults)
@@ -76,17 +80,21 @@ pub record HadReadFault (natives : Names) (before after : Outside) : Type 0 wher
   pub written : Gains before.output (listing_of lines) after.output
   pub rose : Rose before.read_faults after.read_faults
 
--- The sink failed, so its count rose, when it had taken the first so many bytes of the listing of the first events of the input, and
--- not all of it; and these are a proper front of the listing of the whole input, where that is told.
-pub record HadWriteFault (natives : Names) (before after : Outside) (sent : ℕ) : Type 0 where
+-- Of the bytes that the source gave, so many first events were played, with these lines.
+pub record PlaysFirst (natives : Names) (before after : Outside) (lines : List Line) : Type 0 where
   pub given : Bytes
   pub events : List Event
-  pub lines : List Line
   pub world : World
   pub left : Bytes
   pub read : Gives before.input given after.input
   pub opens : Opens natives given events lines world left
   pub input : AreFirst natives before.input lines
+
+-- The sink failed, so its count rose, when it had taken the first so many bytes of the listing of the first events of the input, and
+-- not all of it; and these are a proper front of the listing of the whole input, where that is told.
+pub record HadWriteFault (natives : Names) (before after : Outside) (sent : ℕ) : Type 0 where
+  pub lines : List Line
+  pub played : PlaysFirst natives before after lines
   pub sent_less : sent < length (listing_of lines)
   pub front : IsProperFront natives before.input (take sent (listing_of lines))
   pub written : Gains before.output (take sent (listing_of lines)) after.output
@@ -94,14 +102,8 @@ pub record HadWriteFault (natives : Names) (before after : Outside) (sent : ℕ)
 
 -- Memory ran out: of the bytes that the source had given, so many first events were played, and their listing was written.
 pub record RanOut (natives : Names) (before after : Outside) : Type 0 where
-  pub given : Bytes
-  pub events : List Event
   pub lines : List Line
-  pub world : World
-  pub left : Bytes
-  pub read : Gives before.input given after.input
-  pub opens : Opens natives given events lines world left
-  pub input : AreFirst natives before.input lines
+  pub played : PlaysFirst natives before after lines
   pub written : Gains before.output (listing_of lines) after.output
 
 -- What a rehearsal does, by its answer.

@@ -4,11 +4,11 @@ ghost use Rattle.std.specs.Prelude.{◌≡◌, ◌≤◌, ◌+◌, [], length, t
 ghost use Rattle.txt_core.specs.Names.{Bytes, Names};
 ghost use Rattle.natives.specs.Names.{names_of};
 ghost use Rattle.rehearse.specs.Events.{most_file};
-ghost use Rattle.rehearse.specs.Rehearsing.{Outside, Rehearses};
+ghost use Rattle.rehearse.specs.Rehearsing.{Outside, outside_of, Rehearses};
 ghost use Rattle.outside.specs.Faults.{Rose};
 ghost use Rattle.rehearse.specs.Summary.{Counts};
 ghost use Rattle.rehearse.specs.declared.playback.Counted.TheVariants as counted;
-ghost use Rattle.rehearse.specs.Playing.{outside_of, IsMachineReady, SoFar, PlaysOne, PassesOn, IsOfSink, IsCounted};
+ghost use Rattle.rehearse.specs.Playing.{IsMachineReady, SoFar, PlaysOne, PassesOn, IsOfSink, IsCounted};
 
 use crate::answer::Rehearsal;
 use crate::event::read_event;
@@ -174,9 +174,11 @@ pub fn rehearse<S: Source, K: Sink, L: Ledger>(
     steps: &mut Steps<L>,
 ) -> Rehearsal
     ensures { Rehearses (names_of natives.now)
-        (record { input = S.rest source.old; read_faults = S.faults source.old; output = K.taken sink.old; write_faults = K.faults sink.old })
+        (outside_of (S.rest source.old) (S.faults source.old) (K.taken sink.old)
+        (K.faults sink.old))
         result
-        (record { input = S.rest source.new; read_faults = S.faults source.new; output = K.taken sink.new; write_faults = K.faults sink.new }) }
+        (outside_of (S.rest source.new) (S.faults source.new) (K.taken sink.new)
+        (K.faults sink.new)) }
 {
     let Ok(mut play) = Play::new(alloc, natives) else {
         return Rehearsal::NoMemory;

@@ -39,20 +39,20 @@ twice-requires c =
     let h : lookup (is_at (text_cmp c.args.name.now)) c.args.arrays.now.entries ≡ None = sym c.get_mut.ensures.value ∙ ap option_copied_mut c.in-None.is in
     subst (λ t. Holds c.args.known (t ++ c.args.more.now)) (lacks_value c.args.arrays.now c.args.name.now c.args.key.now h) c.requires
 
-pub returns-in_ok-place_first-in-None-clause-value : goal.returns-in_ok-place_first-in-None-clause-value
-returns-in_ok-place_first-in-None-clause-value c =
+pub returns-in_ok-place-in-None-clause-value : goal.returns-in_ok-place-in-None-clause-value
+returns-in_ok-place-in-None-clause-value c =
     let h : lookup (is_at (text_cmp c.args.name.now)) c.args.arrays.now.entries ≡ None = sym c.get_mut.ensures.value ∙ ap option_copied_mut c.in-None.is in
     c.in_ok-value-in-None.ensures.1 ∙ ap (λ t. t ++ c.args.more.now) (sym (lacks_value c.args.arrays.now c.args.name.now c.args.key.now h))
 
-pub returns-in_ok-place_first-in-None-clause-ok : goal.returns-in_ok-place_first-in-None-clause-ok
-returns-in_ok-place_first-in-None-clause-ok c =
+pub returns-in_ok-place-in-None-clause-ok : goal.returns-in_ok-place-in-None-clause-ok
+returns-in_ok-place-in-None-clause-ok c =
     let arrays = seen c.args.arrays.now in
     let name = c.args.name.now in
     let key = c.args.key.now in
     let value = c.in_ok-value-in-None.value in
     let h : lookup (is_at (text_cmp name)) c.args.arrays.now.entries ≡ None = sym c.get_mut.ensures.value ∙ ap option_copied_mut c.in-None.is in
     let same : seen c.get_mut.follows.lender-at-none ≡ arrays = search rules in
-    c.in_ok-place_first-in-None.ensures.ok
-    ∙ ap (λ m. map.insert m name (map.insert map.empty key value)) same
-    ∙ ap (λ a. map.insert arrays name (map.insert a key value)) (sym (lacks c.args.arrays.now name h))
+    c.in_ok-place-in-None.ensures.ok
+    ∙ ap (λ m. map.insert m name c.in_ok-array-in-None.array) same
+    ∙ ap (map.insert arrays name) (c.in_ok-array-in-None.ensures ∙ ap (λ a. map.insert a key value) (sym (lacks c.args.arrays.now name h)))
     ∙ ap (λ v. map.insert arrays name (map.insert (array_of arrays name) key v)) (c.in_ok-value-in-None.ensures.0 ∙ ap (λ t. t ++ c.args.more.now) (sym (lacks_value c.args.arrays.now name key h)))

@@ -25,5 +25,6 @@ pub returns-in-None-clause-ok : goal.returns-in-None-clause-ok
 returns-in-None-clause-ok c =
     let h : lookup (is_at (text_cmp c.args.name.now)) c.args.arrays.now.entries ≡ None = sym c.get_mut.ensures.value ∙ ap option_copied_mut c.in-None.is in
     let same : seen c.get_mut.follows.lender-at-none ≡ seen c.args.arrays.now = search rules in
-    ok_then c.place_first.result c.place_first.ensures.ok (λ put.
-    put ∙ ap (λ m. map.insert m c.args.name.now (map.insert map.empty c.args.key.now c.args.value)) same ∙ ap (λ a. map.insert (seen c.args.arrays.now) c.args.name.now (map.insert a c.args.key.now c.args.value)) (sym (lacks c.args.arrays.now c.args.name.now h)))
+    ok_then c.place.result c.place.ensures.ok (λ put.
+    put ∙ ap (λ m. map.insert m c.args.name.now c.in_ok-array-in-None.array) same
+    ∙ ap (map.insert (seen c.args.arrays.now) c.args.name.now) (c.in_ok-array-in-None.ensures ∙ ap (λ a. map.insert a c.args.key.now c.args.value) (sym (lacks c.args.arrays.now c.args.name.now h))))

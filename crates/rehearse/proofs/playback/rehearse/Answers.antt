@@ -1,5 +1,5 @@
 use Rattle.natives.specs.Names.{names_of}
-use Rattle.rehearse.specs.Playing.{outside_of}
+use Rattle.rehearse.specs.Rehearsing.{outside_of}
 use Rattle.rehearse.proofs.Rehearsed.{runs_out_at_once}
 use Rattle.rehearse.proofs.playback.rehearse.Goals as goal
 

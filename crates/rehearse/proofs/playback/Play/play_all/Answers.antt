@@ -4,8 +4,8 @@ use Rattle.rehearse.specs.declared.answer.Rehearsal.{Rehearsal}
 use Rattle.rehearse.specs.declared.answer.Rehearsal.TheVariants as answers
 use Rattle.rehearse.specs.declared.playback.Play.{Play}
 use Rattle.rehearse.specs.Events.{most_file}
-use Rattle.rehearse.specs.Playing.{outside_of, FindsEvent, SoFar, PlaysOne, PassesOn, IsOfSink, IsCounted}
-use Rattle.rehearse.specs.Rehearsing.{Outside, Ends, Rehearses}
+use Rattle.rehearse.specs.Playing.{FindsEvent, SoFar, PlaysOne, PassesOn, IsOfSink, IsCounted}
+use Rattle.rehearse.specs.Rehearsing.{Outside, outside_of, Ends, Rehearses}
 use Rattle.rehearse.proofs.Rehearsed.{fetched, so_many, barred, ended, counted, sink_counted, on_err, runs_out}
 use Rattle.rehearse.proofs.playback.Play.play_all.Goals as goal
 

@@ -1,7 +1,8 @@
 use Rattle.std.proofs.Common.{◌≡◌, ◌-◌, []}
 use Rattle.natives.specs.Names.{names_of}
 use Rattle.rehearse.specs.Events.{most_file}
-use Rattle.rehearse.specs.Playing.{outside_of, SoFar}
+use Rattle.rehearse.specs.Rehearsing.{outside_of}
+use Rattle.rehearse.specs.Playing.{SoFar}
 use Rattle.rehearse.proofs.playback.Play.play_all.Given as goal
 
 abbrev pub invariant-events : goal.invariant-events
