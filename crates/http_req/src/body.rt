@@ -157,7 +157,8 @@ fn read_trailer<S: Source>(
     ensures ends { IfOk result (λ len. EndsTrailer (sent_front start carry.new) begin len) }
     ensures stops { IfErr result (λ answer.
         SentStops (λ is. trailing (drop begin (sent_front start carry.new)) ≡ is) carry.new start
-        (S.rest source.old) (S.faults source.old) (S.rest source.new) (S.faults source.new) answer) }
+        (S.rest source.old) (S.faults source.old) (S.rest source.new) (S.faults source.new)
+        answer) }
 {
     let mut spot = TrailerSpot::Begin;
     let mut at = begin;

@@ -18,7 +18,7 @@ use Rattle.ictl.specs.Visits.{cleanups_of, no_visit}
 use Rattle.outside.specs.declared.question.Answer.{Answer}
 use Rattle.ictl.specs.Main.{Progress}
 use Rattle.ictl.specs.declared.next.Next.{Next}
-use Rattle.ictl.specs.Interps.{UnlessNoMemory, Stands, gives, taken as taken_in, interp_state, spare_of, put_on, HasBlueprint, IsSound, IsFresh, IsNew, Holds, IsSameRun}
+use Rattle.ictl.specs.Interps.{UnlessNoMemory, Stands, gives, taken as taken_in, interp_state, spare_of, put_on, restored, HasBlueprint, IsSound, IsFresh, IsNew, Holds, IsSameRun}
 use Rattle.ictl.specs.Falls.{IsAsking, IsWriting, TaskAsks}
 use Rattle.ictl.specs.declared.visit.Visit.{Visit}
 use Rattle.ictl.specs.declared.task.Task.{Task}
@@ -79,13 +79,6 @@ put_back_on (Some spare) task host was own is has =
     ap (λ (h : HostState). let k : HostState = record h { blueprint = spare } in k) is ∙ ap (λ (b : Edition). no_run b was.marked) has ∙ sym (ap (λ (h : HostState). no_run own h.marked) is)
 
 -- ---- fresh states
-
--- an interpreter whose host is put back
-abbrev pub restored : Interp → Interp
-restored i = record i {
-  settling = record i.settling { run = record { engine = record i.settling.run.engine { host = put_on (spare_of i) i.settling.run.engine.host } } };
-  spare = None;
-}
 
 -- an interpreter whose engine was taken back, and nothing runs inside
 abbrev pub taken : Interp → Engine HostState → Interp

@@ -60,6 +60,13 @@ abbrev pub put_on : Option Edition → HostState → HostState
 put_on None host = host
 put_on (Some spare) host = with_blueprint host spare
 
+-- an interpreter whose host is so put back, and which has no spare
+abbrev pub restored : Interp → Interp
+restored i = record i {
+  settling = record i.settling { run = record { engine = record i.settling.run.engine { host = put_on (spare_of i) i.settling.run.engine.host } } };
+  spare = None;
+}
+
 -- The spare is the interpreter's own blueprint; without a spare nothing was begun, and the host is on that blueprint itself.
 abbrev pub HasBlueprint : Option Edition → Task → Edition → Edition → Type 0
 HasBlueprint None task on own = (task ≡ New) × (on ≡ own)

@@ -36,8 +36,10 @@ pub fn define_all<L: Ledger>(
     requires applies { first_misfit engine.old.table.table defs.now ≡ None }
     ensures ok { OnOk result
         (state_of engine.new
-        ≡ record (state_of engine.old)
-        { commands = fold defined engine.old.table.table defs.now; frames = at_base (engine.old.frames.keeps ++ keeps_of defs.now) }) }
+        ≡ record (state_of engine.old) {
+          commands = fold defined engine.old.table.table defs.now;
+          frames = at_base (engine.old.frames.keeps ++ keeps_of defs.now);
+        }) }
     ensures steps { OnOk result (steps.new ≡ steps.old + Writes defs.now) }
     ensures most { steps.new ≤ steps.old + Writes defs.now }
     ensures marks { steps.new + mark_of engine.old.table ≡ steps.old + mark_of engine.new.table }

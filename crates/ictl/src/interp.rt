@@ -16,7 +16,7 @@ ghost use Rattle.url_tables.specs.Tables.{IsBuiltOf};
 ghost use Rattle.ictl.specs.Visits.{cleanups_of, visit_of};
 ghost use Rattle.ictl.specs.Steps.{cut_stop, cut_reply};
 ghost use Rattle.ictl.specs.Main.{Main, Script, Define, behind, both, answered};
-ghost use Rattle.ictl.specs.Interps.{IsSound, IsNew, Holds, IsSameRun, ending_of, interp_state, interp_written, IsWithin, spare_of, put_on, taken, Counts, goes_to, gives, move_gives, UnlessNoMemory, Stands, GoesOn, StandsOn};
+ghost use Rattle.ictl.specs.Interps.{IsSound, IsNew, Holds, IsSameRun, ending_of, interp_state, interp_written, IsWithin, spare_of, restored, taken, Counts, goes_to, gives, move_gives, UnlessNoMemory, Stands, GoesOn, StandsOn};
 ghost use Rattle.ictl.specs.Steps.{Lowers, scripts_left};
 ghost use Rattle.ictl.specs.declared.task.Task.{Task as Tasks};
 ghost use Rattle.ictl.specs.Falls.{IsAsking, IsWriting, StandsAt, GoesOut, MoveStandsAt, IsScriptTask, SettlingAt, number_of, first_number, Falls, MoveFalls, StopFalls, EndFalls};
@@ -386,9 +386,7 @@ impl Interp {
 
     /// Puts the host back on the blueprint, where there is a spare.
     fn put_back(&mut self)
-        ensures { self.new
-            ≡ record self.old
-            { settling = record self.old.settling { run = record { engine = record self.old.settling.run.engine { host = put_on (spare_of self.old) self.old.settling.run.engine.host } } }; spare = None } }
+        ensures { self.new ≡ restored self.old }
     {
         match self.spare.take() {
             Some(spare) => self.settling.run.engine.host_mut().set_blueprint(spare),

@@ -141,13 +141,15 @@ impl Running {
         ensures gives { IfOk result (λ stop.
             (question : Question) (given : Given)
             → comes_to (names_of natives.now) stop self.new given
-            ≡ comes_to (names_of natives.now) (Stop.Asks question) self.old ((answer, used) ∷ given)) }
+            ≡ comes_to (names_of natives.now) (Stop.Asks question) self.old
+            ((answer, used) ∷ given)) }
         ensures lasts { Lasts self.new.engine self.old.engine }
         ensures counts { steps.new + Writes self.old.engine.made
             ≡ steps.old + Writes self.new.engine.made }
         ensures most { (question : Question)
             → RunWrites (Writes self.new.engine.made) (λ given.
-            comes_to (names_of natives.now) (Stop.Asks question) self.old ((answer, used) ∷ given)) }
+            comes_to (names_of natives.now) (Stop.Asks question) self.old
+            ((answer, used) ∷ given)) }
         ensures asks { IfOk result (λ stop. StopAsks stop self.new) }
         ensures suffices { IfOk result (λ stop.
             (questions : ℕ) → askable self.old ≤ questions → Suffices stop self.new questions) }

@@ -225,7 +225,8 @@ impl Interp {
             ≡ filters_from names self.old.blueprint.value self.old.moment
             (drop next self.old.visit.preauth)
             (unauthorised names self.old.blueprint.value self.old.moment self.old.visit)
-            (interp_state self.old) (account_of budget self.old.settling.questions inside) further) }
+            (interp_state self.old) (account_of budget self.old.settling.questions inside)
+            further) }
         ensures counts { Counts (names_of natives.now) steps.new steps.old self.new self.old }
         ensures most { let names = names_of natives.now in
             OnErr result
@@ -293,7 +294,8 @@ impl Interp {
             (unauthorised names self.old.blueprint.value self.old.moment self.old.visit))
             (unauthorised names self.old.blueprint.value self.old.moment self.old.visit)
             (verdict code value) (interp_state self.old)
-            (account_of self.old.settling.run.engine.budget self.old.settling.questions inside) [])) }
+            (account_of self.old.settling.run.engine.budget self.old.settling.questions inside)
+            [])) }
         ensures lowers { IfOk result (λ step.
             Lowers step self.new
             ((length self.old.visit.preauth - next) + length self.old.visit.postauth + 3)) }
@@ -328,7 +330,8 @@ impl Interp {
             → move_gives names step (inside + taken names steps.new steps.old self.new self.old)
             self.new further
             ≡ unauthorised names self.old.blueprint.value self.old.moment self.old.visit
-            (interp_state self.old) (account_of budget self.old.settling.questions inside) further) }
+            (interp_state self.old) (account_of budget self.old.settling.questions inside)
+            further) }
         ensures counts { Counts (names_of natives.now) steps.new steps.old self.new self.old }
         ensures most { let names = names_of natives.now in
             OnErr result
@@ -378,7 +381,8 @@ impl Interp {
             → IsWithin (inside + interp_written names self.old) steps.old steps.new self.new
             (access_end (authorised names self.old.blueprint.value self.old.moment self.old.visit)
             (access code value) (interp_state self.old)
-            (account_of self.old.settling.run.engine.budget self.old.settling.questions inside) [])) }
+            (account_of self.old.settling.run.engine.budget self.old.settling.questions inside)
+            [])) }
         ensures lowers { IfOk result (λ step.
             Lowers step self.new (length self.old.visit.postauth + 2)) }
         ensures same { IsSameRun self.new self.old }
@@ -421,7 +425,8 @@ impl Interp {
             ≡ filters_from names self.old.blueprint.value self.old.moment
             (drop next self.old.visit.postauth)
             (serve names self.old.blueprint.value self.old.moment self.old.visit.serving)
-            (interp_state self.old) (account_of budget self.old.settling.questions inside) further) }
+            (interp_state self.old) (account_of budget self.old.settling.questions inside)
+            further) }
         ensures counts { Counts (names_of natives.now) steps.new steps.old self.new self.old }
         ensures most { let names = names_of natives.now in
             OnErr result
@@ -488,7 +493,8 @@ impl Interp {
             (serve names self.old.blueprint.value self.old.moment self.old.visit.serving))
             (serve names self.old.blueprint.value self.old.moment self.old.visit.serving)
             (verdict code value) (interp_state self.old)
-            (account_of self.old.settling.run.engine.budget self.old.settling.questions inside) [])) }
+            (account_of self.old.settling.run.engine.budget self.old.settling.questions inside)
+            [])) }
         ensures lowers { IfOk result (λ step.
             Lowers step self.new ((length self.old.visit.postauth - next) + 1)) }
         ensures same { IsSameRun self.new self.old }
@@ -522,7 +528,8 @@ impl Interp {
             → move_gives names step (inside + taken names steps.new steps.old self.new self.old)
             self.new further
             ≡ serve names self.old.blueprint.value self.old.moment self.old.visit.serving
-            (interp_state self.old) (account_of budget self.old.settling.questions inside) further) }
+            (interp_state self.old) (account_of budget self.old.settling.questions inside)
+            further) }
         ensures counts { Counts (names_of natives.now) steps.new steps.old self.new self.old }
         ensures most { let names = names_of natives.now in
             OnErr result

@@ -89,7 +89,8 @@ impl Settling {
             ((inside : ℕ)
             → SettledWithin (inside + written names published self.old) steps.old steps.new self.new
             (settle (inner_runs names published moment) self.old.questions inside
-            (eval names host_table first_depth work (at_global (state_of self.old.run)) budget) [])) }
+            (eval names host_table first_depth work (at_global (state_of self.old.run)) budget)
+            [])) }
         ensures lasts { Lasts self.new.run.engine self.old.run.engine }
         ensures at { IfOk result (λ stop. SettlingAt stop self.new) }
         ensures lower { self.new.questions ≤ self.old.questions }

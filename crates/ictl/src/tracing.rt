@@ -106,7 +106,8 @@ impl Interp {
             IfOk result (λ next.
             (further : List Answer)
             → Main names self.old.blueprint.value request moment further
-            ≡ gives names next (taken names steps.new steps.old self.new self.old) self.new further) }
+            ≡ gives names next (taken names steps.new steps.old self.new self.old) self.new
+            further) }
         ensures counts { Counts (names_of natives.now) steps.new steps.old self.new self.old }
         ensures most { let names = names_of natives.now in
             OnErr result
@@ -158,7 +159,8 @@ impl Interp {
             IfOk result (λ next.
             (further : List Answer)
             → Script names self.old.blueprint.value script.now moment further
-            ≡ gives names next (taken names steps.new steps.old self.new self.old) self.new further) }
+            ≡ gives names next (taken names steps.new steps.old self.new self.old) self.new
+            further) }
         ensures counts { Counts (names_of natives.now) steps.new steps.old self.new self.old }
         ensures most { let names = names_of natives.now in
             OnErr result
@@ -193,7 +195,8 @@ impl Interp {
             IfOk result (λ next.
             (further : List Answer)
             → Script names self.old.blueprint.value script self.old.moment further
-            ≡ gives names next (taken names steps.new steps.old self.new self.old) self.new further) }
+            ≡ gives names next (taken names steps.new steps.old self.new self.old) self.new
+            further) }
         ensures counts { Counts (names_of natives.now) steps.new steps.old self.new self.old }
         ensures most { let names = names_of natives.now in
             OnErr result
@@ -460,7 +463,8 @@ impl Interp {
             (drop next self.old.visit.trace) self.old.cleanups ending)
             (cleanups_from names self.old.blueprint.value self.old.moment self.old.cleanups ending)
             (verdict code value) (interp_state self.old)
-            (account_of self.old.settling.run.engine.budget self.old.settling.questions inside) [])) }
+            (account_of self.old.settling.run.engine.budget self.old.settling.questions inside)
+            [])) }
         ensures lowers { IfOk result (λ step.
             Lowers step self.new
             ((length self.old.visit.trace - next) + length self.old.cleanups + 1)) }

@@ -176,13 +176,14 @@ impl Visit {
         authoriser: Option<&Cmd>,
         request: &Request,
     ) -> Result<Visit, NoMemory>
-        ensures { (defs : List Def) → IsBuiltOf routes.now defs → IfOk result (λ visit. visit ≡ record {
-          preauth = filter_calls when.Preauth request.now defs;
-          authorisation = authorisation (option_copied authoriser.entry) request.now;
-          postauth = filter_calls when.Postauth request.now defs;
-          serving = serving_by (route defs request.now.method request.now.segments) request.now;
-          trace = filter_calls when.Trace request.now defs;
-        }) }
+        ensures { (defs : List Def) → IsBuiltOf routes.now defs → IfOk result (λ visit.
+            visit ≡ record {
+              preauth = filter_calls when.Preauth request.now defs;
+              authorisation = authorisation (option_copied authoriser.entry) request.now;
+              postauth = filter_calls when.Postauth request.now defs;
+              serving = serving_by (route defs request.now.method request.now.segments) request.now;
+              trace = filter_calls when.Trace request.now defs;
+            }) }
     {
         let path = path(alloc, request)?;
         let preauth = filter_calls(alloc, routes, When::Preauth, request, &path)?;

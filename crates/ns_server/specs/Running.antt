@@ -29,6 +29,10 @@ pub record Streams : Type 0 where
   pub errors : Option Bytes
   pub error_faults : ℕ
 
+abbrev pub streams_of : Option Bytes → ℕ → Option Bytes → ℕ → Option Bytes → ℕ → Streams
+streams_of input read_faults output write_faults errors error_faults =
+    record { input = input; read_faults = read_faults; output = output; write_faults = write_faults; errors = errors; error_faults = error_faults }
+
 -- the input and the output, as a rehearsal sees them
 abbrev pub outside_of : Streams → Outside
 outside_of s = record { input = s.input; read_faults = s.read_faults; output = s.output; write_faults = s.write_faults }

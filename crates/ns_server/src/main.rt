@@ -7,7 +7,8 @@ ghost use Rattle.std.specs.Prelude.{◌≡◌, ◌<◌, ◌+◌, ◌∷◌, ◌+
 ghost use Rattle.natives.specs.Names.{name_of, names_of, has_name};
 ghost use Rattle.ns_server.specs.Natives.{native_names};
 ghost use Rattle.outside.specs.Nets.{IsNew};
-ghost use Rattle.ns_server.specs.Running.{Runs};
+ghost use Rattle.serve_run.specs.Serving.{around_of};
+ghost use Rattle.ns_server.specs.Running.{streams_of, Runs};
 
 /// Makes the command of a name and adds it to natives, which have those of the places before.
 macro_rules! add_native {
@@ -120,11 +121,13 @@ fn run_counted<
     requires natives { names_of natives.now ≡ native_names }
     requires new { IsNew (N.state net.old) }
     ensures { Runs native_names words.now
-        (record { input = S.rest input.old; read_faults = S.faults input.old; output = K.taken output.old; write_faults = K.faults output.old; errors = E.taken errors.old; error_faults = E.faults errors.old })
-        (record { net = N.state net.old; pages = P.held pages.old; page_faults = P.faults pages.old; clock = C.held clock.old })
+        (streams_of (S.rest input.old) (S.faults input.old) (K.taken output.old)
+        (K.faults output.old) (E.taken errors.old) (E.faults errors.old))
+        (around_of (N.state net.old) (P.held pages.old) (P.faults pages.old) (C.held clock.old))
         result
-        (record { input = S.rest input.new; read_faults = S.faults input.new; output = K.taken output.new; write_faults = K.faults output.new; errors = E.taken errors.new; error_faults = E.faults errors.new })
-        (record { net = N.state net.new; pages = P.held pages.new; page_faults = P.faults pages.new; clock = C.held clock.new }) }
+        (streams_of (S.rest input.new) (S.faults input.new) (K.taken output.new)
+        (K.faults output.new) (E.taken errors.new) (E.faults errors.new))
+        (around_of (N.state net.new) (P.held pages.new) (P.faults pages.new) (C.held clock.new)) }
 {
     let mut steps = [Steps::<L>::new(blank)];
     run(
@@ -180,17 +183,12 @@ fn run_on<
 fn help_words(alloc: Global, words: &Words) -> Result<Words, NoMemory> {
     let mut asked = Words::new(alloc);
     if words.len() == 1 && !asks_server(words) {
-        push_word(&mut asked, Text::new(alloc, SERVE)?)?;
+        asked.add(Text::new(alloc, SERVE)?)?;
     }
     for word in words.as_slice() {
-        push_word(&mut asked, word.copy(alloc)?)?;
+        asked.add(word.copy(alloc)?)?;
     }
     Ok(asked)
-}
-
-/// Puts a word at the end.
-fn push_word(words: &mut Words, word: Text) -> Result<(), NoMemory> {
-    words.add(word)
 }
 
 /// Prints the help or the version on standard output, where the words ask for one of them, and tells

@@ -9,7 +9,8 @@ ghost use Rattle.load_gen.specs.Load.{most_requests};
 ghost use Rattle.rehearse.specs.Summary.{summary};
 ghost use Rattle.ns_server.specs.Answers.{WritesSummary};
 ghost use Rattle.outside.specs.Nets.{IsNew};
-ghost use Rattle.ns_server.specs.Running.{Streams, Ends, AsksLoad, AsksServer, LoadMeans, Runs};
+ghost use Rattle.serve_run.specs.Serving.{around_of};
+ghost use Rattle.ns_server.specs.Running.{Streams, streams_of, Ends, AsksLoad, AsksServer, LoadMeans, Runs};
 
 use crate::made::MadeFile;
 use crate::status::Status;
@@ -133,9 +134,11 @@ pub fn run_rehearse<S: Source, K: Sink, E: Sink, L: Ledger>(
     steps: &mut Steps<L>,
 ) -> u8
     ensures { Ends (names_of natives.now) words.now
-        (record { input = S.rest input.old; read_faults = S.faults input.old; output = K.taken output.old; write_faults = K.faults output.old; errors = E.taken errors.old; error_faults = E.faults errors.old })
+        (streams_of (S.rest input.old) (S.faults input.old) (K.taken output.old)
+        (K.faults output.old) (E.taken errors.old) (E.faults errors.old))
         result
-        (record { input = S.rest input.new; read_faults = S.faults input.new; output = K.taken output.new; write_faults = K.faults output.new; errors = E.taken errors.new; error_faults = E.faults errors.new }) }
+        (streams_of (S.rest input.new) (S.faults input.new) (K.taken output.new)
+        (K.faults output.new) (E.taken errors.new) (E.faults errors.new)) }
 {
     if let Some(requests) = requests_asked(words) {
         let status = run_load(alloc, natives, requests, output, steps);
@@ -192,11 +195,13 @@ pub fn run<
     requires counters { 0 < length steps.old }
     requires new { IsNew (N.state net.old) }
     ensures runs { Runs (names_of natives.now) words.now
-        (record { input = S.rest input.old; read_faults = S.faults input.old; output = K.taken output.old; write_faults = K.faults output.old; errors = E.taken errors.old; error_faults = E.faults errors.old })
-        (record { net = N.state net.old; pages = P.held pages.old; page_faults = P.faults pages.old; clock = C.held clock.old })
+        (streams_of (S.rest input.old) (S.faults input.old) (K.taken output.old)
+        (K.faults output.old) (E.taken errors.old) (E.faults errors.old))
+        (around_of (N.state net.old) (P.held pages.old) (P.faults pages.old) (C.held clock.old))
         result
-        (record { input = S.rest input.new; read_faults = S.faults input.new; output = K.taken output.new; write_faults = K.faults output.new; errors = E.taken errors.new; error_faults = E.faults errors.new })
-        (record { net = N.state net.new; pages = P.held pages.new; page_faults = P.faults pages.new; clock = C.held clock.new }) }
+        (streams_of (S.rest input.new) (S.faults input.new) (K.taken output.new)
+        (K.faults output.new) (E.taken errors.new) (E.faults errors.new))
+        (around_of (N.state net.new) (P.held pages.new) (P.faults pages.new) (C.held clock.new)) }
     ensures others { drop 1 steps.new ≡ drop 1 steps.old }
 {
     if asks_server(words) {

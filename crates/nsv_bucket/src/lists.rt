@@ -73,10 +73,12 @@ fn pair(alloc: Global, arrays: &mut Arrays, words: &Words, base: Base) -> Result
     requires { 4 ≤ length words.now }
     ensures reply { IfOk result (λ reply.
         reply
-        ≡ (paired (seen arrays.old) words.now (base_of (seen arrays.old) (word_at words.now 2) base) (listing (word_at words.now 3))).0) }
+        ≡ (paired (seen arrays.old) words.now (base_of (seen arrays.old) (word_at words.now 2) base)
+        (listing (word_at words.now 3))).0) }
     ensures ok { OnOk result
         (seen arrays.new
-        ≡ (paired (seen arrays.old) words.now (base_of (seen arrays.old) (word_at words.now 2) base) (listing (word_at words.now 3))).1) }
+        ≡ (paired (seen arrays.old) words.now (base_of (seen arrays.old) (word_at words.now 2) base)
+        (listing (word_at words.now 3))).1) }
     ensures err { OnErr result (seen arrays.new ≡ seen arrays.old) }
 {
     match split(alloc, word(words, 3)) {
@@ -97,10 +99,12 @@ fn pair_elements(
     requires { 4 ≤ length words.now }
     ensures reply { IfOk result (λ reply.
         reply
-        ≡ (paired (seen arrays.old) words.now (base_of (seen arrays.old) (word_at words.now 2) base) (elements pairs.now)).0) }
+        ≡ (paired (seen arrays.old) words.now (base_of (seen arrays.old) (word_at words.now 2) base)
+        (elements pairs.now)).0) }
     ensures ok { OnOk result
         (seen arrays.new
-        ≡ (paired (seen arrays.old) words.now (base_of (seen arrays.old) (word_at words.now 2) base) (elements pairs.now)).1) }
+        ≡ (paired (seen arrays.old) words.now (base_of (seen arrays.old) (word_at words.now 2) base)
+        (elements pairs.now)).1) }
     ensures err { OnErr result (seen arrays.new ≡ seen arrays.old) }
 {
     let pairs = pairs.as_slice();

@@ -179,8 +179,11 @@ impl Intake {
         requires there { size ≤ length self.old.left }
         requires in_time { self.old.place + size ≤ most_file }
         ensures { self.new
-            ≡ record
-            { left = drop size self.old.left; place = self.old.place + size; stopped = self.old.stopped } }
+            ≡ record {
+              left = drop size self.old.left;
+              place = self.old.place + size;
+              stopped = self.old.stopped;
+            } }
     {
         self.used += size;
         self.place += size;

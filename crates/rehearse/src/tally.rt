@@ -42,8 +42,11 @@ impl Tally {
     /// Counts a response of this status and so many bytes.
     pub fn count(&mut self, status: u16, bytes: u64)
         ensures { self.new
-            ≡ record
-            { found = one_if (status == 200) self.old.found; missing = one_if (status == 404) self.old.missing; bytes = capped self.old.bytes bytes } }
+            ≡ record {
+              found = one_if (status == 200) self.old.found;
+              missing = one_if (status == 404) self.old.missing;
+              bytes = capped self.old.bytes bytes;
+            } }
     {
         self.found = one_if(status == FOUND, self.found);
         self.missing = one_if(status == MISSING, self.missing);

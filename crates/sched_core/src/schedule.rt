@@ -49,7 +49,8 @@ impl Schedule {
     }
 
     fn add(&mut self, moment: u64, seconds: u64, once: bool, script: Text) -> SchedReply
-        ensures step { Adds self.old (λ id. entry_of id moment seconds once script) result self.new }
+        ensures step { Adds self.old (λ id. entry_of id moment seconds once script) result
+            self.new }
         ensures allowed { Allowed self.new }
     {
         let id = self.next;

@@ -23,6 +23,9 @@ pub record Around : Type 0 where
   pub page_faults : ℕ
   pub clock : Option Dial
 
+abbrev pub around_of : NetState → Option PageMap → ℕ → Option Dial → Around
+around_of net pages faults clock = record { net = net; pages = pages; page_faults = faults; clock = clock }
+
 -- this is the path of the start page that the words give
 abbrev pub IsStart : Words → Bytes → Type 0
 IsStart words path = first_of (codes "start") (matches_of serve_app words) ≡ Some path

@@ -8,7 +8,7 @@ ghost use Rattle.outside.specs.Nets.{IsNew};
 ghost use Rattle.shared_state.specs.Cells.{Serve, AreWhole, HaveUnits, Leave};
 ghost use Rattle.server_threads.specs.Stops.{Stops};
 ghost use Rattle.serve_options.specs.Reading.{AreReadFrom};
-ghost use Rattle.serve_run.specs.Serving.{Around, Ends, Serves};
+ghost use Rattle.serve_run.specs.Serving.{Around, around_of, Ends, Serves};
 ghost use Rattle.serve_run.specs.Stages.{IsEarlier, EndsUnstarted, ended_by};
 ghost use Rattle.serve_run.specs.declared.ended.Ended.TheVariants as ways;
 
@@ -179,8 +179,10 @@ fn begin<
 ) -> Ended
     requires new { IsNew (N.state net.old) }
     ensures { (words : Words) (before : Around) → AreReadFrom words options.now
-        → IsEarlier before (record { net = N.state net.old; pages = P.held pages.old; page_faults = P.faults pages.old; clock = C.held clock.old })
-        → Ends (names_of natives.now) words before result (record { net = N.state net.new; pages = P.held pages.new; page_faults = P.faults pages.new; clock = C.held clock.new }) }
+        → IsEarlier before
+        (around_of (N.state net.old) (P.held pages.old) (P.faults pages.old) (C.held clock.old))
+        → Ends (names_of natives.now) words before result
+        (around_of (N.state net.new) (P.held pages.new) (P.faults pages.new) (C.held clock.new)) }
 {
     let Ok((shared, mut passes)) = Shared::new(alloc, natives) else {
         return Ended::NoMemory;
@@ -230,9 +232,9 @@ fn serve<
 ) -> Ended
     requires new { IsNew (N.state net.old) }
     ensures { Ends (names_of natives.now) words.now
-        (record { net = N.state net.old; pages = P.held pages.old; page_faults = P.faults pages.old; clock = C.held clock.old })
+        (around_of (N.state net.old) (P.held pages.old) (P.faults pages.old) (C.held clock.old))
         result
-        (record { net = N.state net.new; pages = P.held pages.new; page_faults = P.faults pages.new; clock = C.held clock.new }) }
+        (around_of (N.state net.new) (P.held pages.new) (P.faults pages.new) (C.held clock.new)) }
 {
     let options = match read_options(alloc, words) {
         Ok(options) => options,
@@ -294,9 +296,9 @@ pub fn run_serve<
 ) -> u8
     requires new { IsNew (N.state net.old) }
     ensures { Serves (names_of natives.now) words.now
-        (record { net = N.state net.old; pages = P.held pages.old; page_faults = P.faults pages.old; clock = C.held clock.old })
+        (around_of (N.state net.old) (P.held pages.old) (P.faults pages.old) (C.held clock.old))
         result
-        (record { net = N.state net.new; pages = P.held pages.new; page_faults = P.faults pages.new; clock = C.held clock.new })
+        (around_of (N.state net.new) (P.held pages.new) (P.faults pages.new) (C.held clock.new))
         (E.taken errors.old) (E.faults errors.old) (E.taken errors.new) (E.faults errors.new) }
 {
     let ended = serve(rt, alloc, natives, words, net, pages, clock, gate);

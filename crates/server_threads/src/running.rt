@@ -225,7 +225,8 @@ fn join_all<T: Drop, W: Drop, V: Staff<T, W>>(
 )
     requires queue { IsOf queue.now pass.old }
     requires own { V.fits staff.now own.old }
-    requires parts { All (λ part. IsOf queue.now part.pass × V.fits staff.now part.own) parts.items }
+    requires parts { All (λ part. IsOf queue.now part.pass × V.fits staff.now part.own)
+        parts.items }
     ensures own { V.fits staff.now own.new }
 {
     for part in parts {

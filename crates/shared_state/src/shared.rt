@@ -55,7 +55,8 @@ fn blueprint_cell(
     ensures { IfOk result (λ r.
         IsOf r.0 r.1
         × (pass_view r.1
-        ≡ fresh WHOLE 0 (blueprint_of (names_of natives.now)) (blueprint_of (names_of natives.now)))) }
+        ≡ fresh WHOLE 0 (blueprint_of (names_of natives.now))
+        (blueprint_of (names_of natives.now)))) }
 {
     TurnCell::new(alloc, Blueprint::new(alloc, natives)?)
 }

@@ -196,8 +196,10 @@ impl<H: Host> Engine<H> {
         ensures asked { IfOk result (λ acted. acted ≡ Acted.Asks (addressed levels question)) }
         ensures opened { OnOk result
             (self.new
-            ≡ record self.old
-            { question = Some (record { service = question.service; words = words; levels = levels }) }) }
+            ≡ record self.old {
+              question = Some
+                  (record { service = question.service; words = words; levels = levels });
+            }) }
         ensures holds { Holds self.new self.old }
     {
         let question = addressed(self.alloc, question, levels)?;
@@ -338,8 +340,10 @@ impl<H: Host> Engine<H> {
             answer ≡ rename_answer self.old.table.table old.now new.now) }
         ensures made { IfOk result (λ answer.
             self.new
-            ≡ record self.old
-            { table = self.new.table; made = made_by answer self.old.made (Def.Rename old.now new.now) }) }
+            ≡ record self.old {
+              table = self.new.table;
+              made = made_by answer self.old.made (Def.Rename old.now new.now);
+            }) }
         ensures table { OnOk result
             (self.new.table.table ≡ renamed self.old.table.table old.now new.now) }
         ensures steps { steps.old ≤ steps.new }
@@ -688,7 +692,8 @@ impl<H: Host> Engine<H> {
         ensures means { IfOk result (λ acted.
             Same (names_of natives.now) H.table self.new self.old
             (acted_next (names_of natives.now) H.table acted self.new.question)
-            (act (names_of natives.now) H.table (nested (names_of natives.now) H.table levels) words)) }
+            (act (names_of natives.now) H.table (nested (names_of natives.now) H.table levels)
+            words)) }
         ensures lower { OnOk result (Lower self.new self.old 1) }
         ensures opens { IfOk result (λ acted. Opens acted self.new self.old) }
         ensures steps { steps.old ≤ steps.new }

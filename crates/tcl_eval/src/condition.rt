@@ -76,7 +76,8 @@ impl<H: Host> Engine<H> {
         ensures opens { IfOk result (λ acted. Opens acted self.new self.old) }
         ensures enters { IfOk result (λ acted.
             Enters acted
-            (credit self.new < credit self.old + branch_free (Branch.If body branches next levels))) }
+            (credit self.new < credit self.old
+            + branch_free (Branch.If body branches next levels))) }
         ensures holds { Holds self.new self.old }
     {
         if value.code != OK {

@@ -96,7 +96,8 @@ impl<H: Host> Engine<H> {
         requires most { depth ≤ 200 }
         ensures stands { IfRan result
             (Stands (names_of natives.now) H.table result self.new
-            (record { work = work; depth = depth; budget = budget; state = state_of self.old }) []) }
+            (record { work = work; depth = depth; budget = budget; state = state_of self.old })
+            []) }
         ensures leaves { Leaves result self.new }
         ensures lower { IfRan result (self.new.budget ≤ budget) }
         ensures falls { IfRan result (FellTo result self.new budget) }
@@ -105,7 +106,8 @@ impl<H: Host> Engine<H> {
         ensures lasts { Lasts self.new self.old }
         ensures front { (given : Given)
             → IsFront self.new.made
-            (state_in (eval (names_of natives.now) H.table depth work (state_of self.old) budget given)).made }
+            (state_in (eval (names_of natives.now) H.table depth work (state_of self.old) budget
+            given)).made }
     {
         self.budget = budget;
         match self.begin(natives, work, depth, steps) {
@@ -137,7 +139,8 @@ impl<H: Host> Engine<H> {
         ensures lasts { Lasts self.new self.old }
         ensures front { (question : Question) (charge : ℕ) (further : Given)
             → IsFront self.new.made
-            (state_in (comes_to (names_of natives.now) H.table (Asks question) (with_more self.old charge) ((answer, charge) ∷ further))).made }
+            (state_in (comes_to (names_of natives.now) H.table (Asks question)
+            (with_more self.old charge) ((answer, charge) ∷ further))).made }
     {
         match self.answer(natives, answer, steps) {
             Ok(outcome) => outcome,
@@ -211,8 +214,10 @@ impl<H: Host> Engine<H> {
         requires base { IsKeepable def.now self.old.frames }
         ensures ok { OnOk result
             (state_of self.new
-            ≡ record (state_of self.old)
-            { commands = defined self.old.table.table def.now; frames = kept_by def.now self.old.frames }) }
+            ≡ record (state_of self.old) {
+              commands = defined self.old.table.table def.now;
+              frames = kept_by def.now self.old.frames;
+            }) }
         ensures steps { OnOk result (steps.new ≡ steps.old + writes def.now) }
         ensures err { OnErr result
             ((state_of self.new ≡ state_of self.old) × (steps.new ≡ steps.old)) }
@@ -258,8 +263,12 @@ impl<H: Host> Engine<H> {
     pub fn clear<L: Ledger>(&mut self, mark: u64, steps: &mut Steps<L>)
         requires { mark ≤ mark_of self.old.table }
         ensures state { state_of self.new
-            ≡ record
-            { commands = table_at self.old.table mark; frames = cleared self.old.frames; host = H.table.clears self.old.host; made = [] } }
+            ≡ record {
+              commands = table_at self.old.table mark;
+              frames = cleared self.old.frames;
+              host = H.table.clears self.old.host;
+              made = [];
+            } }
         ensures table { self.new.table ≡ back_at self.old.table mark }
         ensures idle { IsIdle self.new }
         ensures budget { self.new.budget ≡ self.old.budget }

@@ -112,11 +112,13 @@ impl<H: Host> Engine<H> {
             (names : Names)
             → Same names H.table self.new self.old (step_next names H.table step)
             (run_expression (nested names H.table levels)
-            (choice (tree_of test.now.value) (tree_of first.now.value) (tree_of second.now.value)))) }
+            (choice (tree_of test.now.value) (tree_of first.now.value)
+            (tree_of second.now.value)))) }
         ensures weighs { IfOk result (λ step.
             stack_weight self.new.stack.items + step_weight step < stack_weight self.old.stack.items
             + tree_size
-            (choice (tree_of test.now.value) (tree_of first.now.value) (tree_of second.now.value))) }
+            (choice (tree_of test.now.value) (tree_of first.now.value)
+            (tree_of second.now.value))) }
         ensures keeps { IfOk result (λ step. Stays step self.new self.old) }
         ensures holds { Holds self.new self.old }
     {
@@ -352,7 +354,8 @@ impl<H: Host> Engine<H> {
         ensures means { IfOk result (λ step.
             (names : Names)
             → Same names H.table self.new self.old (step_next names H.table step) (λ k.
-            frame_next names H.table (Frame.Choice first second levels) k value.code value.result)) }
+            frame_next names H.table (Frame.Choice first second levels) k value.code
+            value.result)) }
         ensures falls { IfOk result (λ step.
             stack_weight self.new.stack.items + step_weight step < stack_weight self.old.stack.items
             + frame_weight (Frame.Choice first second levels)) }

@@ -243,7 +243,8 @@ impl<H: Host> Engine<H> {
         ensures opens { IfOk result (λ acted. Opens acted self.new self.old) }
         ensures enters { IfOk result (λ acted.
             Enters acted
-            (credit self.new < credit self.old + branch_free (Branch.Condition turning left levels))) }
+            (credit self.new < credit self.old
+            + branch_free (Branch.Condition turning left levels))) }
         ensures holds { Holds self.new self.old }
     {
         if value.code != OK {
@@ -273,7 +274,8 @@ impl<H: Host> Engine<H> {
         ensures means { IfOk result (λ acted.
             (names : Names) (opened : Option OpenQuestion)
             → Same names H.table self.new self.old (acted_next names H.table acted opened) (λ k.
-            branch_next names H.table (Branch.Body turning left levels) k value.code value.result)) }
+            branch_next names H.table (Branch.Body turning left levels) k value.code
+            value.result)) }
         ensures lower { OnOk result (Lower self.new self.old 1) }
         ensures opens { IfOk result (λ acted. Opens acted self.new self.old) }
         ensures enters { IfOk result (λ acted.
@@ -313,7 +315,8 @@ impl<H: Host> Engine<H> {
         ensures means { IfOk result (λ acted.
             (names : Names) (opened : Option OpenQuestion)
             → Same names H.table self.new self.old (acted_next names H.table acted opened) (λ k.
-            branch_next names H.table (Branch.Next turning left levels) k value.code value.result)) }
+            branch_next names H.table (Branch.Next turning left levels) k value.code
+            value.result)) }
         ensures lower { OnOk result (Lower self.new self.old 1) }
         ensures opens { IfOk result (λ acted. Opens acted self.new self.old) }
         ensures enters { IfOk result (λ acted.
@@ -411,7 +414,8 @@ impl<H: Host> Engine<H> {
         ensures means { IfOk result (λ acted.
             (names : Names) (opened : Option OpenQuestion)
             → Same names H.table self.new self.old (acted_next names H.table acted opened) (λ k.
-            branch_next names H.table (Branch.Each walk at left levels) k value.code value.result)) }
+            branch_next names H.table (Branch.Each walk at left levels) k value.code
+            value.result)) }
         ensures lower { OnOk result (Lower self.new self.old 1) }
         ensures opens { IfOk result (λ acted. Opens acted self.new self.old) }
         ensures enters { IfOk result (λ acted.

@@ -102,7 +102,8 @@ impl<H: Host> Engine<H> {
         ensures front { OnErr result
             ((given : Given)
             → IsFront self.new.made
-            (state_in (gives (names_of natives.now) H.table (step_next (names_of natives.now) H.table step) self.old given)).made) }
+            (state_in (gives (names_of natives.now) H.table
+            (step_next (names_of natives.now) H.table step) self.old given)).made) }
     {
         'steps: loop {
             let ready = match self.settle(step)? {
@@ -142,7 +143,9 @@ impl<H: Host> Engine<H> {
         ensures front { OnErr result
             ((given : Given)
             → IsFront self.new.made
-            (state_in (gives (names_of natives.now) H.table (acted_next (names_of natives.now) H.table acted self.old.question) self.old given)).made) }
+            (state_in (gives (names_of natives.now) H.table
+            (acted_next (names_of natives.now) H.table acted self.old.question) self.old
+            given)).made) }
     {
         match acted {
             Acted::Gives(value) => {
@@ -215,7 +218,8 @@ impl<H: Host> Engine<H> {
         ensures front { OnErr result
             ((given : Given)
             → IsFront self.new.made
-            (state_in (eval (names_of natives.now) H.table depth work (state_of self.old) self.old.budget given)).made) }
+            (state_in (eval (names_of natives.now) H.table depth work (state_of self.old)
+            self.old.budget given)).made) }
     {
         let acted = self.first(natives, work, depth, steps)?;
         let outcome = self.run_on(natives, acted, steps)?;
@@ -239,7 +243,8 @@ impl<H: Host> Engine<H> {
         ensures front { OnErr result
             ((question : Question) (further : Given)
             → IsFront self.new.made
-            (state_in (comes_to (names_of natives.now) H.table (Asks question) self.old ((answer, 0) ∷ further))).made) }
+            (state_in (comes_to (names_of natives.now) H.table (Asks question) self.old
+            ((answer, 0) ∷ further))).made) }
     {
         let Some(open) = self.question.take() else {
             unreachable!()

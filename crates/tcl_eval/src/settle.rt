@@ -61,7 +61,8 @@ impl<H: Host> Engine<H> {
         ensures weighs { IfOk result (λ step.
             stack_weight self.new.stack.items + step_weight step ≤ stack_weight self.old.stack.items
             +
-            (parts_size (inside (place_parts place)) + parts_size (place_parts (behind place)) + 4)) }
+            (parts_size (inside (place_parts place)) + parts_size (place_parts (behind place))
+            + 4)) }
         ensures keeps { IfOk result (λ step. Stays step self.new self.old) }
         ensures holds { Holds self.new self.old }
     {
@@ -357,7 +358,8 @@ impl<H: Host> Engine<H> {
         ensures means { IfOk result (λ step.
             (names : Names)
             → Same names H.table self.new self.old (step_next names H.table step) (λ k.
-            frame_next names H.table (Frame.Costly script at next levels) k value.code value.result)) }
+            frame_next names H.table (Frame.Costly script at next levels) k value.code
+            value.result)) }
         ensures falls { IfOk result (λ step.
             stack_weight self.new.stack.items + step_weight step < stack_weight self.old.stack.items
             + frame_weight (Frame.Costly script at next levels)) }
@@ -469,7 +471,8 @@ impl<H: Host> Engine<H> {
             → Same names H.table self.new self.old (step_next names H.table step) (λ k.
             command_end k value.code value.result)) }
         ensures falls { IfOk result (λ step.
-            stack_weight self.new.stack.items + step_weight step ≤ stack_weight self.old.stack.items) }
+            stack_weight self.new.stack.items + step_weight step
+            ≤ stack_weight self.old.stack.items) }
         ensures keeps { IfOk result (λ step. Stays step self.new self.old) }
         ensures holds { Holds self.new self.old }
     {
@@ -490,7 +493,8 @@ impl<H: Host> Engine<H> {
             → Same names H.table self.new self.old (step_next names H.table step) (λ k.
             proc_end k value.code value.result)) }
         ensures falls { IfOk result (λ step.
-            stack_weight self.new.stack.items + step_weight step ≤ stack_weight self.old.stack.items) }
+            stack_weight self.new.stack.items + step_weight step
+            ≤ stack_weight self.old.stack.items) }
         ensures keeps { IfOk result (λ step. Stays step self.new self.old) }
         ensures holds { Holds self.new self.old }
     {
@@ -510,7 +514,8 @@ impl<H: Host> Engine<H> {
             → Same names H.table self.new self.old (step_next names H.table step) (λ k.
             catch_end name k value.code value.result)) }
         ensures falls { IfOk result (λ step.
-            stack_weight self.new.stack.items + step_weight step ≤ stack_weight self.old.stack.items) }
+            stack_weight self.new.stack.items + step_weight step
+            ≤ stack_weight self.old.stack.items) }
         ensures keeps { IfOk result (λ step. Stays step self.new self.old) }
         ensures holds { Holds self.new self.old }
     {

@@ -267,8 +267,11 @@ fn reduced(
     pending: &mut Vec<Pending>,
     tree: Expr,
 ) -> Result<Expr, NoMemory>
-    ensures means { IsStack (stack pending.old.items) → IfOk result (λ e. (room n : ℕ) (t : Bytes) (o : Outcome) → AtLeast most (next_operator n t) →
-        FromOperand (SignedAt (InParens room)) (stack pending.new.items) (done (tree_of e) n t) o → FromOperand (SignedAt (InParens room)) (stack pending.old.items) (done (tree_of tree) n t) o) }
+    ensures means { IsStack (stack pending.old.items) → IfOk result (λ e.
+        (room n : ℕ) (t : Bytes) (o : Outcome) → AtLeast most (next_operator n t)
+        → FromOperand (SignedAt (InParens room)) (stack pending.new.items) (done (tree_of e) n t) o
+        → FromOperand (SignedAt (InParens room)) (stack pending.old.items) (done (tree_of tree) n t)
+        o) }
     ensures valid { IsStack (stack pending.old.items) → IsStack (stack pending.new.items) }
     ensures loose { IfOk result (λ _. IsLoose most (stack pending.new.items)) }
 {
@@ -346,8 +349,11 @@ fn chosen(alloc: Global, test: Expr, middle: Expr, last: Expr) -> Result<Expr, N
 
 /// Joins the choices whose last part has been read, up to the one that waits for its middle.
 fn settle(alloc: Global, asked: &mut Vec<Asked>, tree: Expr) -> Result<Taken, NoMemory>
-    ensures { IfOk result (λ x. (room n : ℕ) (t : Bytes) (o : Outcome) →
-        IsSettled (ExpressionBy (InParens room)) x (parts asked.new.items) n t o → Waits (ExpressionBy (InParens room)) (parts asked.old.items) (done (tree_of tree) n t) o) }
+    ensures { IfOk result (λ x.
+        (room n : ℕ) (t : Bytes) (o : Outcome)
+        → IsSettled (ExpressionBy (InParens room)) x (parts asked.new.items) n t o
+        → Waits (ExpressionBy (InParens room)) (parts asked.old.items) (done (tree_of tree) n t)
+        o) }
 {
     let mut tree = tree;
     'asked: while let Some(last) = asked.pop() {

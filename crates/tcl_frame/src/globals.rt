@@ -197,7 +197,8 @@ impl Globals {
         ensures ok { OnOk result
             (self.new
             ≡ record self.old { table = with_value self.old.table (name_seen name.now) value }) }
-        ensures refused { IsRefusedFor (no_write (found self.old.table (name_seen name.now))) result }
+        ensures refused { IsRefusedFor (no_write (found self.old.table (name_seen name.now)))
+            result }
         ensures err { OnErr result (self.new ≡ self.old) }
     {
         set_aside(self.alloc, &mut self.base, &mut self.own, name)?;
@@ -212,8 +213,10 @@ impl Globals {
             value ≡ longer self.old.table (name_seen name.now) more.now) }
         ensures ok { OnOk result
             (self.new
-            ≡ record self.old { table = with_longer self.old.table (name_seen name.now) more.now }) }
-        ensures refused { IsRefusedFor (no_write (found self.old.table (name_seen name.now))) result }
+            ≡ record self.old
+            { table = with_longer self.old.table (name_seen name.now) more.now }) }
+        ensures refused { IsRefusedFor (no_write (found self.old.table (name_seen name.now)))
+            result }
         ensures err { OnErr result (self.new ≡ self.old) }
     {
         set_aside(self.alloc, &mut self.base, &mut self.own, name)?;

@@ -115,7 +115,8 @@ fn put_decimal(alloc: Global, out: &mut Text, form: Form, word: &Text) -> Result
 /// Puts the 64 bits of a word that must be a number at the end, in hexadecimal.
 fn put_hexadecimal(alloc: Global, out: &mut Text, form: Form, word: &Text) -> Result<(), Fault>
     ensures { Puts (integer_error word.now) out.old
-        (filled (form_of form) [] (digits 16 false (in_64_bits (integer word.now)))) out.new result }
+        (filled (form_of form) [] (digits 16 false (in_64_bits (integer word.now)))) out.new
+        result }
 {
     let n = number_in(alloc, word)?;
     Ok(put_bits(alloc, out, form, n)?)
@@ -210,7 +211,8 @@ fn check_character(alloc: Global, word: &Text) -> Result<(), Fault>
 /// Looks whether the first word is what a form takes, and writes nothing.
 fn check_form(alloc: Global, form: Form, words: &[Text]) -> Result<(), Fault>
     requires { takes_word (form_part (form_of form)) ≡ true → 0 < length words.now }
-    ensures { Tried (part_error (form_part (form_of form)) (arg words.now 0)) (λ _. Unit {0}) result }
+    ensures { Tried (part_error (form_part (form_of form)) (arg words.now 0)) (λ _. Unit {0})
+        result }
 {
     match form.letter {
         Letter::Percent => Ok(()),

@@ -87,7 +87,8 @@ pub(crate) fn check_least(
     least: usize,
     command: &str,
 ) -> Result<(), Fault>
-    ensures { Tried (least_error least words.now command.now) (λ _. least ≤ length words.now) result }
+    ensures { Tried (least_error least words.now command.now) (λ _. least ≤ length words.now)
+        result }
 {
     if are_fewer(words, least) {
         return Err(Fault::wrong_words(alloc, command));

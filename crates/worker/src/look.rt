@@ -203,7 +203,8 @@ pub(crate) fn renew<L: Ledger>(
         (steps.new ≤ steps.old + renewal (names_of natives.now) (standing_of worker.old) state) }
     ensures most { (state : State)
         → IsRenewedBy (names_of natives.now) worker.old.interp state look
-        → steps.new ≤ steps.old + 2 * renewal (names_of natives.now) (standing_of worker.old) state }
+        → steps.new ≤ steps.old
+        + 2 * renewal (names_of natives.now) (standing_of worker.old) state }
     ensures number { worker.new.number ≡ worker.old.number }
     ensures err { OnErr result (IsLeft look worker.old.interp worker.new.interp) }
     ensures refused { OnErr result (look ≡ Look.NoMemory → steps.new ≡ steps.old) }

@@ -32,7 +32,8 @@ fn go_on<L: Ledger>(
     steps: &mut Steps<L>,
 ) -> Next
     requires { IsAsking interp.old }
-    ensures { Resumes (names_of natives.now) answer result steps.old steps.new interp.new interp.old }
+    ensures { Resumes (names_of natives.now) answer result steps.old steps.new interp.new
+        interp.old }
 {
     interp.resume(natives, answer, steps)
 }

@@ -4,7 +4,8 @@ use Rattle.tcl_eval.specs.State.{State}
 use Rattle.ictl.specs.Interps.{spare_of}
 use Rattle.ictl.specs.declared.inner.InnerRun.{InnerRun}
 use Rattle.ictl.specs.declared.interp.Interp.{Interp}
-use Rattle.ictl.proofs.Resets.{restored, new_again, steps_back, mark_back_on}
+use Rattle.ictl.specs.Interps.{restored}
+use Rattle.ictl.proofs.Resets.{new_again, steps_back, mark_back_on}
 use Rattle.ictl.proofs.interp.Interp.reset.Goals as goal
 
 pub clear-requires : goal.clear-requires
