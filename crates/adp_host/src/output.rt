@@ -47,23 +47,12 @@ fn puts_out(host: &mut AdpHost, text: &[u8]) -> Result<Text, Refusal>
     Ok(Text::empty(host.alloc))
 }
 
-/// These texts as one, with nothing between them.
-fn joined(alloc: Global, texts: &[Text]) -> Result<Text, NoMemory>
-    ensures { IfOk result (λ text. text ≡ concat texts.now) }
-{
-    let mut whole = Text::empty(alloc);
-    'texts: for text in texts {
-        whole.append(text.bytes())?;
-    }
-    Ok(whole)
-}
-
 /// `ns_adp_append WORD..`.
 pub fn ns_adp_append(host: &mut AdpHost, words: &Words) -> Result<Text, Refusal>
     ensures { EndsWith result host.new (ns_adp_append words.now host.old) }
 {
     require_page(host)?;
-    let text = joined(host.alloc, behind_name(words))?;
+    let text = Text::concat(host.alloc, behind_name(words))?;
     puts_out(host, text.bytes())
 }
 

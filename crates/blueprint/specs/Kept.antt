@@ -2,11 +2,9 @@
 use Rattle.std.specs.Prelude.{◌≡◌, ◌≤◌, ℕ, ◌+◌, List, [], ◌∷◌, ◌++◌, length, Bool, false, if◌then◌else◌, unwrap_or, Option, Some, None, IsSome, Result, Ok, Err}
 use Rattle.std.specs.Option.{is_some}
 use Rattle.std.specs.List.{AllByRecursion}
-use Rattle.std.specs.declared.cmp.Ordering.{Ordering}
-use Rattle.std.specs.Ordering.{nat_cmp}
-use Rattle.std.specs.Cmp.Lexicographic.{slice_cmp}
 use Rattle.std.specs.BTreeMap.{BTreeMap, get, is_at}
 use Rattle.txt_core.specs.Names.{Bytes, Words, Names}
+pub use Rattle.txt_core.specs.Order.{text_cmp}
 use Rattle.cmd_table.specs.declared.definition.Def.{Def}
 use Rattle.cmd_table.specs.Table.{Table, command_of, names_of}
 use Rattle.cmd_table.specs.Commands.{Commands}
@@ -42,9 +40,6 @@ put_defs front (definitions defs) = definitions (front ++ defs)
 put_defs front (no_definition number) = no_definition number
 
 -- ---- the names that are commands
-
-abbrev pub text_cmp : Bytes → Bytes → Ordering
-text_cmp = slice_cmp nat_cmp
 
 abbrev pub same_name : Bytes → Bytes → Bool
 same_name first second = is_at (text_cmp first) second

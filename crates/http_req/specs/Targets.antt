@@ -1,12 +1,10 @@
 -- What the target of a request says: its path, as segments, and its query.
-use Rattle.std.specs.Prelude.{◌==◌, ℕ, Bool, true, false, not, ◌&&◌, ◌||◌, [], ◌∷◌, drop, map, filter, length, nat_eq, if◌then◌else◌, codes}
+use Rattle.std.specs.Prelude.{◌==◌, ℕ, Bool, false, not, ◌&&◌, ◌||◌, [], ◌∷◌, drop, map, filter, length, nat_eq, if◌then◌else◌, codes}
 use Rattle.std.specs.List.{list_any, starts_with, position_or_len, before_first, after_first, slice_split}
 use Rattle.std.specs.Str.{bytes_eq}
 use Rattle.percent_encoding.specs.Percent.{percent_decode}
 use Rattle.txt_core.specs.Names.{Bytes, Words}
-
-abbrev pub is_slash : ℕ → Bool
-is_slash byte = byte == 47
+pub use Rattle.txt_core.specs.Paths.{is_slash, is_filled}
 
 abbrev pub is_question : ℕ → Bool
 is_question byte = byte == 63
@@ -50,10 +48,6 @@ path_of target = without_host (before_first is_question target)
 -- what stands after the first question mark
 abbrev pub query_of : Bytes → Bytes
 query_of target = after_first is_question target
-
-abbrev pub is_filled : Bytes → Bool
-is_filled [] = false
-is_filled (byte ∷ rest) = true
 
 -- the parts of the path between its slashes that have a byte, each percent-decoded
 unfoldable pub segments_of : Bytes → Words

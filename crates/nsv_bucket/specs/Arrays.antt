@@ -1,17 +1,11 @@
 -- The arrays of a bucket: a finite map from names to arrays, each a finite map from keys to values.
 use Rattle.std.specs.Prelude.{[], Option}
-use Rattle.std.specs.declared.cmp.Ordering.{Ordering}
-use Rattle.std.specs.Ordering.{nat_cmp}
-use Rattle.std.specs.Cmp.Lexicographic.{slice_cmp}
 use Rattle.std.specs.FinMap as map
 use Rattle.std.specs.FinMap.{FinMap}
 use Rattle.std.specs.Option.{unwrap_or}
 use Rattle.std.specs.BTreeMap.{BTreeMap}
 use Rattle.txt_core.specs.Names.{Bytes}
-
--- the order of texts: byte by byte, a front before the whole
-abbrev pub text_cmp : Bytes → Bytes → Ordering
-text_cmp = slice_cmp nat_cmp
+pub use Rattle.txt_core.specs.Order.{text_cmp}
 
 -- an array: at most one value for each key
 abbrev pub Array : Type 0

@@ -1,5 +1,5 @@
 -- What the questions do that write or remove one key.
-use Rattle.std.specs.Prelude.{ℤ, pos, negsuc, ◌+ℤ◌, ◌^◌, [], ◌++◌, drop, slice_get, Bool, nat_lt, if◌then◌else◌, Option, None, Some, codes}
+use Rattle.std.specs.Prelude.{ℤ, ◌+ℤ◌, [], ◌++◌, drop, slice_get, if◌then◌else◌, Option, None, Some, codes}
 use Rattle.std.specs.FinMap as map
 use Rattle.std.specs.Fmt.{signed_decimal}
 use Rattle.std.specs.List.{concat}
@@ -7,7 +7,7 @@ use Rattle.std.specs.Option.{option_map_or, unwrap_or}
 use Rattle.txt_core.specs.Names.{Bytes, Words}
 use Rattle.txt_core.specs.Limits.{is_long}
 use Rattle.txt_core.specs.ErrorTexts.{no_integer, overflow}
-use Rattle.txt_core.specs.Number.{number}
+use Rattle.txt_core.specs.Number.{number, fits}
 use Rattle.nsv_bucket.specs.declared.reply.NsvReply.TheVariants.{Said}
 use Rattle.nsv_bucket.specs.Arrays.{Arrays, array_of, text_at, value_of, with_value, without_key}
 use Rattle.nsv_bucket.specs.Questions.{word_at}
@@ -25,11 +25,6 @@ grown arrays name key more = stored arrays name key (text_at (array_of arrays na
 -- `nsv_set ARRAY KEY VALUE` gives the value
 abbrev pub set_step : Arrays → Words → Outcome
 set_step arrays words = stored arrays (word_at words 1) (word_at words 2) (word_at words 3)
-
--- whether a number is one of 64 bits with a sign
-abbrev pub fits : ℤ → Bool
-fits (pos n) = nat_lt n (2 ^ 63)
-fits (negsuc n) = nat_lt n (2 ^ 63)
 
 -- the sum, where it is a number of 64 bits with a sign
 abbrev pub sum_of : ℤ → ℤ → Option ℤ

@@ -151,17 +151,6 @@ fn grow(
     Ok(NsvReply::Said(said))
 }
 
-/// Texts as one.
-fn joined(alloc: Global, rest: &[Text]) -> Result<Text, NoMemory>
-    ensures { IfOk result (λ text. text ≡ concat rest.now) }
-{
-    let mut text = Text::empty(alloc);
-    for more in rest {
-        text.append(more.bytes())?;
-    }
-    Ok(text)
-}
-
 /// Answers `nsv_append`: puts the values behind the one that stands, in place.
 pub(crate) fn append(
     alloc: Global,
@@ -173,7 +162,7 @@ pub(crate) fn append(
     ensures ok { OnOk result (seen arrays.new ≡ (append_step (seen arrays.old) words.now).1) }
     ensures err { OnErr result (seen arrays.new ≡ seen arrays.old) }
 {
-    let more = joined(alloc, &words.as_slice()[3..])?;
+    let more = Text::concat(alloc, &words.as_slice()[3..])?;
     grow(
         alloc,
         arrays,

@@ -1,6 +1,7 @@
 -- The base scalars that were kept stay as they are, whatever becomes of variables.
 use Rattle.std.proofs.Common.{◌≡◌, ℕ, List, [], ◌∷◌, ◌++◌, drop, slice_get, Bool, true, false, cond, Option, Some, None, Result, Ok, Err, refl, ap, ◌∙◌}
 use Rattle.std.specs.Prelude.{codes, ◌+ℤ◌}
+use Rattle.std.specs.List.{concat}
 use Rattle.std.specs.Fmt.{signed_decimal}
 use Rattle.txt_core.specs.Quoting.{quoting}
 use Rattle.txt_core.specs.Limits.{is_long}
@@ -11,7 +12,7 @@ use Rattle.tcl_frame.specs.Variables.{Table}
 use Rattle.tcl_frame.specs.Stack.{Stack}
 use Rattle.tcl_frame.specs.Frames.{links_name, with_top, with_table, read_of, written, removed, linked, has, is_array, pairs_written}
 use Rattle.tcl_varcmd.specs.Answers.{Came, gives, fails, unless, IsAnswer, IfNoMemory}
-use Rattle.tcl_varcmd.specs.Scalars.{stored, set_to, step_error, step_of, joined, added, incr_by, append_to, lappend_to, unset_all, global_all}
+use Rattle.tcl_varcmd.specs.Scalars.{stored, set_to, step_error, step_of, added, incr_by, append_to, lappend_to, unset_all, global_all}
 use Rattle.tcl_varcmd.specs.Arrays.{truth_text, pairs_error, array_set, unset_array, array_part, part_named}
 use Rattle.tcl_varcmd.specs.Errors.{read_error, write_error, remove_error, global_error, array_error, count_error, least_error, sum_error, long_error}
 use Rattle.tcl_varcmd.specs.Commands.{command_named, command_came, bounded, var_came}
@@ -64,7 +65,7 @@ incr_keeps stack name n =
 
 append_keeps : (stack : Stack) (name : List ℕ) (values : List (List ℕ)) → Keeps (append_to stack name values) stack
 append_keeps stack name values =
-    let value = joined (read_of stack name) values in
+    let value = read_of stack name ++ concat values in
     unless_keeps (write_error stack name) stack (stored stack name value) (stored_keeps stack name value)
 
 lappend_keeps : (stack : Stack) (name : List ℕ) (values : List (List ℕ)) → Keeps (lappend_to stack name values) stack

@@ -2,9 +2,7 @@
 use Rattle.std.specs.Prelude.{ℕ, Bool, not, ◌||◌, ◌==◌, [], ◌∷◌, codes, bytes_eq, if◌then◌else◌}
 use Rattle.std.specs.List.{list_any, slice_split}
 use Rattle.txt_core.specs.Names.{Bytes}
-
-abbrev pub is_slash : ℕ → Bool
-is_slash byte = byte == 47
+pub use Rattle.txt_core.specs.Paths.{is_slash}
 
 -- a path without the slash that it may begin with
 abbrev pub behind_slash : Bytes → Bytes

@@ -1,7 +1,8 @@
 -- Bytes that are put behind a variable's value.
-use Rattle.std.proofs.Common.{◌≡◌, ◌+◌, ℕ, List, [], ◌∷◌, ◌++◌, length, true, false, Some, None, Result, Ok, sym, ap, subst, ◌∙◌}
+use Rattle.std.proofs.Common.{◌≡◌, ◌+◌, ℕ, List, ◌++◌, length, true, false, Some, None, Result, Ok, sym, ap, subst, ◌∙◌}
 use Rattle.std.specs.Bool.{nat_lt}
-use Rattle.std.proofs.lemmas.List.{length-append, append_assoc, append-nil}
+use Rattle.std.specs.List.{concat}
+use Rattle.std.proofs.lemmas.List.{length-append}
 use Rattle.txt_core.specs.Quoting.{quoting}
 use Rattle.tcl_list.specs.Answers.{AppendsTo}
 use Rattle.natives.specs.declared.fault.Fault.{Fault}
@@ -11,7 +12,7 @@ use Rattle.tcl_frame.specs.Stack.{Stack}
 use Rattle.tcl_frame.specs.Frames.{read_of}
 use Rattle.tcl_varcmd.specs.Answers.{Answers, unless}
 use Rattle.tcl_varcmd.specs.Errors.{write_error, long_error}
-use Rattle.tcl_varcmd.specs.Scalars.{stored, joined, append_to, lappend_to}
+use Rattle.tcl_varcmd.specs.Scalars.{stored, append_to, lappend_to}
 use Rattle.tcl_varcmd.specs.Growing.{grown}
 use Rattle.tcl_varcmd.proofs.Exits.{answers_past, answers_on}
 use Rattle.tcl_varcmd.proofs.Counts.{is_too_long, is_short}
@@ -27,16 +28,11 @@ too_many front old more e h = is_too_long (old ++ more) (ap (nat_lt 1048576) (wh
 pub few_enough : (front : ℕ) (old more : List ℕ) → front ≡ length old → nat_lt 1048576 (front + length more) ≡ false → long_error (old ++ more) ≡ None
 few_enough front old more e h = is_short (old ++ more) (ap (nat_lt 1048576) (whole_length front old more e) ∙ h)
 
--- texts behind a text are one text behind it
-joined_behind : (text : List ℕ) (values : List (List ℕ)) → joined text values ≡ text ++ joined [] values
-joined_behind text [] = sym (append-nil text)
-joined_behind text (value ∷ values) = joined_behind (text ++ value) values ∙ append_assoc text value (joined [] values) ∙ ap (λ t. text ++ t) (sym (joined_behind value values))
-
-pub append_grown : (stack new : Stack) (name more : List ℕ) (values : List (List ℕ)) (r : Result (List ℕ) Fault) → more ≡ joined [] values
+pub append_grown : (stack new : Stack) (name more : List ℕ) (values : List (List ℕ)) (r : Result (List ℕ) Fault) → more ≡ concat values
     → Answers (grown stack name more) r new → Answers (append_to stack name values) r new
 append_grown stack new name more values r e =
     subst (λ whole. Answers (unless (write_error stack name) stack (stored stack name whole)) r new)
-    (ap (λ t. read_of stack name ++ t) e ∙ sym (joined_behind (read_of stack name) values))
+    (ap (λ t. read_of stack name ++ t) e)
 
 grown_list : (stack new : Stack) (name more : List ℕ) (values : List (List ℕ)) (r : Result (List ℕ) Fault) → write_error stack name ≡ None
     → AppendsTo (read_of stack name) values (Ok (read_of stack name ++ more)) → Answers (grown stack name more) r new → Answers (lappend_to stack name values) r new

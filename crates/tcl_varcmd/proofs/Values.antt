@@ -16,7 +16,8 @@ use Rattle.txt_core.specs.Listing.{listing}
 use Rattle.txt_core.specs.Quoting.{quoting}
 use Rattle.txt_core.specs.ErrorTexts.{overflow}
 use Rattle.natives.specs.Checks.{bad_list, list_error, listed, items}
-use Rattle.tcl_varcmd.specs.Errors.{fits, sum_error}
+use Rattle.txt_core.specs.Number.{fits}
+use Rattle.tcl_varcmd.specs.Errors.{sum_error}
 
 pub is_list : (t : List ℕ) (v : List (List ℕ)) → listing t ≡ elements v → (list_error t ≡ None) × (v ≡ items t)
 unfolding list_error items

@@ -1,6 +1,7 @@
 -- The checks of commands: each gives the text of its error, where it finds one.
-use Rattle.std.specs.Prelude.{ℕ, nat_lt, Bool, length, ℤ, pos, negsuc, Option, Some, None, if◌then◌else◌, codes, ◌^◌}
+use Rattle.std.specs.Prelude.{ℕ, nat_lt, length, ℤ, Option, Some, None, if◌then◌else◌, codes}
 use Rattle.txt_core.specs.Names.{Bytes, Words}
+use Rattle.txt_core.specs.Number.{fits}
 use Rattle.tcl_frame.specs.declared.fault.VarFault.{VarFault}
 use Rattle.tcl_frame.specs.Names.{named, is_element}
 use Rattle.tcl_frame.specs.Stack.{Stack}
@@ -40,11 +41,6 @@ count_error least most words command =
 -- the number of words where it has no upper bound
 unfoldable pub least_error : ℕ → Words → Bytes → Option Bytes
 least_error least words command = if nat_lt (length words) least then Some (wrong_words command) else None
-
--- whether a number is one of 64 bits with a sign
-abbrev pub fits : ℤ → Bool
-fits (pos n) = nat_lt n (2 ^ 63)
-fits (negsuc n) = nat_lt n (2 ^ 63)
 
 unfoldable pub sum_error : ℤ → Option Bytes
 sum_error sum = if fits sum then None else Some overflow

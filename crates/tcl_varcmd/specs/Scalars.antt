@@ -1,6 +1,7 @@
 -- The commands on single variables.
 use Rattle.std.specs.Prelude.{[], ◌∷◌, ◌++◌, drop, slice_get, ℤ, pos, ◌+ℤ◌, Option, Some, None, codes}
 use Rattle.std.specs.Fmt.{signed_decimal}
+use Rattle.std.specs.List.{concat}
 use Rattle.txt_core.specs.Names.{Bytes, Words, Names}
 use Rattle.txt_core.specs.Quoting.{quoting}
 use Rattle.tcl_frame.specs.Stack.{Stack}
@@ -44,14 +45,9 @@ incr_by stack name n =
 abbrev pub incr_came : Stack → Words → Came
 incr_came stack words = unless (count_error 2 3 words (codes "incr")) stack (incr_by stack (arg words 1) (slice_get words 2))
 
--- texts behind a text
-abbrev pub joined : Bytes → Words → Bytes
-joined text [] = text
-joined text (value ∷ values) = joined (text ++ value) values
-
 -- `append name value*`: puts the values behind the variable's own, which is empty where it is absent
 abbrev pub append_to : Stack → Bytes → Words → Came
-append_to stack name values = unless (write_error stack name) stack (stored stack name (joined (read_of stack name) values))
+append_to stack name values = unless (write_error stack name) stack (stored stack name (read_of stack name ++ concat values))
 
 abbrev pub append_came : Stack → Words → Came
 append_came stack words = unless (least_error 2 words (codes "append")) stack (append_to stack (arg words 1) (drop 2 words))

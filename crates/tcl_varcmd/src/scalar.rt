@@ -8,7 +8,7 @@ ghost use Rattle.txt_core.specs.Limits.{most_bytes};
 ghost use Rattle.natives.specs.Answers.{Tried};
 ghost use Rattle.tcl_varcmd.specs.Answers.{Answers, IfNoMemory};
 ghost use Rattle.tcl_varcmd.specs.Growing.{grown};
-ghost use Rattle.tcl_varcmd.specs.Scalars.{stored, set_to, set_came, step_error, step_of, incr_by, incr_came, joined, append_to, append_came, lappend_to, lappend_came};
+ghost use Rattle.tcl_varcmd.specs.Scalars.{stored, set_to, set_came, step_error, step_of, incr_by, incr_came, append_to, append_came, lappend_to, lappend_came};
 
 use crate::message::{check_count, check_least};
 use crate::value::{sum, with_elements};
@@ -99,17 +99,6 @@ pub(crate) fn incr(alloc: Global, frames: &mut Frames, words: &Words) -> Result<
     add(alloc, frames, word_at(words, 1), words.get(2))
 }
 
-/// Texts as one.
-fn join(alloc: Global, values: &[Text]) -> Result<Text, NoMemory>
-    ensures { IfOk result (λ text. text ≡ joined [] values.now) }
-{
-    let mut text = Text::empty(alloc);
-    'values: for value in values {
-        text.append(value.bytes())?;
-    }
-    Ok(text)
-}
-
 /// Whether so many bytes, with a text behind them, are over the limit of a value.
 fn are_too_many(front: usize, text: &Text) -> bool
     ensures { result ≡ nat_lt most_bytes (front + length text.now) }
@@ -149,7 +138,7 @@ fn append_values(
     ensures kept { IfNoMemory result (frames.new ≡ frames.old) }
     ensures depth { length frames.new.above ≡ length frames.old.above }
 {
-    let more = join(alloc, values)?;
+    let more = Text::concat(alloc, values)?;
     grow(alloc, frames, name, &more, Known::Nothing)
 }
 

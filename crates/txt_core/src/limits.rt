@@ -1,7 +1,7 @@
 //! The limits that several parts of the server have in common.
 
 ghost use Rattle.std.specs.Prelude.{◌≡◌, nat_lt};
-ghost use Rattle.txt_core.specs.Limits.{is_long, most_bytes, most_nested, moment_of};
+ghost use Rattle.txt_core.specs.Limits.{is_long, most_bytes, moment_of};
 
 use crate::text::Text;
 
@@ -30,13 +30,6 @@ pub fn is_too_long(text: &Text) -> bool
     ensures { result ≡ is_long text.now }
 {
     is_over_limit(text.len())
-}
-
-/// Whether nothing may stand at this depth any more.
-pub fn is_too_deep(depth: u32) -> bool
-    ensures { result ≡ nat_lt most_nested depth }
-{
-    depth > MOST_NESTED
 }
 
 /// A moment, in seconds since the beginning of 1970; a later one than the last counts as the last.

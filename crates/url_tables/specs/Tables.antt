@@ -2,10 +2,11 @@
 use Rattle.std.specs.Prelude.{◌≡◌, List, [], ◌∷◌, ◌++◌, Bool, true, false, unwrap_or}
 use Rattle.std.specs.Global.{Vec}
 use Rattle.std.specs.declared.cmp.Ordering.{Ordering}
-use Rattle.std.specs.Ordering.{nat_cmp, is_eq}
+use Rattle.std.specs.Ordering.{is_eq}
 use Rattle.std.specs.Cmp.Lexicographic.{slice_cmp}
 use Rattle.std.specs.BTreeMap.{BTreeMap, get_by}
 use Rattle.txt_core.specs.Names.{Bytes, Words}
+use Rattle.txt_core.specs.Order.{text_cmp}
 use Rattle.cmd_table.specs.declared.definition.Def.{Def}
 use Rattle.cmd_table.specs.declared.definition.Def.TheVariants.{Route, Filter}
 use Rattle.url_tables.specs.declared.site.Site.{Site}
@@ -13,10 +14,7 @@ use Rattle.url_tables.specs.declared.filters.Passing.{Passing}
 use Rattle.url_tables.specs.declared.routes.Routes.{Routes}
 use Rattle.url_tables.specs.Urls.{segments, plain_of, suffix_of}
 
--- the order of texts, and of lists of them
-abbrev pub text_cmp : Bytes → Bytes → Ordering
-text_cmp = slice_cmp nat_cmp
-
+-- the order of lists of texts
 abbrev pub path_cmp : Words → Words → Ordering
 path_cmp = slice_cmp text_cmp
 

@@ -1,16 +1,9 @@
 -- The URL of a registration.
-use Rattle.std.specs.Prelude.{ℕ, ◌==◌, ◌-◌, [], ◌∷◌, length, take, drop, fold, nat_lt, Bool, true, false, ◌&&◌, ◌||◌, if◌then◌else◌, bytes_eq, codes, Option, Some, None}
+use Rattle.std.specs.Prelude.{◌==◌, ◌-◌, [], ◌∷◌, length, take, drop, fold, nat_lt, Bool, false, ◌&&◌, ◌||◌, if◌then◌else◌, bytes_eq, codes, Option, Some, None}
 use Rattle.std.specs.List.{filter, slice_split, ends_with}
 use Rattle.std.specs.Prelude.{nat_eq}
 use Rattle.txt_core.specs.Names.{Bytes, Words}
-
-abbrev pub is_slash : ℕ → Bool
-is_slash b = b == 47
-
--- a text that has a byte
-abbrev pub is_filled : Bytes → Bool
-is_filled [] = false
-is_filled (b ∷ text) = true
+pub use Rattle.txt_core.specs.Paths.{is_slash, is_filled}
 
 -- The segments of a URL: what stands between its slashes, as it is written, where that has a byte.
 unfoldable pub segments : Bytes → Words
