@@ -46,7 +46,10 @@ pub(crate) fn put_value(
 {
     match arrays.get_mut(name) {
         Some(array) => array.put(alloc, key, value),
-        None => place(alloc, arrays, name, NsvArray::of_one(alloc, key, value)?),
+        None => {
+            let array = NsvArray::of_one(alloc, key, value)?;
+            place(alloc, arrays, name, array)
+        }
     }
 }
 
@@ -74,8 +77,8 @@ pub(crate) fn append_value(
         Some(array) => array.append(alloc, key, more, known),
         None => {
             let (value, said) = twice(alloc, more, known)?;
-            let array = NsvArray::of_one(alloc, key, value)?;
-            place(alloc, arrays, name, array)?;
+            let made = NsvArray::of_one(alloc, key, value)?;
+            place(alloc, arrays, name, made)?;
             Ok(said)
         }
     }

@@ -53,6 +53,6 @@ returns-in_ok-place-in-None-clause-ok c =
     let h : lookup (is_at (text_cmp name)) c.args.arrays.now.entries ≡ None = sym c.get_mut.ensures.value ∙ ap option_copied_mut c.in-None.is in
     let same : seen c.get_mut.follows.lender-at-none ≡ arrays = search rules in
     c.in_ok-place-in-None.ensures.ok
-    ∙ ap (λ m. map.insert m name c.in_ok-array-in-None.array) same
-    ∙ ap (map.insert arrays name) (c.in_ok-array-in-None.ensures ∙ ap (λ a. map.insert a key value) (sym (lacks c.args.arrays.now name h)))
+    ∙ ap (λ m. map.insert m name c.in_ok-made-in-None.made) same
+    ∙ ap (map.insert arrays name) (c.in_ok-made-in-None.ensures ∙ ap (λ a. map.insert a key value) (sym (lacks c.args.arrays.now name h)))
     ∙ ap (λ v. map.insert arrays name (map.insert (array_of arrays name) key v)) (c.in_ok-value-in-None.ensures.0 ∙ ap (λ t. t ++ c.args.more.now) (sym (lacks_value c.args.arrays.now name key h)))

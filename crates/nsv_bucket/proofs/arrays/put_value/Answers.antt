@@ -21,8 +21,8 @@ returns-in-Some-clause-err c =
     err_then c.put.result c.put.ensures.err (λ put.
     unwritten c.args.arrays.now (c.get_mut.follows.lender c.put.new.self) c.args.name.now c.in-Some.array.now c.put.new.self h (c.get_mut.follows.holds c.put.new.self) put)
 
-pub returns-in-None-clause-ok : goal.returns-in-None-clause-ok
-returns-in-None-clause-ok c =
+pub returns-in_ok-array-in-None-clause-ok : goal.returns-in_ok-array-in-None-clause-ok
+returns-in_ok-array-in-None-clause-ok c =
     let h : lookup (is_at (text_cmp c.args.name.now)) c.args.arrays.now.entries ≡ None = sym c.get_mut.ensures.value ∙ ap option_copied_mut c.in-None.is in
     let same : seen c.get_mut.follows.lender-at-none ≡ seen c.args.arrays.now = search rules in
     ok_then c.place.result c.place.ensures.ok (λ put.
