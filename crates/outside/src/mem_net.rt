@@ -42,8 +42,12 @@ impl<R> MemNet<R> {
     /// `replies`, for which the sinks wait by `rt`. The calls whose numbers are listed are to fail.
     pub fn new(rt: R, replies: Replies, conns: Vec<MemConn>, fails: Vec<u64>) -> MemNet<R>
         ensures { result
-            ≡ record
-            { coming = conns.items; given = 0; ended = false; calls = record { fails = fails.items; made = 0; faults = 0 } } }
+            ≡ record {
+              coming = conns.items;
+              given = 0;
+              ended = false;
+              calls = record { fails = fails.items; made = 0; faults = 0 };
+            } }
     {
         MemNet {
             rt,
@@ -98,7 +102,8 @@ impl<N: Wait + Copy + Send + Drop> Net for MemNet<N> {
         _rt: &R,
     ) -> Accepted<MemSource, ReplySink<N>>
         ensures admits { Admits self.old result self.new }
-        ensures accepts { Accepts (λ s. Some s.rest) (state_of self.old) result (state_of self.new) }
+        ensures accepts { Accepts (λ s. Some s.rest) (state_of self.old) result
+            (state_of self.new) }
     {
         if self.calls.begin() {
             self.calls.fault();

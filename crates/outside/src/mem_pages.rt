@@ -119,8 +119,10 @@ impl Pages for MemPages {
     fn copy(&self) -> Result<MemPages, NoMemory>
         ensures { IfOk result (λ copy.
             copy
-            ≡ record
-            { pages = self.now.pages; calls = record { fails = self.now.calls.fails; made = 0; faults = 0 } }) }
+            ≡ record {
+              pages = self.now.pages;
+              calls = record { fails = self.now.calls.fails; made = 0; faults = 0 };
+            }) }
     {
         let pages = copied(self.alloc, &self.pages)?;
         let calls = self.calls.renewed(self.alloc)?;

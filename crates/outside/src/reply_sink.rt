@@ -46,7 +46,10 @@ impl<R> ReplySink<R> {
     ) -> ReplySink<R>
         requires { 1 ≤ piece }
         ensures { result
-            ≡ record { piece = piece; calls = record { fails = fails.items; made = 0; faults = 0 } } }
+            ≡ record {
+              piece = piece;
+              calls = record { fails = fails.items; made = 0; faults = 0 };
+            } }
     {
         ReplySink {
             rt,
