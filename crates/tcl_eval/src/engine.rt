@@ -112,7 +112,10 @@ impl<H: Host> Engine<H> {
         self.budget = budget;
         match self.begin(natives, work, depth, steps) {
             Ok(outcome) => outcome,
-            Err(NoMemory) => Outcome::NoMemory,
+            Err(NoMemory) => {
+                self.readings.let_go();
+                Outcome::NoMemory
+            }
         }
     }
 
@@ -144,7 +147,10 @@ impl<H: Host> Engine<H> {
     {
         match self.answer(natives, answer, steps) {
             Ok(outcome) => outcome,
-            Err(NoMemory) => Outcome::NoMemory,
+            Err(NoMemory) => {
+                self.readings.let_go();
+                Outcome::NoMemory
+            }
         }
     }
 
@@ -200,7 +206,8 @@ impl<H: Host> Engine<H> {
 
     /// How often a text was run as a script that was kept from an earlier time. It takes no memory.
     /// No clause says when a script is kept: at most 512 are, each of at most 4,096 bytes, from the
-    /// first start on, those that were run most recently.
+    /// first start on, those that were run most recently; where memory wanted, all are let go, and the
+    /// count begins anew.
     pub fn hits(&self) -> u64 {
         self.readings.hits()
     }

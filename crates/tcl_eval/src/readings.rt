@@ -61,8 +61,22 @@ impl Readings {
         Ok(())
     }
 
-    /// What a text is as a script; that of a short one is kept. The only error is want of memory.
+    /// What a text is as a script; that of a short one is kept. Where memory wants for that, what was
+    /// kept is let go, and the text is read with what this frees. The only error is want of memory.
     pub(crate) fn read(&mut self, alloc: Global, text: &Text) -> Result<Reading, NoMemory>
+        ensures { IfOk result (λ read. IsReading text.now read) }
+    {
+        match self.read_kept(alloc, text) {
+            Ok(reading) => Ok(reading),
+            Err(NoMemory) => {
+                self.let_go();
+                Reading::of(alloc, text)
+            }
+        }
+    }
+
+    /// What a text is as a script, by what is kept and room for more. The only error is want of memory.
+    fn read_kept(&mut self, alloc: Global, text: &Text) -> Result<Reading, NoMemory>
         ensures { IfOk result (λ read. IsReading text.now read) }
     {
         match &mut self.scripts {
@@ -86,8 +100,9 @@ impl Readings {
         Ok(ReadScript::with(text, reading))
     }
 
-    /// A text with what it is as an expression, which is read where it isn't kept. The only error is
-    /// want of memory.
+    /// A text with what it is as an expression, which is read where it isn't kept. Where memory wants,
+    /// what was kept is let go, and the text is read with what this frees. The only error is want of
+    /// memory.
     pub(crate) fn read_expression(
         &mut self,
         alloc: Global,
@@ -95,7 +110,21 @@ impl Readings {
     ) -> Result<Rc<ReadExpr>, NoMemory>
         ensures { IfOk result (λ read. read.value ≡ text.now) }
     {
-        self.expressions.read(alloc, text)
+        match self.expressions.read(alloc, text) {
+            Ok(read) => Ok(read),
+            Err(NoMemory) => {
+                self.let_go();
+                self.expressions.read(alloc, text)
+            }
+        }
+    }
+
+    /// Lets go all that is kept, as where memory wants. It takes no memory.
+    #[cold]
+    #[inline(never)]
+    pub(crate) fn let_go(&mut self) {
+        self.scripts = None;
+        self.expressions = Expressions::new();
     }
 
     /// How often a text was read whose script was kept. It takes no memory.
