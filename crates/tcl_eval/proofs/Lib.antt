@@ -20,3 +20,4 @@ pub mod Sizes
 pub mod Stacks
 pub mod Steps
 pub mod Values
+pub mod Tails

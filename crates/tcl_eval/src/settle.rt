@@ -533,6 +533,11 @@ impl<H: Host> Engine<H> {
     }
 
     /// Gives a frame, which stood on top, the code and result for which it waited.
+    #[tactic(auto, using(
+        crate::proofs::Stacks::frees_push,
+        crate::proofs::Tails::stays_remains,
+        crate::proofs::Tails::stays_free
+    ))]
     fn give(&mut self, frame: Frame, value: Ended) -> Result<Step, NoMemory>
         ensures means { IfOk result (λ step.
             (names : Names)
@@ -547,46 +552,45 @@ impl<H: Host> Engine<H> {
             frame_free frame) }
         ensures holds { Holds self.new self.old }
     {
-        let step = match frame {
+        match frame {
             Frame::Script {
                 script,
                 next,
                 levels,
-            } => self.give_script(script, next, levels, value)?,
+            } => self.give_script(script, next, levels, value),
             Frame::Command {
                 script,
                 at,
                 values,
                 levels,
-            } => self.give_word(script, at, values, levels, value)?,
+            } => self.give_word(script, at, values, levels, value),
             Frame::Costly {
                 script,
                 at,
                 next,
                 levels,
-            } => self.give_costly(script, at, next, levels, value)?,
+            } => self.give_costly(script, at, next, levels, value),
             Frame::Word {
                 place,
                 so_far,
                 levels,
-            } => self.give_piece(place, so_far, levels, value)?,
-            Frame::Index { array } => self.give_index(array, value)?,
-            Frame::Result => self.end_command(value)?,
-            Frame::Procedure => self.end_procedure(value)?,
-            Frame::Caught { name } => self.end_catch(name, value)?,
-            Frame::Expression { expr, levels } => self.give_expression(expr, levels, value)?,
-            Frame::Operation { op } => self.give_operation(op, value)?,
-            Frame::Left { op, right, levels } => self.give_left(op, right, levels, value)?,
-            Frame::Right { op, left } => self.give_right(op, left, value)?,
+            } => self.give_piece(place, so_far, levels, value),
+            Frame::Index { array } => self.give_index(array, value),
+            Frame::Result => self.end_command(value),
+            Frame::Procedure => self.end_procedure(value),
+            Frame::Caught { name } => self.end_catch(name, value),
+            Frame::Expression { expr, levels } => self.give_expression(expr, levels, value),
+            Frame::Operation { op } => self.give_operation(op, value),
+            Frame::Left { op, right, levels } => self.give_left(op, right, levels, value),
+            Frame::Right { op, left } => self.give_right(op, left, value),
             Frame::Choice {
                 first,
                 second,
                 levels,
-            } => self.give_choice(first, second, levels, value)?,
-            Frame::Value => self.give_value(value)?,
-            Frame::Branch(branch) => Step::Stop(Ready::Branch { branch, value }),
-        };
-        Ok(step)
+            } => self.give_choice(first, second, levels, value),
+            Frame::Value => self.give_value(value),
+            Frame::Branch(branch) => Ok(Step::Stop(Ready::Branch { branch, value })),
+        }
     }
 
     /// Goes on until a text may be run, or nothing is left to do.
