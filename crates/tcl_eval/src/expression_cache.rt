@@ -2,6 +2,7 @@
 
 ghost use Rattle.std.specs.Prelude.{◌≡◌, IfOk, IfSome};
 
+use crate::latest::{PLACES, place_of};
 use crate::read_expr::ReadExpr;
 use lru::LruCache;
 use std::alloc::Global;
@@ -10,8 +11,8 @@ use std::num::NonZeroUsize;
 use std::rc::Rc;
 use txt_core::{NoMemory, Text};
 
-/// How many texts are kept.
-const MOST_KEPT: usize = 512;
+/// How many texts are kept, beside those at the places.
+const MOST_KEPT: usize = 448;
 
 /// How many bytes a text may have that is kept.
 const LONGEST_KEPT: usize = 4_096;
@@ -19,10 +20,12 @@ const LONGEST_KEPT: usize = 4_096;
 /// Texts that were evaluated lately, each with what it is as an expression. Contracts see nothing of
 /// which texts these are: what is kept of a text is true by itself.
 ///
-/// Texts are found by a hash whose seed is fixed.
+/// The latest of them stand at places, where a text is found at once. The others are found by a hash
+/// whose seed is fixed.
 #[derive(Drop)]
 pub struct Expressions {
     kept: Option<LruCache<Vec<u8>, Rc<ReadExpr>>>,
+    latest: Vec<Option<Rc<ReadExpr>>>,
 }
 
 impl Model for Expressions {
@@ -35,13 +38,73 @@ impl Model for Expressions {
 
 impl Expressions {
     /// None yet. It takes no memory.
-    pub fn new() -> Expressions {
-        Expressions { kept: None }
+    pub fn new(alloc: Global) -> Expressions {
+        Expressions {
+            kept: None,
+            latest: Vec::new(alloc),
+        }
     }
 
     /// A text with what it is as an expression, which is read where it isn't kept. The only error is want
     /// of memory.
     pub fn read(&mut self, alloc: Global, text: &Text) -> Result<Rc<ReadExpr>, NoMemory>
+        ensures { IfOk result (λ read. read.value ≡ text.now) }
+    {
+        let found = self.find_latest(text)?;
+        if let Some(read) = found {
+            return Ok(read);
+        }
+        let read = self.read_kept(alloc, text)?;
+        if text.len() <= LONGEST_KEPT {
+            let again = read.clone()?;
+            self.put_latest(text, again)?;
+        }
+        Ok(read)
+    }
+
+    /// Lets all go. It takes no memory.
+    pub fn clear(&mut self) {
+        self.kept = None;
+        self.latest.clear();
+    }
+
+    /// What stands at the place of a text, where it is of this text.
+    fn find_latest(&self, text: &Text) -> Result<Option<Rc<ReadExpr>>, NoMemory>
+        ensures { IfOk result (λ found. IfSome found (λ read. read.value ≡ text.now)) }
+    {
+        let Some(place) = self.latest.get(place_of(text.bytes())) else {
+            return Ok(None);
+        };
+        match place {
+            None => Ok(None),
+            Some(read) => {
+                let found = shared_for(read, text)?;
+                Ok(found)
+            }
+        }
+    }
+
+    /// Puts what a text is at its place.
+    fn put_latest(&mut self, text: &Text, read: Rc<ReadExpr>) -> Result<(), NoMemory> {
+        self.make_places()?;
+        if let Some(place) = self.latest.get_mut(place_of(text.bytes())) {
+            *place = Some(read);
+        }
+        Ok(())
+    }
+
+    /// Makes the places, where there are none.
+    fn make_places(&mut self) -> Result<(), NoMemory> {
+        if self.latest.is_empty() {
+            'places: for _place in 0..PLACES {
+                self.latest.push(None)?;
+            }
+        }
+        Ok(())
+    }
+
+    /// A text with what it is as an expression, by the hash, or else read and kept.
+    fn read_kept(&mut self, alloc: Global, text: &Text) -> Result<Rc<ReadExpr>, NoMemory>
         ensures { IfOk result (λ read. read.value ≡ text.now) }
     {
         let found = self.find(text)?;

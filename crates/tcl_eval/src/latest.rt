@@ -114,7 +114,12 @@ impl Latest {
     }
 
     /// Puts what a text is at its place. The only error is want of memory.
-    pub(crate) fn put(&mut self, alloc: Global, text: &Text, reading: Reading) -> Result<(), NoMemory>
+    pub(crate) fn put(
+        &mut self,
+        alloc: Global,
+        text: &Text,
+        reading: Reading,
+    ) -> Result<(), NoMemory>
         requires { IsReading text.now reading }
     {
         let text = text.copy(alloc)?;

@@ -10,6 +10,7 @@ mod expression;
 mod expression_cache;
 mod gather;
 mod info;
+mod latest;
 mod law;
 mod lend;
 mod loops;

@@ -9,6 +9,7 @@ ghost use Rattle.tcl_eval.specs.declared.engine.OpenQuestion.{OpenQuestion};
 
 use crate::engine::Engine;
 use crate::expression_cache::Expressions;
+use crate::latest::Latest;
 use crate::message::script_fault;
 use crate::read_expr::ReadExpr;
 use crate::stack::{Acted, Frame};
@@ -21,8 +22,8 @@ use std::rc::Rc;
 use tcl_host::Host;
 use txt_core::{NoMemory, Text, Words};
 
-/// How many scripts an engine keeps by their texts.
-const SCRIPTS: usize = 512;
+/// How many scripts an engine keeps by their texts, beside those that it ran most lately.
+const SCRIPTS: usize = 448;
 
 /// How many bytes a text has at most whose script is kept. A longer one is read each time.
 const MOST_KEPT_BYTES: usize = 4_096;
@@ -32,6 +33,8 @@ const MOST_KEPT_BYTES: usize = 4_096;
 #[derive(Drop)]
 pub(crate) struct Readings {
     scripts: Option<Cache>,
+    latest: Latest,
+    found: u64,
     expressions: Expressions,
 }
 
@@ -45,10 +48,12 @@ impl Model for Readings {
 
 impl Readings {
     /// Nothing is kept yet. It takes no memory.
-    pub(crate) fn new() -> Readings {
+    pub(crate) fn new(alloc: Global) -> Readings {
         Readings {
             scripts: None,
-            expressions: Expressions::new(),
+            latest: Latest::new(alloc),
+            found: 0,
+            expressions: Expressions::new(alloc),
         }
     }
 
@@ -79,9 +84,32 @@ impl Readings {
     fn read_kept(&mut self, alloc: Global, text: &Text) -> Result<Reading, NoMemory>
         ensures { IfOk result (λ read. IsReading text.now read) }
     {
-        match &mut self.scripts {
-            Some(scripts) => read_by(scripts, alloc, text),
-            None => Reading::of(alloc, text),
+        let found = self.latest.find(text)?;
+        if let Some(reading) = found {
+            self.found = self.found.saturating_add(1);
+            return Ok(reading);
+        }
+        let Some(scripts) = &mut self.scripts else {
+            return Reading::of(alloc, text);
+        };
+        let reading = read_by(scripts, alloc, text)?;
+        self.put_latest(alloc, text, &reading)?;
+        Ok(reading)
+    }
+
+    /// Puts the script of a short text among those that were run most lately.
+    fn put_latest(&mut self, alloc: Global, text: &Text, reading: &Reading) -> Result<(), NoMemory>
+        requires { IsReading text.now reading.now }
+    {
+        if !is_short(text) {
+            return Ok(());
+        }
+        match reading {
+            Reading::Fault { .. } => Ok(()),
+            Reading::Script(_) => {
+                let again = reading.share()?;
+                self.latest.put(alloc, text, again)
+            }
         }
     }
 
@@ -124,16 +152,23 @@ impl Readings {
     #[inline(never)]
     pub(crate) fn let_go(&mut self) {
         self.scripts = None;
-        self.expressions = Expressions::new();
+        self.latest.clear();
+        self.found = 0;
+        self.expressions.clear();
     }
 
     /// How often a text was read whose script was kept. It takes no memory.
     pub(crate) fn hits(&self) -> u64 {
         match &self.scripts {
-            Some(scripts) => scripts.hits(),
+            Some(scripts) => scripts.hits().saturating_add(self.found),
             None => 0,
         }
     }
+}
+
+/// Whether a text is short enough to be kept.
+fn is_short(text: &Text) -> bool {
+    text.len() <= MOST_KEPT_BYTES
 }
 
 /// What a text is as a script, by a cache where it is short enough for one.
