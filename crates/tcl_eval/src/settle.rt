@@ -210,15 +210,9 @@ impl<H: Host> Engine<H> {
     {
         let simple = self.simple_words(words_of(&script, at), &mut values)?;
         match simple {
-            Simple::Stands => {
-                let step = self.enter_word(script, at, values, levels)?;
-                Ok(step)
-            }
+            Simple::Stands => self.enter_word(script, at, values, levels),
             Simple::Fails(value) => Ok(Step::Value(value)),
-            Simple::Costly => {
-                let step = self.next_costly(script, at, values.len(), levels)?;
-                Ok(step)
-            }
+            Simple::Costly => self.next_costly(script, at, values.len(), levels),
         }
     }
 

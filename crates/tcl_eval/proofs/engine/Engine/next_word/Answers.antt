@@ -1,4 +1,5 @@
 use Rattle.std.proofs.Common.{ℕ, ap, arith, ◌∙◌}
+use Rattle.std.proofs.lemmas.Result.{IfOk-weaker}
 use Rattle.tcl_eval.specs.Eval.{nested}
 use Rattle.tcl_eval.specs.Kept.{run_costly}
 use Rattle.tcl_eval.specs.Places.{tree_of, command_at, words_from, words_size}
@@ -6,31 +7,34 @@ use Rattle.tcl_eval.specs.Stack.{stack_next}
 use Rattle.tcl_eval.specs.Engine.{state_of}
 use Rattle.tcl_eval.proofs.engine.Engine.next_word.Goals as goal
 
-pub returns-in_ok-step-in-Stands-clause-means : goal.returns-in_ok-step-in-Stands-clause-means
-returns-in_ok-step-in-Stands-clause-means g c = λ ns gv.
+pub returns-in-Stands-clause-means : goal.returns-in-Stands-clause-means
+returns-in-Stands-clause-means g c =
     let before = rw (c.in-Stands.is, c.words_of.ensures, c.deref.ensures) at c.in_ok-simple.ensures.means in
-    c.in_ok-step-in-Stands.ensures.means ns gv ∙ before ns c.args.levels gv
+    IfOk-weaker c.enter_word.result _ _ (λ step means ns gv. means ns gv ∙ before ns c.args.levels gv) c.enter_word.ensures.means
 
-pub returns-in_ok-step-in-Stands-clause-falls : goal.returns-in_ok-step-in-Stands-clause-falls
-returns-in_ok-step-in-Stands-clause-falls g c =
+pub returns-in-Stands-clause-falls : goal.returns-in-Stands-clause-falls
+returns-in-Stands-clause-falls g c =
     let less = rw (c.words_of.ensures, c.deref.ensures) at c.in_ok-simple.ensures.shorter in
-    omega (arith, less, c.in_ok-step-in-Stands.ensures.falls)
+    IfOk-weaker c.enter_word.result _ _ (λ step falls. omega (arith, less, falls)) c.enter_word.ensures.falls
 
 pub returns-in-Fails-clause-means : goal.returns-in-Fails-clause-means
 returns-in-Fails-clause-means g c = λ ns gv.
     let before = rw (c.in-Fails.is, c.words_of.ensures, c.deref.ensures) at c.in_ok-simple.ensures.means in
     before ns c.args.levels gv
 
-pub returns-in_ok-step-in-Costly-clause-means : goal.returns-in_ok-step-in-Costly-clause-means
-returns-in_ok-step-in-Costly-clause-means g c = λ ns gv.
+pub returns-in-Costly-clause-means : goal.returns-in-Costly-clause-means
+returns-in-Costly-clause-means g c =
     let t = g.H.Host.table in
     let e = c.args.self.now in
     let before = rw (c.in-Costly.is, c.words_of.ensures, c.deref.ensures) at c.in_ok-simple.ensures.means in
-    c.in_ok-step-in-Costly.ensures.means ns gv
+    IfOk-weaker c.next_costly.result _ _
+    (λ step means ns gv. means ns gv
     ∙ ap (λ (n : ℕ). run_costly (nested ns t c.args.levels) (words_from n (command_at c.args.at (tree_of c.args.script.value))) (stack_next ns t e.stack.items) (state_of e) e.budget gv) c.len.ensures
-    ∙ before ns c.args.levels gv
+    ∙ before ns c.args.levels gv)
+    c.next_costly.ensures.means
 
-pub returns-in_ok-step-in-Costly-clause-falls : goal.returns-in_ok-step-in-Costly-clause-falls
-returns-in_ok-step-in-Costly-clause-falls g c =
+pub returns-in-Costly-clause-falls : goal.returns-in-Costly-clause-falls
+returns-in-Costly-clause-falls g c =
     let less = rw (c.words_of.ensures, c.deref.ensures) at c.in_ok-simple.ensures.shorter in
-    omega (arith, less, c.in_ok-step-in-Costly.ensures.falls, ap (λ (n : ℕ). words_size (words_from n (command_at c.args.at (tree_of c.args.script.value)))) c.len.ensures)
+    let same = ap (λ (n : ℕ). words_size (words_from n (command_at c.args.at (tree_of c.args.script.value)))) c.len.ensures in
+    IfOk-weaker c.next_costly.result _ _ (λ step falls. omega (arith, less, falls, same)) c.next_costly.ensures.falls
