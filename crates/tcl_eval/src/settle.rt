@@ -422,8 +422,7 @@ impl<H: Host> Engine<H> {
         }
         if !has_command(&script, next + 1) {
             // Its last command gives what the script comes to: no frame waits for that.
-            let step = self.next_word(script, next, Gathered::new(self.alloc), levels)?;
-            return Ok(step);
+            return self.next_word(script, next, Gathered::new(self.alloc), levels);
         }
         let again = script.clone()?;
         self.stack.push(Frame::Script {
@@ -431,8 +430,7 @@ impl<H: Host> Engine<H> {
             next: next + 1,
             levels,
         })?;
-        let step = self.next_word(script, next, Gathered::new(self.alloc), levels)?;
-        Ok(step)
+        self.next_word(script, next, Gathered::new(self.alloc), levels)
     }
 
     /// Reads an element of an array, by its index.
