@@ -525,11 +525,7 @@ impl<H: Host> Engine<H> {
     }
 
     /// Gives a frame, which stood on top, the code and result for which it waited.
-    #[tactic(auto, using(
-        crate::proofs::Stacks::frees_push,
-        crate::proofs::Tails::stays_remains,
-        crate::proofs::Tails::stays_free
-    ))]
+    #[tactic(auto, using(crate::proofs::Stacks::frees_push, crate::proofs::Tails::stays_remains, crate::proofs::Tails::stays_free))]
     fn give(&mut self, frame: Frame, value: Ended) -> Result<Step, NoMemory>
         ensures means { IfOk result (λ step.
             (names : Names)
