@@ -14,7 +14,8 @@ use Rattle.tcl_parse.specs.Outcome.{Outcome, done, fault, put, put_text}
 use Rattle.tcl_parse.specs.Steps.{Mode, quotes, index, bare_word, Substitution, named, indexed, opened, unnamed, Step, ends, bytes, substituted, next}
 use Rattle.tcl_parse.specs.Grammar.{PartIs, PartsAt, no_part, some_bytes, bad_part, one_part, EnclosedAt, in_braces, in_quotes, WordAt, enclosed, in_nothing, WordsAt, no_word, bad_word, one_word, ScriptAt, no_command, bad_command, one_command, InBracket, InIndex, close_bracket, close_index, close_brace, close_quote, followed, by_brace, by_quote, bare, opening}
 use Rattle.tcl_parse.specs.Braces.{Braced, BracedAt, matching_brace, joined_lines, taken_byte, inner_braces, plain_byte}
-use Rattle.tcl_parse.specs.Laws.Braces.{Inside, braced, in_front, passes, is_escaped, braced_is, reads_matched, braced_shut}
+use Rattle.tcl_parse.specs.Laws.Braces.{Inside, braced, passes, is_escaped, braced_is, reads_matched, braced_shut}
+use Rattle.txt_core.specs.Counting.{in_front}
 use Rattle.tcl_parse.specs.Laws.Braces as braces
 use Rattle.tcl_parse.specs.Laws.Within.{Within, bracket_within, index_within}
 use Rattle.tcl_expr.specs.Grammar.{fault_place}

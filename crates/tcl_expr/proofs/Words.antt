@@ -22,7 +22,8 @@ use Rattle.tcl_parse.specs.Steps.{Mode, quotes, index, bare_word, Substitution, 
 use Rattle.tcl_parse.specs.Grammar.{PartIs, PartsAt, no_part, some_bytes, bad_part, one_part, SubstitutedAt, EnclosedAt, in_braces, in_quotes, WordAt, enclosed, in_nothing, WordsAt, no_word, bad_word, one_word, ScriptAt, no_command, bad_command, one_command, InBracket, InIndex, close_bracket, close_index, close_brace, close_quote, followed, by_brace, by_quote, bare, opening}
 use Rattle.txt_core.specs.Limits.{most_nested}
 use Rattle.tcl_parse.specs.Braces.{BracedAt}
-use Rattle.tcl_parse.specs.Laws.Braces.{Inside, braced, in_front, passes, is_escaped, braced_is, reads_matched}
+use Rattle.tcl_parse.specs.Laws.Braces.{Inside, braced, passes, is_escaped, braced_is, reads_matched}
+use Rattle.txt_core.specs.Counting.{in_front}
 use Rattle.tcl_parse.specs.Laws.Braces as braces
 use Rattle.tcl_parse.specs.Laws.Within.{Within, skip_within, skip_blanks_within, parts_within, enclosed_within, words_within, script_within, bracket_within, index_within}
 use Rattle.tcl_parse.specs.Laws.Some.{some_in_bracket, some_in_index}
