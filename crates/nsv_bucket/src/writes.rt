@@ -182,7 +182,7 @@ fn written_list<'a>(arrays: &'a Arrays, name: &Text, key: &Text) -> Option<&'a T
     match value(arrays, name, key) {
         Some(value) => match value.known() {
             Known::WrittenList => Some(value),
-            Known::Nothing => None,
+            Known::Number(_) | Known::Nothing => None,
         },
         None => None,
     }

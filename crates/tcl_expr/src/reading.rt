@@ -128,7 +128,7 @@ fn value(alloc: Global, left: u32, bytes: &[u8]) -> Result<(Expr, u32, &[u8]), S
     if !names_value(run) {
         return Err(Stop::Bad(bytes.len().saturating_sub(value_front(run))));
     }
-    let text = Text::new(alloc, run)?;
+    let text = Text::new(alloc, run)?.noting_number();
     Ok((Expr::Value(text), left, skip(rest)))
 }
 

@@ -109,7 +109,7 @@ fn is_as_written(list: &Text) -> bool
 {
     match list.known() {
         Known::WrittenList => true,
-        Known::Nothing => stands_as_written(list.bytes()),
+        Known::Number(_) | Known::Nothing => stands_as_written(list.bytes()),
     }
 }
 

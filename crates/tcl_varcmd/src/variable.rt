@@ -75,7 +75,7 @@ pub(crate) fn written_list<'a>(frames: &'a Frames, name: &Text) -> Option<&'a Te
     match frames.value(name) {
         Ok(value) => match value.known() {
             Known::WrittenList => Some(value),
-            Known::Nothing => None,
+            Known::Number(_) | Known::Nothing => None,
         },
         Err(_) => None,
     }

@@ -29,7 +29,7 @@ fn add_written(list: &Text, out: &mut Answer) {
     out.add(list.bytes());
     out.add(match list.known() {
         Known::WrittenList => b" | list | ".as_slice(),
-        Known::Nothing => b" | text | ",
+        Known::Number(_) | Known::Nothing => b" | text | ",
     });
 }
 
@@ -164,7 +164,7 @@ pub fn behind(list: &Text, words: &[Text], out: &mut Answer) {
 fn add_behind(list: &Text, words: &[Text], out: &mut Answer) {
     match list.known() {
         Known::WrittenList => out.add_made(&elements_behind(out.alloc(), list, words)),
-        Known::Nothing => out.add(b"not known"),
+        Known::Number(_) | Known::Nothing => out.add(b"not known"),
     }
 }
 

@@ -101,7 +101,7 @@ pub fn shared(text: &Text, out: &mut Answer) {
 fn add_known(text: &Text, out: &mut Answer) {
     out.add(match text.known() {
         Known::WrittenList => b" list".as_slice(),
-        Known::Nothing => b" text",
+        Known::Number(_) | Known::Nothing => b" text",
     });
 }
 

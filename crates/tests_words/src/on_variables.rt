@@ -72,7 +72,7 @@ pub fn length_put(frames: &mut Frames, command: &Text, value: &Text, out: &mut A
 fn add_known(text: &Text, out: &mut Answer) {
     out.add(match text.known() {
         Known::WrittenList => b"list".as_slice(),
-        Known::Nothing => b"text",
+        Known::Number(_) | Known::Nothing => b"text",
     });
 }
 
