@@ -5,15 +5,18 @@ ghost use Rattle.std.specs.Prelude.{◌≡◌, ◌++◌, [], IfSome, true, false
 use std::alloc::Global;
 use std::marker::Model;
 
-/// How many bytes stand in place at most. With them a text is no bigger than with a buffer.
-pub const MOST_SHORT: usize = 30;
+/// How many bytes stand in place at most. With them, and how many they are, a text is as big as with a
+/// buffer, and each number of 64 bits is short.
+pub const MOST_SHORT: usize = 23;
 
 /// A few bytes, which stand in the value itself. Contracts see the list of them.
 #[derive(Debug, Drop)]
 pub struct Short {
-    alloc: Global,
-    len: u8,
     bytes: [u8; MOST_SHORT],
+    len: u8,
+    /// Takes no room, but the value stands where 64-bit words may stand, so that a move copies words.
+    aligned: [u64; 0],
+    alloc: Global,
 }
 
 impl Model for Short {
@@ -27,7 +30,7 @@ impl Model for Short {
 
     ghost view = { λ a. take a.len a.bytes };
 
-    ghost invariant = { λ a. (a.len ≤ 30) × (length a.bytes ≡ 30) };
+    ghost invariant = { λ a. (a.len ≤ 23) × (length a.bytes ≡ 23) };
 }
 
 impl Short {
@@ -38,6 +41,7 @@ impl Short {
         Short {
             alloc,
             len: 0,
+            aligned: [],
             bytes: [0; MOST_SHORT],
         }
     }
@@ -60,6 +64,7 @@ impl Short {
         Short {
             alloc: self.alloc,
             len: self.len,
+            aligned: [],
             bytes: self.bytes,
         }
     }
