@@ -1,10 +1,9 @@
 -- What the program's functions answer.
 use Rattle.std.specs.Prelude.{◌≡◌, ℕ, ◌+◌, length, Option, None, Some, Result, Ok, Err, ◌-◌, ◌⊎◌}
 use Rattle.txt_core.specs.Names.{Bytes}
-use Rattle.tcl_parse.specs.declared.fault.Stop as word_fault
-use Rattle.tcl_parse.specs.declared.fault.Stop.TheVariants as word_faults
-use Rattle.tcl_expr.specs.declared.fault.Stop.{Stop}
-use Rattle.tcl_expr.specs.declared.fault.Stop.TheVariants as stop
+use Rattle.tcl_parse.specs.declared.fault.Fault.{Fault}
+use Rattle.tcl_parse.specs.declared.fault.Stop.{Stop}
+use Rattle.tcl_parse.specs.declared.fault.Stop.TheVariants as stop
 use Rattle.tcl_expr.specs.Trees.{Tree}
 use Rattle.tcl_expr.specs.Outcome.{Outcome, done, bad, tree, bad_from}
 use Rattle.tcl_parse.specs.Outcome as script_outcome
@@ -16,25 +15,25 @@ use Rattle.tcl_expr.specs.View.{tree_of}
 use Rattle.tcl_expr.specs.Grammar.{bad_place, word_operand, part_operand, closed, start, bare_start, Enclosed, Substituted, InParens, OperandBy, Reads}
 
 -- The outcome that a function's error stands for is as P says, unless memory ran out.
-abbrev pub Stopped : Stop → (Outcome → Type 0) → Type 0
+abbrev pub Stopped : Stop ℕ → (Outcome → Type 0) → Type 0
 Stopped stop.NoMemory P = Unit {0}
-Stopped (stop.Bad k) P = P (bad k)
+Stopped (stop.Fault k) P = P (bad k)
 
 -- The outcome that a function returned, whose tree, operators to come and rest are seen by view, count and rest, is as P says, unless memory ran out.
-abbrev pub Gives : {X : Type 0} → (X → Tree) → (X → ℕ) → (X → Bytes) → Result X Stop → (Outcome → Type 0) → Type 0
+abbrev pub Gives : {X : Type 0} → (X → Tree) → (X → ℕ) → (X → Bytes) → Result X (Stop ℕ) → (Outcome → Type 0) → Type 0
 Gives view count rest (Ok x) P = P (done (view x) (count x) (rest x))
 Gives view count rest (Err e) P = Stopped e P
 
 -- The same for a function that returns None exactly where no outcome is as P says.
-abbrev pub GivesAny : {X : Type 0} → (X → Tree) → (X → ℕ) → (X → Bytes) → Result (Option X) Stop → (Outcome → Type 0) → Type 0
+abbrev pub GivesAny : {X : Type 0} → (X → Tree) → (X → ℕ) → (X → Bytes) → Result (Option X) (Stop ℕ) → (Outcome → Type 0) → Type 0
 GivesAny view count rest (Ok None) P = (o : Outcome) → P o → ⊥
 GivesAny view count rest (Ok (Some x)) P = P (done (view x) (count x) (rest x))
 GivesAny view count rest (Err e) P = Stopped e P
 
 -- the bad place of a fault that a word of this text has
-abbrev pub stopped_word : Bytes → word_fault.Stop → Stop
-stopped_word t word_faults.NoMemory = stop.NoMemory
-stopped_word t (word_faults.Fault k n) = stop.Bad (bad_place t k n)
+abbrev pub stopped_word : Bytes → Stop Fault → Stop ℕ
+stopped_word t stop.NoMemory = stop.NoMemory
+stopped_word t (stop.Fault f) = stop.Fault (bad_place t f.kind f.left)
 
 -- a word in quotes or braces as an operand
 abbrev pub WordGives : ℕ → Bytes → Outcome → Type 0

@@ -13,13 +13,15 @@ ghost use Rattle.tcl_expr.specs.Answers.{Gives, GivesAny, stopped_word, WordGive
 ghost use Rattle.tcl_expr.specs.Places.{AnswersLeast, AnswersReached};
 
 use crate::expr::Expr;
-use crate::fault::{ExprText, Stop};
+use crate::fault::ExprText;
 use crate::operator::Op;
 use crate::run::{is_word, names_value, split_run, value_front};
 use crate::token::{level, next_colon, next_operator, next_question, next_sign, skip, stuck};
 use std::alloc::Global;
 use std::rc::Rc;
-use tcl_parse::{Command, Kind, Piece, Script, Word, read_enclosed, read_substitution};
+use tcl_parse::{
+    Command, Fault, Kind, Piece, Script, Stop, Word, read_enclosed, read_substitution,
+};
 use txt_core::{MOST_NESTED, NoMemory, Text};
 
 /// How many operators an expression may have, with its question marks.
@@ -62,14 +64,14 @@ fn behind_backslash(bytes: &[u8], left: usize) -> usize
 }
 
 /// Where a word with a fault is bad: what isn't closed could go on at the end of the text.
-fn bad_word(bytes: &[u8], fault: tcl_parse::Stop) -> Stop
-    ensures { result ≡ stopped_word bytes.now fault }
+fn bad_word(bytes: &[u8], stop: Stop<Fault>) -> Stop<usize>
+    ensures { result ≡ stopped_word bytes.now stop }
 {
-    match fault {
-        tcl_parse::Stop::NoMemory => Stop::NoMemory,
-        tcl_parse::Stop::Fault { kind, left } => match kind {
-            Kind::Extra | Kind::Deep => Stop::Bad(behind_backslash(bytes, left)),
-            Kind::Quote | Kind::Brace | Kind::Bracket | Kind::Variable => Stop::Bad(0),
+    match stop {
+        Stop::NoMemory => Stop::NoMemory,
+        Stop::Fault(fault) => match fault.kind {
+            Kind::Extra | Kind::Deep => Stop::Fault(behind_backslash(bytes, fault.left)),
+            Kind::Quote | Kind::Brace | Kind::Bracket | Kind::Variable => Stop::Fault(0),
         },
     }
 }
@@ -84,13 +86,17 @@ fn word_expression(alloc: Global, pieces: Vec<Piece>) -> Result<Expr, NoMemory>
 }
 
 /// A word in quotes or braces.
-fn enclosed(alloc: Global, left: u32, bytes: &[u8]) -> Result<Option<(Expr, u32, &[u8])>, Stop>
+fn enclosed(
+    alloc: Global,
+    left: u32,
+    bytes: &[u8],
+) -> Result<Option<(Expr, u32, &[u8])>, Stop<usize>>
     ensures same { GivesAny (λ x. tree_of x.0) (λ x. x.1) (λ x. x.2.now) result
         (WordGives left bytes.now) }
     ensures goes { IfOk result (λ found. IfSome found (λ x. length x.2.now < length bytes.now)) }
 {
     match read_enclosed(alloc, MOST_NESTED, bytes) {
-        Err(fault) => Err(bad_word(bytes, fault)),
+        Err(stop) => Err(bad_word(bytes, stop)),
         Ok(None) => Ok(None),
         Ok(Some((word, rest))) => {
             let Word { pieces } = word;
@@ -101,14 +107,14 @@ fn enclosed(alloc: Global, left: u32, bytes: &[u8]) -> Result<Option<(Expr, u32,
 }
 
 /// What begins with a dollar or a bracket.
-fn substituted(alloc: Global, left: u32, bytes: &[u8]) -> Result<(Expr, u32, &[u8]), Stop>
+fn substituted(alloc: Global, left: u32, bytes: &[u8]) -> Result<(Expr, u32, &[u8]), Stop<usize>>
     ensures same { Gives (λ x. tree_of x.0) (λ x. x.1) (λ x. x.2.now) result
         (PartGives left bytes.now) }
     ensures goes { IfOk result (λ x. length x.2.now < length bytes.now) }
 {
     match read_substitution(alloc, MOST_NESTED, bytes) {
-        Err(fault) => Err(bad_word(bytes, fault)),
-        Ok(None) => Err(Stop::Bad(bytes.len().saturating_sub(1))),
+        Err(stop) => Err(bad_word(bytes, stop)),
+        Ok(None) => Err(Stop::Fault(bytes.len().saturating_sub(1))),
         Ok(Some((piece, rest))) => {
             let mut pieces = Vec::new(alloc);
             pieces.push(piece)?;
@@ -119,14 +125,14 @@ fn substituted(alloc: Global, left: u32, bytes: &[u8]) -> Result<(Expr, u32, &[u
 }
 
 /// A number or a word of truth.
-fn value(alloc: Global, left: u32, bytes: &[u8]) -> Result<(Expr, u32, &[u8]), Stop>
+fn value(alloc: Global, left: u32, bytes: &[u8]) -> Result<(Expr, u32, &[u8]), Stop<usize>>
     ensures same { Gives (λ x. tree_of x.0) (λ x. x.1) (λ x. x.2.now) result (λ o.
         o ≡ run_operand left bytes.now) }
     ensures goes { IfOk result (λ x. length x.2.now < length bytes.now) }
 {
     let (run, rest) = split_run(bytes);
     if !names_value(run) {
-        return Err(Stop::Bad(bytes.len().saturating_sub(value_front(run))));
+        return Err(Stop::Fault(bytes.len().saturating_sub(value_front(run))));
     }
     let text = Text::new(alloc, run)?.noting_number();
     Ok((Expr::Value(text), left, skip(rest)))
@@ -140,20 +146,20 @@ fn in_parentheses(
     room: u32,
     left: u32,
     bytes: &[u8],
-) -> Result<(Expr, u32, &[u8]), Stop>
+) -> Result<(Expr, u32, &[u8]), Stop<usize>>
     ensures same { Gives (λ x. tree_of x.0) (λ x. x.1) (λ x. x.2.now) result
         (ClosedGives room left bytes.now) }
     ensures goes { IfOk result (λ x. length x.2.now ≤ length bytes.now) }
 {
     if room == 0 {
-        return Err(Stop::Bad(bytes.len() + 1));
+        return Err(Stop::Fault(bytes.len() + 1));
     }
     let (expr, left, rest) = choice(alloc, room - 1, left, skip(bytes))?;
     match rest.split_first() {
-        None => Err(Stop::Bad(0)),
+        None => Err(Stop::Fault(0)),
         Some((b, behind)) => {
             if *b != b')' {
-                return Err(Stop::Bad(stuck(left, rest)));
+                return Err(Stop::Fault(stuck(left, rest)));
             }
             Ok((expr, left, skip(behind)))
         }
@@ -162,7 +168,12 @@ fn in_parentheses(
 
 /// An operand without unary operators.
 #[cycle(reader)]
-fn operand(alloc: Global, room: u32, left: u32, bytes: &[u8]) -> Result<(Expr, u32, &[u8]), Stop>
+fn operand(
+    alloc: Global,
+    room: u32,
+    left: u32,
+    bytes: &[u8],
+) -> Result<(Expr, u32, &[u8]), Stop<usize>>
     ensures same { Gives (λ x. tree_of x.0) (λ x. x.1) (λ x. x.2.now) result
         (OperandGives room left bytes.now) }
     ensures goes { IfOk result (λ x. length x.2.now < length bytes.now) }
@@ -175,18 +186,23 @@ fn operand(alloc: Global, room: u32, left: u32, bytes: &[u8]) -> Result<(Expr, u
 
 /// An operand that is no word in quotes or braces.
 #[cycle(reader)]
-fn bare(alloc: Global, room: u32, left: u32, bytes: &[u8]) -> Result<(Expr, u32, &[u8]), Stop>
+fn bare(
+    alloc: Global,
+    room: u32,
+    left: u32,
+    bytes: &[u8],
+) -> Result<(Expr, u32, &[u8]), Stop<usize>>
     ensures same { Gives (λ x. tree_of x.0) (λ x. x.1) (λ x. x.2.now) result
         (BareGives room left bytes.now) }
     ensures goes { IfOk result (λ x. length x.2.now < length bytes.now) }
 {
     match bytes.split_first() {
-        None => Err(Stop::Bad(0)),
+        None => Err(Stop::Fault(0)),
         Some((b'$' | b'[', _)) => substituted(alloc, left, bytes),
         Some((b'(', tail)) => in_parentheses(alloc, room, left, tail),
         Some((b, _)) => {
             if !is_word(*b) {
-                return Err(Stop::Bad(bytes.len()));
+                return Err(Stop::Fault(bytes.len()));
             }
             value(alloc, left, bytes)
         }
@@ -195,7 +211,12 @@ fn bare(alloc: Global, room: u32, left: u32, bytes: &[u8]) -> Result<(Expr, u32,
 
 /// An operand behind unary operators.
 #[cycle(reader)]
-fn signed(alloc: Global, room: u32, left: u32, bytes: &[u8]) -> Result<(Expr, u32, &[u8]), Stop>
+fn signed(
+    alloc: Global,
+    room: u32,
+    left: u32,
+    bytes: &[u8],
+) -> Result<(Expr, u32, &[u8]), Stop<usize>>
     ensures same { Gives (λ x. tree_of x.0) (λ x. x.1) (λ x. x.2.now) result
         (SignedAt (InParens room) left bytes.now) }
     ensures goes { IfOk result (λ x. length x.2.now < length bytes.now) }
@@ -284,7 +305,12 @@ fn reduced(
 
 /// Binary operators and their operands.
 #[cycle(reader)]
-fn joined(alloc: Global, room: u32, left: u32, bytes: &[u8]) -> Result<(Expr, u32, &[u8]), Stop>
+fn joined(
+    alloc: Global,
+    room: u32,
+    left: u32,
+    bytes: &[u8],
+) -> Result<(Expr, u32, &[u8]), Stop<usize>>
     ensures same { Gives (λ x. tree_of x.0) (λ x. x.1) (λ x. x.2.now) result
         (LevelAt (SignedAt (InParens room)) loosest left bytes.now) }
     ensures goes { IfOk result (λ x. length x.2.now < length bytes.now) }
@@ -308,7 +334,12 @@ fn joined(alloc: Global, room: u32, left: u32, bytes: &[u8]) -> Result<(Expr, u3
 
 /// A whole expression: `x ? y : z`, or binary operators and their operands.
 #[cycle(reader)]
-fn choice(alloc: Global, room: u32, left: u32, bytes: &[u8]) -> Result<(Expr, u32, &[u8]), Stop>
+fn choice(
+    alloc: Global,
+    room: u32,
+    left: u32,
+    bytes: &[u8],
+) -> Result<(Expr, u32, &[u8]), Stop<usize>>
     ensures same { Gives (λ x. tree_of x.0) (λ x. x.1) (λ x. x.2.now) result
         (ExpressionBy (InParens room) left bytes.now) }
     ensures goes { IfOk result (λ x. length x.2.now < length bytes.now) }
@@ -327,7 +358,7 @@ fn choice(alloc: Global, room: u32, left: u32, bytes: &[u8]) -> Result<(Expr, u3
             None => match settle(alloc, &mut asked, tree)? {
                 Taken::Whole(tree) => return Ok((tree, after, tail)),
                 Taken::Middle(test, tree) => match next_colon(tail) {
-                    None => return Err(Stop::Bad(stuck(after, tail))),
+                    None => return Err(Stop::Fault(stuck(after, tail))),
                     Some(last) => {
                         asked.push(Asked::Else(test, tree))?;
                         left = after;
@@ -385,7 +416,7 @@ pub fn parse_expr(alloc: Global, text: &Text) -> Result<Expr, ExprText>
     let bytes = text.bytes();
     match choice(alloc, MOST_NESTED, MOST_OPERATORS, skip(bytes)) {
         Err(Stop::NoMemory) => Err(ExprText::NoMemory),
-        Err(Stop::Bad(left)) => Err(ExprText::Bad {
+        Err(Stop::Fault(left)) => Err(ExprText::Bad {
             at: (bytes.len() - left) as u64,
         }),
         Ok((expr, left, rest)) => {

@@ -2,6 +2,7 @@
 use Rattle.std.specs.Prelude.{ℕ, List, ◌∷◌, Option, Some, None, Result, Ok, Err}
 use Rattle.txt_core.specs.Names.{Bytes}
 use Rattle.tcl_parse.specs.declared.fault.Kind.{Kind}
+use Rattle.tcl_parse.specs.declared.fault.Fault.{Fault}
 use Rattle.tcl_parse.specs.declared.fault.Stop.{Stop}
 use Rattle.tcl_parse.specs.declared.fault.Stop.TheVariants as stop
 use Rattle.tcl_parse.specs.Tree.{Word, literal}
@@ -22,17 +23,17 @@ put_text bs (done w r) = done (literal bs w) r
 put_text bs (fault k n) = fault k n
 
 -- The outcome that a function's error stands for is as P says, unless memory ran out.
-abbrev pub Stopped : {Y : Type 0} → Stop → (Outcome Y → Type 0) → Type 0
+abbrev pub Stopped : {Y : Type 0} → Stop Fault → (Outcome Y → Type 0) → Type 0
 Stopped stop.NoMemory P = Unit {0}
-Stopped (stop.Fault k n) P = P (fault k n)
+Stopped (stop.Fault f) P = P (fault f.kind f.left)
 
 -- The outcome that a function returned, whose value is seen by view and what is left by rest, is as P says, unless memory ran out.
-abbrev pub Gives : {X Y : Type 0} → (X → Y) → (X → Bytes) → Result X Stop → (Outcome Y → Type 0) → Type 0
+abbrev pub Gives : {X Y : Type 0} → (X → Y) → (X → Bytes) → Result X (Stop Fault) → (Outcome Y → Type 0) → Type 0
 Gives view rest (Ok x) P = P (done (view x) (rest x))
 Gives view rest (Err e) P = Stopped e P
 
 -- The same for a function that returns None exactly where no outcome is as P says.
-abbrev pub GivesAny : {X Y : Type 0} → (X → Y) → (X → Bytes) → Result (Option X) Stop → (Outcome Y → Type 0) → Type 0
+abbrev pub GivesAny : {X Y : Type 0} → (X → Y) → (X → Bytes) → Result (Option X) (Stop Fault) → (Outcome Y → Type 0) → Type 0
 GivesAny {X} {Y} view rest (Ok None) P = (o : Outcome Y) → P o → ⊥
 GivesAny {X} {Y} view rest (Ok (Some x)) P = P (done (view x) (rest x))
 GivesAny {X} {Y} view rest (Err e) P = Stopped e P

@@ -33,35 +33,43 @@ pub enum ParseFault {
     NoMemory,
 }
 
-/// Why reading a part of the grammar inside another text stops.
+/// What is wrong in a text, and where.
 #[derive(Clone, Copy, Debug, PartialEq, Eq)]
-pub enum Stop {
-    /// What is wrong, and how many bytes are left from the byte on where it stands.
-    Fault { kind: Kind, left: usize },
+pub struct Fault {
+    pub kind: Kind,
+    /// How many bytes are left from the byte on where it stands.
+    pub left: usize,
+}
+
+/// Why reading a part of a grammar inside a text stops.
+#[derive(Clone, Copy, Debug, PartialEq, Eq)]
+pub enum Stop<F> {
+    /// The text isn't one of the grammar, and this is what is wrong.
+    Fault(F),
     /// Memory ran out.
     NoMemory,
 }
 
-impl From<AllocError> for Stop {
+impl<F> From<AllocError> for Stop<F> {
     ghost from_gives = { λ _ e. e ≡ NoMemory };
 
-    fn from(_e: AllocError) -> Stop {
+    fn from(_e: AllocError) -> Stop<F> {
         Stop::NoMemory
     }
 }
 
-impl<T: Drop> From<AllocFailed<T>> for Stop {
+impl<T: Drop, F> From<AllocFailed<T>> for Stop<F> {
     ghost from_gives = { λ _ e. e ≡ NoMemory };
 
-    fn from(_e: AllocFailed<T>) -> Stop {
+    fn from(_e: AllocFailed<T>) -> Stop<F> {
         Stop::NoMemory
     }
 }
 
-impl From<txt_core::NoMemory> for Stop {
+impl<F> From<txt_core::NoMemory> for Stop<F> {
     ghost from_gives = { λ _ e. e ≡ NoMemory };
 
-    fn from(_e: txt_core::NoMemory) -> Stop {
+    fn from(_e: txt_core::NoMemory) -> Stop<F> {
         Stop::NoMemory
     }
 }

@@ -9,7 +9,7 @@ ghost use Rattle.tcl_parse.specs.Grammar.{InBracket, InIndex, PartIs, PartsAt, S
 ghost use Rattle.tcl_parse.specs.Answers.{mode_of, substitution_of, LeavesLess, Answers, BraceGives, BracketGives, IndexGives, QuoteGives};
 
 use crate::brace::in_braces;
-use crate::fault::{Kind, ParseFault, Stop};
+use crate::fault::{Fault, Kind, ParseFault, Stop};
 use crate::gap::{command_ends, to_command, to_word, word_ends};
 use crate::piece::{add_piece, bracket_piece, element_piece, named_piece, word_of_pieces};
 use crate::step::{Mode, Step, Substitution, first, next};
@@ -30,15 +30,15 @@ fn script_of_commands(commands: Vec<Command>) -> Script
 }
 
 /// The rest of a word in braces, behind its opening brace.
-fn braced_word(alloc: Global, bytes: &[u8]) -> Result<(Word, &[u8]), Stop>
+fn braced_word(alloc: Global, bytes: &[u8]) -> Result<(Word, &[u8]), Stop<Fault>>
     ensures same { Gives (λ x. word_of x.0) (λ x. x.1.now) result (BraceGives bytes.now) }
     ensures goes { IfOk result (λ x. length x.1.now ≤ length bytes.now) }
 {
     match in_braces(alloc, bytes)? {
-        None => Err(Stop::Fault {
+        None => Err(Stop::Fault(Fault {
             kind: Kind::Brace,
             left: bytes.len() + 1,
-        }),
+        })),
         Some((text, rest)) => {
             let word = word_of_pieces(alloc, Vec::new(alloc), text)?;
             Ok((word, rest))
@@ -49,22 +49,22 @@ fn braced_word(alloc: Global, bytes: &[u8]) -> Result<(Word, &[u8]), Stop>
 /// A script in a bracket, from behind its opening byte on. room: how many more may stand in one
 /// another.
 #[cycle(reader)]
-fn bracket(alloc: Global, room: u32, bytes: &[u8]) -> Result<(Piece, &[u8]), Stop>
+fn bracket(alloc: Global, room: u32, bytes: &[u8]) -> Result<(Piece, &[u8]), Stop<Fault>>
     ensures same { Gives (λ x. part_of x.0) (λ x. x.1.now) result (BracketGives room bytes.now) }
     ensures goes { IfOk result (λ x. length x.1.now ≤ length bytes.now) }
 {
     if room == 0 {
-        return Err(Stop::Fault {
+        return Err(Stop::Fault(Fault {
             kind: Kind::Deep,
             left: bytes.len() + 1,
-        });
+        }));
     }
     let (script, rest) = script(alloc, room - 1, true, bytes)?;
     match rest.split_first() {
-        None => Err(Stop::Fault {
+        None => Err(Stop::Fault(Fault {
             kind: Kind::Bracket,
             left: bytes.len() + 1,
-        }),
+        })),
         Some((_, rest)) => {
             let piece = bracket_piece(alloc, script)?;
             Ok((piece, rest))
@@ -80,23 +80,23 @@ fn index<'a>(
     left: usize,
     name: &[u8],
     bytes: &'a [u8],
-) -> Result<(Piece, &'a [u8]), Stop>
+) -> Result<(Piece, &'a [u8]), Stop<Fault>>
     ensures same { Gives (λ x. part_of x.0) (λ x. x.1.now) result
         (IndexGives room left name.now bytes.now) }
     ensures goes { IfOk result (λ x. length x.1.now ≤ length bytes.now) }
 {
     if room == 0 {
-        return Err(Stop::Fault {
+        return Err(Stop::Fault(Fault {
             kind: Kind::Deep,
             left: bytes.len() + 1,
-        });
+        }));
     }
     let (index, rest) = parts(alloc, room - 1, Mode::Index, bytes)?;
     match rest.split_first() {
-        None => Err(Stop::Fault {
+        None => Err(Stop::Fault(Fault {
             kind: Kind::Variable,
             left,
-        }),
+        })),
         Some((_, rest)) => {
             let piece = element_piece(alloc, name, index)?;
             Ok((piece, rest))
@@ -111,16 +111,16 @@ fn substitution<'a>(
     room: u32,
     left: usize,
     found: Substitution<'a>,
-) -> Result<(Piece, &'a [u8]), Stop>
+) -> Result<(Piece, &'a [u8]), Stop<Fault>>
     ensures same { Gives (λ x. part_of x.0) (λ x. x.1.now) result
         (PartIs (InBracket room) (InIndex room) left (substitution_of found.entry)) }
     ensures goes { (n : ℕ) → LeavesLess n found.entry → IfOk result (λ x. length x.1.now < n) }
 {
     match found {
-        Substitution::Unnamed => Err(Stop::Fault {
+        Substitution::Unnamed => Err(Stop::Fault(Fault {
             kind: Kind::Variable,
             left,
-        }),
+        })),
         Substitution::Named(name, rest) => {
             let piece = named_piece(alloc, name)?;
             Ok((piece, rest))
@@ -132,7 +132,7 @@ fn substitution<'a>(
 
 /// The parts of a word.
 #[cycle(reader)]
-fn parts(alloc: Global, room: u32, mode: Mode, bytes: &[u8]) -> Result<(Word, &[u8]), Stop>
+fn parts(alloc: Global, room: u32, mode: Mode, bytes: &[u8]) -> Result<(Word, &[u8]), Stop<Fault>>
     ensures same { Gives (λ x. word_of x.0) (λ x. x.1.now) result
         (PartsAt (InBracket room) (InIndex room) (mode_of mode) bytes.now) }
     ensures goes { IfOk result (λ x. length x.1.now ≤ length bytes.now) }
@@ -167,16 +167,16 @@ fn parts(alloc: Global, room: u32, mode: Mode, bytes: &[u8]) -> Result<(Word, &[
 
 /// The rest of a word in quotes, behind its opening quote.
 #[cycle(reader)]
-fn quoted_word(alloc: Global, room: u32, bytes: &[u8]) -> Result<(Word, &[u8]), Stop>
+fn quoted_word(alloc: Global, room: u32, bytes: &[u8]) -> Result<(Word, &[u8]), Stop<Fault>>
     ensures same { Gives (λ x. word_of x.0) (λ x. x.1.now) result (QuoteGives room bytes.now) }
     ensures goes { IfOk result (λ x. length x.1.now ≤ length bytes.now) }
 {
     let (word, rest) = parts(alloc, room, Mode::Quotes, bytes)?;
     match rest.split_first() {
-        None => Err(Stop::Fault {
+        None => Err(Stop::Fault(Fault {
             kind: Kind::Quote,
             left: bytes.len() + 1,
-        }),
+        })),
         Some((_, rest)) => Ok((word, rest)),
     }
 }
@@ -191,7 +191,11 @@ fn quoted_word(alloc: Global, room: u32, bytes: &[u8]) -> Result<(Word, &[u8]), 
 /// `Stop::Fault` exactly where the word has a fault, with its kind and how many bytes are left from
 /// its place on; `Stop::NoMemory` where memory ran out.
 #[cycle(reader)]
-pub fn read_enclosed(alloc: Global, room: u32, bytes: &[u8]) -> Result<Option<(Word, &[u8])>, Stop>
+pub fn read_enclosed(
+    alloc: Global,
+    room: u32,
+    bytes: &[u8],
+) -> Result<Option<(Word, &[u8])>, Stop<Fault>>
     ensures same { GivesAny (λ x. word_of x.0) (λ x. x.1.now) result
         (EnclosedAt (InBracket room) (InIndex room) bytes.now) }
     ensures goes { IfOk result (λ found. IfSome found (λ x. length x.1.now < length bytes.now)) }
@@ -214,7 +218,7 @@ pub fn read_enclosed(alloc: Global, room: u32, bytes: &[u8]) -> Result<Option<(W
 
 /// A word.
 #[cycle(reader)]
-fn word(alloc: Global, room: u32, nested: bool, bytes: &[u8]) -> Result<(Word, &[u8]), Stop>
+fn word(alloc: Global, room: u32, nested: bool, bytes: &[u8]) -> Result<(Word, &[u8]), Stop<Fault>>
     requires { ends_word nested bytes.now ≡ false }
     ensures same { Gives (λ x. word_of x.0) (λ x. x.1.now) result
         (WordAt (InBracket room) (InIndex room) nested bytes.now) }
@@ -224,10 +228,10 @@ fn word(alloc: Global, room: u32, nested: bool, bytes: &[u8]) -> Result<(Word, &
         None => parts(alloc, room, Mode::Bare(nested), bytes),
         Some((word, rest)) => {
             if !word_ends(nested, rest) {
-                return Err(Stop::Fault {
+                return Err(Stop::Fault(Fault {
                     kind: Kind::Extra,
                     left: rest.len(),
-                });
+                }));
             }
             Ok((word, rest))
         }
@@ -236,7 +240,12 @@ fn word(alloc: Global, room: u32, nested: bool, bytes: &[u8]) -> Result<(Word, &
 
 /// The words of a command.
 #[cycle(reader)]
-fn command(alloc: Global, room: u32, nested: bool, bytes: &[u8]) -> Result<(Command, &[u8]), Stop>
+fn command(
+    alloc: Global,
+    room: u32,
+    nested: bool,
+    bytes: &[u8],
+) -> Result<(Command, &[u8]), Stop<Fault>>
     requires { ends_word nested bytes.now ≡ at_end nested bytes.now }
     ensures same { Gives (λ x. command_of x.0) (λ x. x.1.now) result
         (WordsAt (InBracket room) (InIndex room) nested bytes.now) }
@@ -255,7 +264,12 @@ fn command(alloc: Global, room: u32, nested: bool, bytes: &[u8]) -> Result<(Comm
 
 /// The commands of a script.
 #[cycle(reader)]
-fn script(alloc: Global, room: u32, nested: bool, bytes: &[u8]) -> Result<(Script, &[u8]), Stop>
+fn script(
+    alloc: Global,
+    room: u32,
+    nested: bool,
+    bytes: &[u8],
+) -> Result<(Script, &[u8]), Stop<Fault>>
     ensures same { Gives (λ x. script_of x.0) (λ x. x.1.now) result
         (ScriptAt (InBracket room) (InIndex room) nested (skip between bytes.now)) }
     ensures goes { IfOk result (λ x. length x.1.now ≤ length bytes.now) }
@@ -283,7 +297,7 @@ pub fn read_substitution(
     alloc: Global,
     room: u32,
     bytes: &[u8],
-) -> Result<Option<(Piece, &[u8])>, Stop>
+) -> Result<Option<(Piece, &[u8])>, Stop<Fault>>
     ensures same { GivesAny (λ x. part_of x.0) (λ x. x.1.now) result
         (SubstitutedAt (InBracket room) (InIndex room) bytes.now) }
     ensures goes { IfOk result (λ found. IfSome found (λ x. length x.1.now < length bytes.now)) }
@@ -310,9 +324,9 @@ pub fn parse(alloc: Global, text: &Text) -> Result<Script, ParseFault>
     match script(alloc, MOST_NESTED, false, bytes) {
         Ok((script, _)) => Ok(script),
         Err(Stop::NoMemory) => Err(ParseFault::NoMemory),
-        Err(Stop::Fault { kind, left }) => Err(ParseFault::Unclosed {
-            at: (bytes.len() - left) as u64,
-            kind,
+        Err(Stop::Fault(fault)) => Err(ParseFault::Unclosed {
+            at: (bytes.len() - fault.left) as u64,
+            kind: fault.kind,
         }),
     }
 }

@@ -3,7 +3,8 @@
 //! `[script]`; a fault with its place.
 
 use tcl_parse::{
-    Command, Kind, ParseFault, Piece, Script, Stop, Word, parse, read_enclosed, read_substitution,
+    Command, Fault, Kind, ParseFault, Piece, Script, Stop, Word, parse, read_enclosed,
+    read_substitution,
 };
 use test_rows::Answer;
 use txt_core::{MOST_NESTED, Text};
@@ -130,11 +131,11 @@ pub fn size(text: &Text, out: &mut Answer) {
 }
 
 /// Adds why reading a part stopped.
-fn add_stop(stop: Stop, out: &mut Answer) {
+fn add_stop(stop: Stop<Fault>, out: &mut Answer) {
     match stop {
-        Stop::Fault { kind, left } => {
-            out.add(kind_name(kind));
-            out.add_number(left as u64);
+        Stop::Fault(fault) => {
+            out.add(kind_name(fault.kind));
+            out.add_number(fault.left as u64);
             out.add(b" left");
         }
         Stop::NoMemory => out.lack_memory(),

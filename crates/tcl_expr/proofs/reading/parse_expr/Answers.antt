@@ -9,19 +9,19 @@ use Rattle.tcl_expr.proofs.reading.parse_expr.Goals as goal
 
 pub overflow_sub-result : goal.overflow_sub-result
 overflow_sub-result c =
-    let read = rw c.skip.ensures.same at (rw c.in-Err-Bad.field-0-is at c.in-Err-Bad.ensures.same) in
-    bad_within c.bytes-bytes.result.now c.in-Err-Bad.left (bad c.in-Err-Bad.left, read, refl)
+    let read = rw c.skip.ensures.same at (rw c.in-Err-Fault.field-0-is at c.in-Err-Fault.ensures.same) in
+    bad_within c.bytes-bytes.result.now c.in-Err-Fault.left (bad c.in-Err-Fault.left, read, refl)
 
-pub returns-in-Err-Bad : goal.returns-in-Err-Bad
-returns-in-Err-Bad c =
-    let read = rw c.skip.ensures.same at (rw c.in-Err-Bad.field-0-is at c.in-Err-Bad.ensures.same) in
-    let reads : Reads c.bytes-bytes.result.now (bad_from c.in-Err-Bad.left) = (bad c.in-Err-Bad.left, read, refl) in
-    let left = bad_within c.bytes-bytes.result.now c.in-Err-Bad.left reads in
-    let place : IsBad (length c.bytes-bytes.result.now - c.in-Err-Bad.left) c.args.text.now = (c.in-Err-Bad.left, rw (← c.bytes-bytes.ensures) (omega (arith, left)), rw (← c.bytes-bytes.ensures) reads) in
+pub returns-in-Err-Fault : goal.returns-in-Err-Fault
+returns-in-Err-Fault c =
+    let read = rw c.skip.ensures.same at (rw c.in-Err-Fault.field-0-is at c.in-Err-Fault.ensures.same) in
+    let reads : Reads c.bytes-bytes.result.now (bad_from c.in-Err-Fault.left) = (bad c.in-Err-Fault.left, read, refl) in
+    let left = bad_within c.bytes-bytes.result.now c.in-Err-Fault.left reads in
+    let place : IsBad (length c.bytes-bytes.result.now - c.in-Err-Fault.left) c.args.text.now = (c.in-Err-Fault.left, rw (← c.bytes-bytes.ensures) (omega (arith, left)), rw (← c.bytes-bytes.ensures) reads) in
     record {
       same = place;
-      least = none_goes_past (length c.bytes-bytes.result.now - c.in-Err-Bad.left) c.args.text.now place;
-      reached = some_reaches (length c.bytes-bytes.result.now - c.in-Err-Bad.left) c.args.text.now place;
+      least = none_goes_past (length c.bytes-bytes.result.now - c.in-Err-Fault.left) c.args.text.now place;
+      reached = some_reaches (length c.bytes-bytes.result.now - c.in-Err-Fault.left) c.args.text.now place;
     }
 
 pub returns-else-is_empty-clause-least : goal.returns-else-is_empty-clause-least

@@ -8,14 +8,14 @@ use Rattle.tcl_parse.proofs.reading.parse.Goals as goal
 pub overflow_sub-result : goal.overflow_sub-result
 overflow_sub-result c =
     let read = rw c.in-Err-Fault.field-0-is at c.in-Err-Fault.ensures.same in
-    let left : c.in-Err-Fault.left ≤ length c.bytes-bytes.result.now = reads_within c.bytes-bytes.result.now (fault _ c.in-Err-Fault.left) read in
+    let left : c.in-Err-Fault.fault.left ≤ length c.bytes-bytes.result.now = reads_within c.bytes-bytes.result.now (fault _ c.in-Err-Fault.fault.left) read in
     omega arith
 
 pub returns-in-Err-Fault : goal.returns-in-Err-Fault
 returns-in-Err-Fault c =
     let read = rw c.in-Err-Fault.field-0-is at c.in-Err-Fault.ensures.same in
-    let left : c.in-Err-Fault.left ≤ length c.bytes-bytes.result.now = reads_within c.bytes-bytes.result.now (fault _ c.in-Err-Fault.left) read in
-    (c.in-Err-Fault.left, rw (← c.bytes-bytes.ensures) (omega arith), rw (← c.bytes-bytes.ensures) (reading_is c.bytes-bytes.result.now (fault _ c.in-Err-Fault.left) read))
+    let left : c.in-Err-Fault.fault.left ≤ length c.bytes-bytes.result.now = reads_within c.bytes-bytes.result.now (fault _ c.in-Err-Fault.fault.left) read in
+    (c.in-Err-Fault.fault.left, rw (← c.bytes-bytes.ensures) (omega arith), rw (← c.bytes-bytes.ensures) (reading_is c.bytes-bytes.result.now (fault _ c.in-Err-Fault.fault.left) read))
 
 pub returns-in-Ok : goal.returns-in-Ok
 returns-in-Ok c =
