@@ -2,14 +2,14 @@
 use Rattle.std.specs.Prelude.{◌≡◌, ℕ, ◌≤◌, List}
 use Rattle.txt_core.specs.Names.{Words}
 use Rattle.turn_cell.specs.Cells.{pass_view, IsOf}
-use Rattle.turn_cell.specs.Passes.{WHOLE, joined}
+use Rattle.turn_cell.specs.Passes.{WHOLE, joined, less_one, part_of}
 use Rattle.turn_cell.specs.Steps.{IsInOrder}
 use Rattle.nsv_bucket.specs.declared.reply.NsvReply.{NsvReply}
 use Rattle.nsv_bucket.specs.Arrays.{Arrays}
 use Rattle.nsv_bucket.specs.Buckets.{arrays_of}
 use Rattle.nsv_shared.specs.declared.nsv.Nsv.{Nsv}
 use Rattle.nsv_shared.specs.declared.nsv.NsvPass.{NsvPass}
-use Rattle.nsv_shared.specs.Views.{opening, less_one, part_of, TurnsAt, EndsIn}
+use Rattle.nsv_shared.specs.Views.{opening, TurnsAt, Ends}
 
 -- the passes were made by these cells, each by its own
 abbrev pub AreOf : Nsv → NsvPass → Type 0
@@ -138,11 +138,11 @@ Asks asked place words reply before after =
 -- each bucket is what its history ended in
 abbrev pub Close : NsvPass → List Arrays → Type 0
 Close pass buckets =
-    EndsIn (pass_view pass.b0) (arrays_of buckets 0)
-    × EndsIn (pass_view pass.b1) (arrays_of buckets 1)
-    × EndsIn (pass_view pass.b2) (arrays_of buckets 2)
-    × EndsIn (pass_view pass.b3) (arrays_of buckets 3)
-    × EndsIn (pass_view pass.b4) (arrays_of buckets 4)
-    × EndsIn (pass_view pass.b5) (arrays_of buckets 5)
-    × EndsIn (pass_view pass.b6) (arrays_of buckets 6)
-    × EndsIn (pass_view pass.b7) (arrays_of buckets 7)
+    Ends (pass_view pass.b0) (arrays_of buckets 0)
+    × Ends (pass_view pass.b1) (arrays_of buckets 1)
+    × Ends (pass_view pass.b2) (arrays_of buckets 2)
+    × Ends (pass_view pass.b3) (arrays_of buckets 3)
+    × Ends (pass_view pass.b4) (arrays_of buckets 4)
+    × Ends (pass_view pass.b5) (arrays_of buckets 5)
+    × Ends (pass_view pass.b6) (arrays_of buckets 6)
+    × Ends (pass_view pass.b7) (arrays_of buckets 7)

@@ -4,7 +4,7 @@ ghost use Rattle.std.specs.Prelude.{◌≡◌, ◌<◌, ◌≤◌, IfOk, IsOk};
 ghost use Rattle.txt_core.specs.Limits.{bucket_count};
 ghost use Rattle.nsv_bucket.specs.Buckets.{bucket_asked};
 
-use crate::cell::{first_cell, one_part};
+use crate::cell::first_cell;
 use nsv_bucket::{Bucket, Buckets, NsvReply, bucket_asked};
 use std::alloc::Global;
 use std::sync::Wait;
@@ -104,14 +104,14 @@ impl Nsv {
         ensures right { IfOk result (λ parts. AreOf self.now parts × ArePartsOf pass.old parts) }
     {
         Ok(NsvPass {
-            b0: one_part(&self.b0, &mut pass.b0),
-            b1: one_part(&self.b1, &mut pass.b1),
-            b2: one_part(&self.b2, &mut pass.b2),
-            b3: one_part(&self.b3, &mut pass.b3),
-            b4: one_part(&self.b4, &mut pass.b4),
-            b5: one_part(&self.b5, &mut pass.b5),
-            b6: one_part(&self.b6, &mut pass.b6),
-            b7: one_part(&self.b7, &mut pass.b7),
+            b0: self.b0.part(&mut pass.b0),
+            b1: self.b1.part(&mut pass.b1),
+            b2: self.b2.part(&mut pass.b2),
+            b3: self.b3.part(&mut pass.b3),
+            b4: self.b4.part(&mut pass.b4),
+            b5: self.b5.part(&mut pass.b5),
+            b6: self.b6.part(&mut pass.b6),
+            b7: self.b7.part(&mut pass.b7),
         })
     }
 

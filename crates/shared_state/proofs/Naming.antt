@@ -1,9 +1,9 @@
 -- Passes that know the same names.
 use Rattle.std.proofs.Common.{◌≡◌, ℕ, Bool, true, false, cond, nat_lt, List, sym, subst}
-use Rattle.turn_cell.specs.Passes.{WHOLE, fresh, joined}
+use Rattle.turn_cell.specs.Passes.{WHOLE, fresh, joined, less_one, part_of}
 use Rattle.blueprint.specs.States as blueprints
 use Rattle.shared_state.specs.Cells.{HaveSameNames}
-use Rattle.shared_state.specs.Views.{BlueView, less_one, part_of}
+use Rattle.shared_state.specs.Views.{BlueView}
 
 same_names : (names : List (List ℕ)) → HaveSameNames names names
 same_names names name = (λ h. h, λ h. h)

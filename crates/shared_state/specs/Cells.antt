@@ -3,7 +3,8 @@ use Rattle.std.specs.Prelude.{◌≡◌, ◌↔◌, ◌≤◌, ℕ, [], false}
 use Rattle.txt_core.specs.Names.{Bytes, Names}
 use Rattle.turn_cell.specs.Cells.{pass_view, IsOf}
 use Rattle.turn_cell.specs.Members.{Has}
-use Rattle.turn_cell.specs.Passes.{WHOLE, fresh, joined}
+use Rattle.turn_cell.specs.History.{EndsIn}
+use Rattle.turn_cell.specs.Passes.{WHOLE, fresh, joined, less_one, part_of}
 use Rattle.turn_cell.specs.Steps.{IsInOrder}
 use Rattle.blueprint.specs.States as blueprints
 use Rattle.blueprint.specs.Objects as blueprint_steps
@@ -14,7 +15,7 @@ use Rattle.nsv_bucket.specs.Buckets.{AllArrays}
 use Rattle.nsv_shared.specs.Cells as arrays
 use Rattle.shared_state.specs.declared.shared.Shared.{Shared}
 use Rattle.shared_state.specs.declared.shared.Passes.{Passes}
-use Rattle.shared_state.specs.Views.{no_schedule, less_one, part_of, EndsIn}
+use Rattle.shared_state.specs.Views.{no_schedule}
 
 -- the passes were made by these cells, each by its own
 abbrev pub AreOf : Shared → Passes → Type 0

@@ -7,7 +7,7 @@ ghost use Rattle.nsv_shared.specs.Cells as arrays;
 ghost use Rattle.natives.specs.Names.{names_of};
 ghost use Rattle.blueprint.specs.States.{fresh as blueprint_of};
 ghost use Rattle.turn_cell.specs.Passes.{WHOLE, fresh};
-ghost use Rattle.shared_state.specs.Views.{no_schedule, less_one, part_of};
+ghost use Rattle.shared_state.specs.Views.{no_schedule};
 
 use blueprint::Blueprint;
 use natives::Natives;
@@ -16,7 +16,7 @@ use nsv_shared::{Nsv, NsvPass};
 use sched_core::Schedule;
 use std::alloc::Global;
 use std::sync::Wait;
-use turn_cell::{Obj, Pass, TurnCell};
+use turn_cell::{Pass, TurnCell};
 use txt_core::NoMemory;
 
 /// The cells that all threads share: each is used by turns, and turns on different cells don't wait for
@@ -75,20 +75,6 @@ fn empty_schedule(alloc: Global) -> Schedule
     ensures { result ≡ no_schedule }
 {
     Schedule::new(alloc)
-}
-
-/// A pass more of a cell.
-fn one_part<O: Obj>(cell: &TurnCell<O>, pass: &mut Pass<O>) -> Pass<O>
-    requires cell { IsOf cell.now pass.old }
-    requires units { 2 ≤ (pass_view pass.old).units }
-    ensures cell { IsOf cell.now pass.new × IsOf cell.now result }
-    ensures left { pass_view pass.new ≡ less_one (pass_view pass.old) }
-    ensures right { pass_view result ≡ part_of (pass_view pass.old) }
-{
-    match cell.split(pass) {
-        Ok(part) => part,
-        Err(_) => unreachable!(),
-    }
 }
 
 /// Passes more of the shared arrays.
@@ -152,9 +138,9 @@ impl Shared {
             → KnowNames names passes.new × IfOk result (KnowNames names) }
     {
         Ok(Passes {
-            blueprint: one_part(&self.blueprint, &mut passes.blueprint),
+            blueprint: self.blueprint.part(&mut passes.blueprint),
             nsv: array_parts(&self.nsv, &mut passes.nsv),
-            schedule: one_part(&self.schedule, &mut passes.schedule),
+            schedule: self.schedule.part(&mut passes.schedule),
         })
     }
 

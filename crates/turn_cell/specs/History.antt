@@ -1,6 +1,7 @@
 -- The history of an object: its turns in order.
 use Rattle.std.specs.Prelude.{◌≡◌, ℕ, suc, ◌<◌, List, [], ◌∷◌, take}
 use Rattle.turn_cell.specs.declared.view.Entry.{Entry}
+use Rattle.turn_cell.specs.declared.view.View.{View}
 use Rattle.turn_cell.specs.Members.{Has}
 
 module _ {S C R : Type 0} where
@@ -27,3 +28,7 @@ module _ {S C R : Type 0} (allowed : S → Type 0) (step : S → C → R → S �
   abbrev pub IsHistory : ℕ → S → List (Entry S C R) → Type 0
   IsHistory n s [] = Unit {0}
   IsHistory n s (e ∷ es) = IsTurn n s e × IsHistory (suc n) e.after es
+
+  -- the own entries of a pass are a whole history from the opening, and this state is what it ended in
+  abbrev pub EndsIn : View S C R → S → Type 0
+  EndsIn v state = IsHistory 0 v.opening v.own × (state ≡ after_of v.opening v.own)

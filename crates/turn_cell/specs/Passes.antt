@@ -1,5 +1,5 @@
 -- What a pass knows, and what it becomes by a split, a join and a turn.
-use Rattle.std.specs.Prelude.{◌≡◌, ℕ, ◌+◌, List, [], ◌∷◌, ◌++◌, cond, nat_lt, Some, None}
+use Rattle.std.specs.Prelude.{◌≡◌, ℕ, ◌+◌, ◌-◌, List, [], ◌∷◌, ◌++◌, cond, nat_lt, Some, None}
 use mathlib.Core.Option.{some}
 use lib.ListN.{get_elem?}
 use Rattle.turn_cell.specs.declared.view.Entry.{Entry}
@@ -14,6 +14,14 @@ module _ {S C R : Type 0} where
   -- a pass with these units and no own entry, which has seen this many turns
   abbrev pub fresh : ℕ → ℕ → S → S → View S C R
   fresh units seen opening low = record { units = units; seen = seen; opening = opening; low = low; own = []; held = None }
+
+  -- after a split: one unit of the share moved to a new pass
+  abbrev pub less_one : View S C R → View S C R
+  less_one v = record v { units = v.units - 1 }
+
+  -- the new pass of a split, which has seen as much and has no own entry
+  abbrev pub part_of : View S C R → View S C R
+  part_of v = fresh 1 v.seen v.opening v.low
 
   -- the same pass while it has the object, which was taken out after this many turns
   abbrev pub holding : View S C R → ℕ → S → View S C R

@@ -1,5 +1,5 @@
 //! A cell, its passes, and the calls on them.
-ghost use Rattle.std.specs.Prelude.{◌≡◌, ◌+◌, ◌-◌, ◌≤◌, ◌<◌, None, Some, IsOk, IfOk, MatchOption};
+ghost use Rattle.std.specs.Prelude.{◌≡◌, ◌+◌, ◌≤◌, ◌<◌, None, Some, IsOk, IfOk, MatchOption};
 ghost use Rattle.crossbeam_queue.specs.Passes.{view, IsPassOf, ruled_capacity};
 ghost use Rattle.turn_cell.specs.Passes.{turn_of, with_turn};
 ghost use Rattle.turn_cell.specs.Steps.{Takes};
@@ -62,8 +62,8 @@ pub struct Turned<O: Obj> {
 
 impl<O: Obj> TurnCell<O> {
     ghost use Rattle.turn_cell.specs.Cells.{IsOf, pass_view};
-    ghost use Rattle.turn_cell.specs.History.{after_of, IsHistory};
-    ghost use Rattle.turn_cell.specs.Passes.{WHOLE, fresh, joined};
+    ghost use Rattle.turn_cell.specs.History.{EndsIn};
+    ghost use Rattle.turn_cell.specs.Passes.{WHOLE, fresh, joined, less_one, part_of};
     ghost use Rattle.turn_cell.specs.Steps.{IsInOrder, Turns};
 
     /// A cell with this object, and its first pass, which has the whole share of 65,536 units and
@@ -93,18 +93,28 @@ impl<O: Obj> TurnCell<O> {
     ///
     /// The pass needs at least 2 units, so one that was split off isn't split again until it has
     /// taken in another.
+    pub fn part(&self, pass: &mut Pass<O>) -> Pass<O>
+        requires cell { IsOf self.now pass.old }
+        requires units { 2 ≤ (pass_view pass.old).units }
+        ensures cell { IsOf self.now pass.new × IsOf self.now result }
+        ensures left { pass_view pass.new ≡ less_one (pass_view pass.old) }
+        ensures right { pass_view result ≡ part_of (pass_view pass.old) }
+    {
+        let seat = self.queue.another::<OneUnit<O>>(&mut pass.seat);
+        Pass { seat }
+    }
+
+    /// The same as a result, which is never an error.
     pub fn split(&self, pass: &mut Pass<O>) -> Result<Pass<O>, NoMemory>
         requires cell { IsOf self.now pass.old }
         requires units { 2 ≤ (pass_view pass.old).units }
         ensures given { IsOk result }
         ensures cell { IsOf self.now pass.new }
-        ensures left { let v = pass_view pass.old in
-            pass_view pass.new ≡ record v { units = v.units - 1 } }
-        ensures right { let v = pass_view pass.old in
-            IfOk result (λ p. IsOf self.now p × (pass_view p ≡ fresh 1 v.seen v.opening v.low)) }
+        ensures left { pass_view pass.new ≡ less_one (pass_view pass.old) }
+        ensures right { IfOk result (λ p.
+            IsOf self.now p × (pass_view p ≡ part_of (pass_view pass.old))) }
     {
-        let seat = self.queue.another::<OneUnit<O>>(&mut pass.seat);
-        Ok(Pass { seat })
+        Ok(self.part(pass))
     }
 
     /// The pass takes in another one, with its units and its turns: from then on its own entries
@@ -164,8 +174,7 @@ impl<O: Obj> TurnCell<O> {
     pub fn close<R: Wait>(self, rt: &R, pass: Pass<O>) -> O
         requires cell { IsOf self pass }
         requires whole { (pass_view pass).units ≡ WHOLE }
-        ensures history { let v = pass_view pass in
-            IsHistory O.allowed O.step 0 v.opening v.own × (result ≡ after_of v.opening v.own) }
+        ensures history { EndsIn O.allowed O.step (pass_view pass) result }
         ensures allowed { O.allowed result }
     {
         let Pass { mut seat } = pass;
