@@ -19,5 +19,6 @@ pub mod Plain
 pub mod Sizes
 pub mod Stacks
 pub mod Steps
+pub mod Commands
 pub mod Values
 pub mod Tails

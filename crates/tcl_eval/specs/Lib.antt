@@ -28,5 +28,6 @@ pub mod Places
 pub mod Kept
 pub mod Simple
 pub mod Stack
+pub mod Straight
 pub mod AtOnce
 pub mod ExprReadings

@@ -34,7 +34,7 @@ use std::alloc::Global;
 use std::sync::ledger::Ledger;
 use tcl_frame::{VarFault, is_element_name};
 use tcl_host::{Host, HostReply, OK};
-use tcl_varcmd::{is_var_command, var_command};
+use tcl_varcmd::is_var_command;
 use txt_core::error_text::unknown_command;
 use txt_core::{MOST_BYTES, MOST_NESTED, NoMemory, Pairs, Text, Words, write_natural};
 
@@ -476,15 +476,12 @@ impl<H: Host> Engine<H> {
         ensures keeps { OnOk result (Keeps self.new self.old) }
         ensures holds { Holds self.new self.old }
     {
-        match var_command(self.alloc, &mut self.frames, words) {
-            Ok(result) => Ok(Ended { code: OK, result }),
-            Err(Fault::Error(message)) => Ok(failed(message)),
-            Err(Fault::NoMemory) => Err(NoMemory),
-        }
+        let value = self.write_variables(words)?;
+        Ok(value)
     }
 
     /// Calls a native, whose own name is the first word.
-    fn call_native(&self, native: &Native, words: &Words) -> Result<Ended, NoMemory>
+    pub(crate) fn call_native(&self, native: &Native, words: &Words) -> Result<Ended, NoMemory>
         requires { name_of native.now ≡ arg words.now 0 }
         ensures means { IfOk result (λ value.
             (k : Next H) → give value k ≡ call_native words.now k) }

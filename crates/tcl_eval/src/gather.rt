@@ -101,6 +101,13 @@ impl Gathered {
         Ok(())
     }
 
+    /// The values.
+    pub fn words(&self) -> &Words
+        ensures { result.now ≡ self.now }
+    {
+        &self.words
+    }
+
     /// What a command of these words costs.
     pub fn cost(&self) -> u128
         ensures { result ≡ command_cost self.now }

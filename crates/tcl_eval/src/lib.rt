@@ -27,6 +27,7 @@ mod settle;
 mod simple;
 mod simple_value;
 mod stack;
+mod straight;
 mod switch;
 mod value;
 mod verb;

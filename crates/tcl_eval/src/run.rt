@@ -106,7 +106,7 @@ impl<H: Host> Engine<H> {
             (step_next (names_of natives.now) H.table step) self.old given)).made) }
     {
         'steps: loop {
-            let ready = match self.settle(step)? {
+            let ready = match self.settle(natives, step)? {
                 AtRest::Ended(value) => {
                     return Ok(Outcome::Done {
                         code: value.code,

@@ -1,11 +1,13 @@
 //! What goes on before the next text is run.
 
-ghost use Rattle.std.specs.Prelude.{◌≡◌, ◌<◌, ◌≤◌, ◌+◌, ◌^◌, [], length, IfOk, OnOk};
+ghost use Rattle.std.specs.Prelude.{◌≡◌, ◌<◌, ◌≤◌, ◌+◌, ◌^◌, ◌++◌, ◌∷◌, [], length, IfOk, OnOk};
 ghost use Rattle.txt_core.specs.Names.{Names};
+ghost use Rattle.natives.specs.Names.{names_of};
 ghost use Rattle.tcl_eval.specs.Eval.{give, read_as, read_variable, command_end, proc_end, catch_end, run_parts, run_words, run_script, nested, read};
 ghost use Rattle.tcl_eval.specs.Kept.{judged, run_kept, run_costly};
-ghost use Rattle.tcl_eval.specs.Places.{tree_of, command_at, words_from, place_parts, inside, behind, parts_size, words_size, commands_size};
+ghost use Rattle.tcl_eval.specs.Places.{tree_of, command_at, commands_from, words_from, place_parts, inside, behind, parts_size, words_size, commands_size};
 ghost use Rattle.tcl_eval.specs.Stack.{frame_next, step_next, settled_next, frame_weight, stack_weight, step_weight, frame_free, stack_free, step_free, settled_free};
+ghost use Rattle.tcl_eval.specs.Straight.{IsWithin, behind_command, stand_next, stand_size};
 ghost use Rattle.tcl_eval.specs.Engine.{Holds, Same, Pays, Stays, Remains, Emptied};
 ghost use Rattle.tcl_eval.specs.declared.stack.Frame.{Frame};
 
@@ -14,12 +16,13 @@ use crate::gather::{Gathered, SoFar};
 use crate::place::{Place, Seen, has_command, has_word, words_of};
 use crate::simple::{Simple, variable_value};
 use crate::stack::{AtRest, Ended, Frame, Ready, Step};
-use crate::value::{done, kept_value, returned, too_long};
-use crate::words::BYTES_FOR_ONE;
+use crate::straight::Stand;
+use crate::value::{done, kept_value, returned};
+use natives::Natives;
 use std::rc::Rc;
 use tcl_host::{Host, OK};
 use tcl_parse::Script;
-use txt_core::{MOST_BYTES, NoMemory, Text, write_natural};
+use txt_core::{NoMemory, Text, write_natural};
 
 #[tactic(auto, using(crate::proofs::Stacks::frees_push))]
 impl<H: Host> Engine<H> {
@@ -399,38 +402,123 @@ impl<H: Host> Engine<H> {
     /// Gives a script what its command before `next` came to.
     fn give_script(
         &mut self,
+        natives: &Natives,
         script: Rc<Script>,
         next: usize,
         levels: u32,
         value: Ended,
     ) -> Result<Step, NoMemory>
         ensures means { IfOk result (λ step.
-            (names : Names)
-            → Same names H.table self.new self.old (step_next names H.table step) (λ k.
-            frame_next names H.table (Frame.Script script next levels) k value.code value.result)) }
+            Same (names_of natives.now) H.table self.new self.old
+            (step_next (names_of natives.now) H.table step) (λ k.
+            frame_next (names_of natives.now) H.table (Frame.Script script next levels) k value.code
+            value.result)) }
         ensures falls { IfOk result (λ step.
             stack_weight self.new.stack.items + step_weight step < stack_weight self.old.stack.items
             + frame_weight (Frame.Script script next levels)) }
         ensures keeps { IfOk result (λ step. Stays step self.new self.old) }
         ensures holds { Holds self.new self.old }
     {
-        if value.code != OK {
-            return Ok(Step::Value(value));
+        let stand = self.run_straight(natives, &script, next, value)?;
+        let step = self.enter_stand(script, stand, levels)?;
+        Ok(step)
+    }
+
+    /// Goes on where a script stands. What its last command comes to is what it comes to, so that no
+    /// frame waits for that.
+    pub(crate) fn enter_stand(
+        &mut self,
+        script: Rc<Script>,
+        stand: Stand,
+        levels: u32,
+    ) -> Result<Step, NoMemory>
+        requires { IsWithin stand }
+        ensures means { IfOk result (λ step.
+            (names : Names)
+            → Same names H.table self.new self.old (step_next names H.table step)
+            (stand_next names H.table (nested names H.table levels) (tree_of script.value) stand)) }
+        ensures falls { IfOk result (λ step.
+            stack_weight self.new.stack.items + step_weight step ≤ stack_weight self.old.stack.items
+            + stand_size (tree_of script.value) stand) }
+        ensures keeps { IfOk result (λ step. Stays step self.new self.old) }
+        ensures holds { Holds self.new self.old }
+    {
+        match stand {
+            Stand::Ends(value) => Ok(Step::Value(value)),
+            Stand::Spent => Ok(Step::Stop(Ready::Spent)),
+            Stand::Waits { at, values } => self.enter_command(script, at, values, levels),
+            Stand::Costly { at, word } => self.enter_costly(script, at, word, levels),
         }
-        if !has_command(&script, next) {
-            return Ok(Step::Value(value));
-        }
-        if !has_command(&script, next + 1) {
-            // Its last command gives what the script comes to: no frame waits for that.
-            return self.next_word(script, next, Gathered::new(self.alloc), levels);
+    }
+
+    /// Goes on with the command at a place of a script, behind the values of its first words.
+    fn enter_command(
+        &mut self,
+        script: Rc<Script>,
+        at: usize,
+        values: Gathered,
+        levels: u32,
+    ) -> Result<Step, NoMemory>
+        requires { at < 2 ^ 63 }
+        ensures means { IfOk result (λ step.
+            (names : Names)
+            → Same names H.table self.new self.old (step_next names H.table step) (λ k.
+            run_words names H.table (nested names H.table levels)
+            (words_from (length values) (command_at at (tree_of script.value))) values
+            (behind_command names H.table (nested names H.table levels) (tree_of script.value) at
+            k))) }
+        ensures falls { IfOk result (λ step.
+            stack_weight self.new.stack.items + step_weight step ≤ stack_weight self.old.stack.items
+            +
+            (words_size (words_from (length values) (command_at at (tree_of script.value))) + 1
+            + commands_size (commands_from (at + 1) (tree_of script.value)))) }
+        ensures keeps { IfOk result (λ step. Stays step self.new self.old) }
+        ensures holds { Holds self.new self.old }
+    {
+        if !has_command(&script, at + 1) {
+            return self.enter_word(script, at, values, levels);
         }
         let again = script.clone()?;
         self.stack.push(Frame::Script {
             script: again,
-            next: next + 1,
+            next: at + 1,
             levels,
         })?;
-        self.next_word(script, next, Gathered::new(self.alloc), levels)
+        self.enter_word(script, at, values, levels)
+    }
+
+    /// Goes on with the command at a place of a script whose first words cost more than is left of the
+    /// budget.
+    fn enter_costly(
+        &mut self,
+        script: Rc<Script>,
+        at: usize,
+        word: usize,
+        levels: u32,
+    ) -> Result<Step, NoMemory>
+        requires { at < 2 ^ 63 }
+        ensures means { IfOk result (λ step.
+            (names : Names)
+            → Same names H.table self.new self.old (step_next names H.table step) (λ k.
+            run_costly (nested names H.table levels)
+            (words_from word (command_at at (tree_of script.value)))
+            (behind_command names H.table (nested names H.table levels) (tree_of script.value) at
+            k))) }
+        ensures falls { IfOk result (λ step.
+            stack_weight self.new.stack.items + step_weight step ≤ stack_weight self.old.stack.items
+            +
+            (words_size (words_from word (command_at at (tree_of script.value))) + 1
+            + commands_size (commands_from (at + 1) (tree_of script.value)))) }
+        ensures keeps { IfOk result (λ step. Stays step self.new self.old) }
+        ensures holds { Holds self.new self.old }
+    {
+        let again = script.clone()?;
+        self.stack.push(Frame::Script {
+            script: again,
+            next: at + 1,
+            levels,
+        })?;
+        self.next_costly(script, at, word, levels)
     }
 
     /// Reads an element of an array, by its index.
@@ -468,13 +556,10 @@ impl<H: Host> Engine<H> {
         ensures keeps { IfOk result (λ step. Stays step self.new self.old) }
         ensures holds { Holds self.new self.old }
     {
-        if value.result.len() > MOST_BYTES {
-            return Ok(Step::Value(too_long(self.alloc)?));
+        match self.pay_result(value)? {
+            None => Ok(Step::Stop(Ready::Spent)),
+            Some(value) => Ok(Step::Value(value)),
         }
-        if !self.pay(value.result.len() as u128 / BYTES_FOR_ONE as u128) {
-            return Ok(Step::Stop(Ready::Spent));
-        }
-        Ok(Step::Value(value))
     }
 
     /// Ends a procedure, whose frame of variables goes.
@@ -526,11 +611,16 @@ impl<H: Host> Engine<H> {
 
     /// Gives a frame, which stood on top, the code and result for which it waited.
     #[tactic(auto, using(crate::proofs::Stacks::frees_push, crate::proofs::Tails::stays_remains, crate::proofs::Tails::stays_free))]
-    fn give(&mut self, frame: Frame, value: Ended) -> Result<Step, NoMemory>
+    fn give(
+        &mut self,
+        natives: &Natives,
+        frame: Frame,
+        value: Ended,
+    ) -> Result<Step, NoMemory>
         ensures means { IfOk result (λ step.
-            (names : Names)
-            → Same names H.table self.new self.old (step_next names H.table step) (λ k.
-            frame_next names H.table frame k value.code value.result)) }
+            Same (names_of natives.now) H.table self.new self.old
+            (step_next (names_of natives.now) H.table step) (λ k.
+            frame_next (names_of natives.now) H.table frame k value.code value.result)) }
         ensures falls { IfOk result (λ step.
             stack_weight self.new.stack.items + step_weight step < stack_weight self.old.stack.items
             + frame_weight frame) }
@@ -545,7 +635,7 @@ impl<H: Host> Engine<H> {
                 script,
                 next,
                 levels,
-            } => self.give_script(script, next, levels, value),
+            } => self.give_script(natives, script, next, levels, value),
             Frame::Command {
                 script,
                 at,
@@ -582,11 +672,11 @@ impl<H: Host> Engine<H> {
     }
 
     /// Goes on until a text may be run, or nothing is left to do.
-    pub(crate) fn settle(&mut self, mut step: Step) -> Result<AtRest, NoMemory>
+    pub(crate) fn settle(&mut self, natives: &Natives, mut step: Step) -> Result<AtRest, NoMemory>
         ensures means { IfOk result (λ settled.
-            (names : Names)
-            → Same names H.table self.new self.old (settled_next names H.table settled)
-            (step_next names H.table step)) }
+            Same (names_of natives.now) H.table self.new self.old
+            (settled_next (names_of natives.now) H.table settled)
+            (step_next (names_of natives.now) H.table step)) }
         ensures empty { IfOk result (λ settled. Emptied settled self.new) }
         ensures keeps { OnOk result (Remains self.new self.old) }
         ensures free { IfOk result (λ settled.
@@ -604,7 +694,7 @@ impl<H: Host> Engine<H> {
                 } => self.next_piece(place, so_far, levels)?,
                 Step::Value(value) => match self.stack.pop() {
                     None => return Ok(AtRest::Ended(value)),
-                    Some(frame) => self.give(frame, value)?,
+                    Some(frame) => self.give(natives, frame, value)?,
                 },
             };
         }

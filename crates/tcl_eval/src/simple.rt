@@ -7,7 +7,7 @@ ghost use Rattle.tcl_parse.specs.View.{part_of, word_of};
 ghost use Rattle.tcl_eval.specs.Eval.{read_as, run_words, nested};
 ghost use Rattle.tcl_eval.specs.Places.{words_from, words_size};
 ghost use Rattle.tcl_eval.specs.Simple.{simple_parts, simple_next, PieceKept, Comes};
-ghost use Rattle.tcl_eval.specs.Engine.{Same};
+ghost use Rattle.tcl_eval.specs.Straight.{Alike};
 ghost use Rattle.tcl_eval.specs.declared.gather.SoFar.{SoFar};
 
 use crate::engine::Engine;
@@ -191,7 +191,7 @@ impl<H: Host> Engine<H> {
     ) -> Result<Simple, NoMemory>
         ensures means { IfOk result (λ simple.
             (names : Names) (levels : ℕ)
-            → Same names H.table self.now self.now
+            → Alike self.now self.now
             (simple_next names H.table (nested names H.table levels) simple
             (words_from (length values.new) (words (map word_of all.now))) values.new)
             (run_words names H.table (nested names H.table levels)

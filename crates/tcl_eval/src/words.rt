@@ -71,7 +71,7 @@ pub fn behind_name(words: &Words) -> &[Text]
 
 /// Whether this is the first word.
 #[tactic(auto, using(crate::proofs::Rows::first_is))]
-fn begins_with(words: &Words, name: &Text) -> bool
+pub fn begins_with(words: &Words, name: &Text) -> bool
     ensures { IsTrue result → words.now ≡ name.now ∷ drop 1 words.now }
 {
     match words.get(0) {

@@ -21,13 +21,13 @@ pub returns-in_ok-step-in-Some-Variable-clause-means : goal.returns-in_ok-step-i
 returns-in_ok-step-in-Some-Variable-clause-means g c = λ ns gv.
     let t = g.H.Host.table in
     let e = c.args.self.now in
-    variable_step ns t c.args.place _ _ _ c.args.so_far c.args.levels (stack_next ns t e.stack.items) (state_of e) e.budget gv _ (rw c.in-Some-Variable.field-0-is at c.in-Some-Variable.ensures.found) c.behind-in-Some-Variable.ensures (c.in_ok-name-in-Some-Variable.ensures ∙ c.bytes-in-Some-Variable.ensures) (c.in_ok-step-in-Some-Variable.ensures.means ns gv)
+    variable_step ns t c.args.place _ _ _ c.args.so_far c.args.levels (stack_next ns t e.stack.items) (state_of e) e.budget gv _ (rw c.in-Some-Variable.field-0-is at c.in-Some-Variable.ensures.found) c.behind-in-Some-Variable.ensures c.in_ok-name-in-Some-Variable.ensures (c.in_ok-step-in-Some-Variable.ensures.means ns gv)
 
 pub returns-in_ok-step-in-Some-Element-clause-means : goal.returns-in_ok-step-in-Some-Element-clause-means
 returns-in_ok-step-in-Some-Element-clause-means g c = λ ns gv.
     let t = g.H.Host.table in
     let e = c.args.self.now in
-    element_step ns t c.args.place _ _ c.args.so_far c.args.levels (stack_next ns t e.stack.items) (state_of e) e.budget gv _ (rw c.in-Some-Element.field-0-is at c.in-Some-Element.ensures.found) (c.in_ok-array-in-Some-Element.ensures ∙ c.bytes-in-Some-Element.ensures) (c.in_ok-step-in-Some-Element.ensures.means ns gv)
+    element_step ns t c.args.place _ _ c.args.so_far c.args.levels (stack_next ns t e.stack.items) (state_of e) e.budget gv _ (rw c.in-Some-Element.field-0-is at c.in-Some-Element.ensures.found) c.in_ok-array-in-Some-Element.ensures (c.in_ok-step-in-Some-Element.ensures.means ns gv)
 
 pub returns-in_ok-step-in-Some-Bracket-clause-means : goal.returns-in_ok-step-in-Some-Bracket-clause-means
 returns-in_ok-step-in-Some-Bracket-clause-means g c = λ ns gv.

@@ -10,7 +10,7 @@ use Rattle.tcl_eval.proofs.engine.Engine.next_word.Goals as goal
 pub returns-in-Stands-clause-means : goal.returns-in-Stands-clause-means
 returns-in-Stands-clause-means g c =
     let before = rw (c.in-Stands.is, c.words_of.ensures, c.deref.ensures) at c.in_ok-simple.ensures.means in
-    IfOk-weaker c.enter_word.result _ _ (λ step means ns gv. means ns gv ∙ before ns c.args.levels gv) c.enter_word.ensures.means
+    IfOk-weaker c.enter_word.result _ _ (λ step means ns gv. means ns gv ∙ before ns c.args.levels (stack_next ns g.H.Host.table c.args.self.now.stack.items) gv) c.enter_word.ensures.means
 
 pub returns-in-Stands-clause-falls : goal.returns-in-Stands-clause-falls
 returns-in-Stands-clause-falls g c =
@@ -20,7 +20,7 @@ returns-in-Stands-clause-falls g c =
 pub returns-in-Fails-clause-means : goal.returns-in-Fails-clause-means
 returns-in-Fails-clause-means g c = λ ns gv.
     let before = rw (c.in-Fails.is, c.words_of.ensures, c.deref.ensures) at c.in_ok-simple.ensures.means in
-    before ns c.args.levels gv
+    before ns c.args.levels (stack_next ns g.H.Host.table c.args.self.now.stack.items) gv
 
 pub returns-in-Costly-clause-means : goal.returns-in-Costly-clause-means
 returns-in-Costly-clause-means g c =
@@ -30,7 +30,7 @@ returns-in-Costly-clause-means g c =
     IfOk-weaker c.next_costly.result _ _
     (λ step means ns gv. means ns gv
     ∙ ap (λ (n : ℕ). run_costly (nested ns t c.args.levels) (words_from n (command_at c.args.at (tree_of c.args.script.value))) (stack_next ns t e.stack.items) (state_of e) e.budget gv) c.len.ensures
-    ∙ before ns c.args.levels gv)
+    ∙ before ns c.args.levels (stack_next ns g.H.Host.table c.args.self.now.stack.items) gv)
     c.next_costly.ensures.means
 
 pub returns-in-Costly-clause-falls : goal.returns-in-Costly-clause-falls

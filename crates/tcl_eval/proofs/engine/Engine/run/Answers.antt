@@ -16,7 +16,7 @@ steps-preserved g c =
     let moved = rw c.in-Gives.is at c.in_ok-value-2.ensures.moves in
     let opened = rw c.in-Gives.is at c.in_ok-value-2.ensures.opens in
     record {
-      means = λ gv. did gv ∙ settled ns gv ∙ c.steps.invariant.means gv;
+      means = λ gv. did gv ∙ settled gv ∙ c.steps.invariant.means gv;
       closed = opened ∙ c.in_ok-value.ensures.keeps.1 ∙ c.steps.invariant.closed;
       lower = omega (arith, moved.0, c.in_ok-value.ensures.keeps.0, c.steps.invariant.lower);
       steps = omega (arith, c.in_ok-value-2.ensures.steps, c.steps.invariant.steps);
@@ -28,19 +28,19 @@ pub returns-in-Asks-clause-means : goal.returns-in-Asks-clause-means
 returns-in-Asks-clause-means g c = λ gv.
     let settled = rw c.in-Ready.is at c.in_ok-value.ensures.means in
     let did = rw c.in-Asks.is at c.in_ok-value-2.ensures.means in
-    did gv ∙ settled (names_of c.args.natives.now) gv ∙ c.steps.invariant.means gv
+    did gv ∙ settled gv ∙ c.steps.invariant.means gv
 
 pub returns-in-TooDeep-clause-means : goal.returns-in-TooDeep-clause-means
 returns-in-TooDeep-clause-means g c = λ gv.
     let settled = rw c.in-Ready.is at c.in_ok-value.ensures.means in
     let did = rw c.in-TooDeep.is at c.in_ok-value-2.ensures.means in
-    did gv ∙ settled (names_of c.args.natives.now) gv ∙ c.steps.invariant.means gv
+    did gv ∙ settled gv ∙ c.steps.invariant.means gv
 
 pub returns-in-Spent-clause-means : goal.returns-in-Spent-clause-means
 returns-in-Spent-clause-means g c = λ gv.
     let settled = rw c.in-Ready.is at c.in_ok-value.ensures.means in
     let did = rw c.in-Spent.is at c.in_ok-value-2.ensures.means in
-    did gv ∙ settled (names_of c.args.natives.now) gv ∙ c.steps.invariant.means gv
+    did gv ∙ settled gv ∙ c.steps.invariant.means gv
 
 pub returns-in-Asks-clause-counts : goal.returns-in-Asks-clause-counts
 returns-in-Asks-clause-counts g c =

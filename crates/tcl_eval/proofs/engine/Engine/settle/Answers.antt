@@ -1,3 +1,4 @@
+use Rattle.natives.specs.Names.{names_of}
 use Rattle.std.proofs.Common.{◌∙◌, ap, arith}
 use Rattle.tcl_eval.specs.Stack.{step_weight, step_free}
 use Rattle.tcl_eval.specs.Engine.{state_of}
@@ -11,7 +12,7 @@ steps-preserved-in_ok-step-in-Pieces g c =
     let before = rw c.in-Pieces.is at c.steps.invariant.means in
     let kept = c.in_ok-step-in-Pieces.ensures.keeps in
     record {
-      means = λ ns gv. c.in_ok-step-in-Pieces.ensures.means ns gv ∙ before ns gv;
+      means = λ gv. c.in_ok-step-in-Pieces.ensures.means (names_of c.args.natives.now) gv ∙ before gv;
       keeps = (omega (arith, kept.0, c.steps.invariant.keeps.0), kept.1 ∙ c.steps.invariant.keeps.1);
       free = omega (arith, kept.2, c.steps.invariant.free, ap (λ (s : Step). step_free s) c.in-Pieces.is);
       holds = held_both c.next_piece.new.self c.steps.self c.args.self.now c.in_ok-step-in-Pieces.ensures.holds c.steps.invariant.holds;
@@ -24,7 +25,7 @@ steps-preserved g c =
     let before = rw c.in-Value.is at c.steps.invariant.means in
     let kept = c.in_ok-step-in-Some.ensures.keeps in
     record {
-      means = λ ns gv. gave ns t e.stack.items c.pop.new.self.items c.in-Some.frame c.in-Value.value.code c.in-Value.value.result (state_of e) e.budget gv _ _ c.in-Some.ensures.items (c.in_ok-step-in-Some.ensures.means ns gv) (before ns gv);
+      means = λ gv. gave (names_of c.args.natives.now) t e.stack.items c.pop.new.self.items c.in-Some.frame c.in-Value.value.code c.in-Value.value.result (state_of e) e.budget gv _ _ c.in-Some.ensures.items (c.in_ok-step-in-Some.ensures.means gv) (before gv);
       keeps = (omega (arith, kept.0, c.steps.invariant.keeps.0), kept.1 ∙ c.steps.invariant.keeps.1);
       free = omega (arith, freed _ _ _ c.in-Some.ensures.items, c.in_ok-step-in-Some.ensures.free, c.steps.invariant.free, ap (λ (s : Step). step_free s) c.in-Value.is);
       holds = held_both c.give.new.self e c.args.self.now c.in_ok-step-in-Some.ensures.holds c.steps.invariant.holds;

@@ -3,7 +3,7 @@ use Rattle.txt_core.specs.Names.{Names}
 use Rattle.tcl_parse.specs.Tree.{words}
 use Rattle.tcl_parse.specs.View.{word_of}
 use Rattle.tcl_eval.specs.Eval.{run_words, nested}
-use Rattle.tcl_eval.specs.Engine.{Same}
+use Rattle.tcl_eval.specs.Straight.{Alike}
 use Rattle.tcl_eval.specs.Places.{words_from, words_size}
 use Rattle.tcl_eval.proofs.engine.Engine.simple_words.Given as goal
 
@@ -12,7 +12,7 @@ invariant-words g l =
     let t = g.H.Host.table in
     let all = words (map word_of l.all) in
     record {
-      means : (ns : Names) (levels : ℕ) → Same ns t l.self l.self (run_words ns t (nested ns t levels) (words_from (length l.values) all) l.values) (run_words ns t (nested ns t levels) (words_from (length l.fn.values) all) l.fn.values);
+      means : (ns : Names) (levels : ℕ) → Alike l.self l.self (run_words ns t (nested ns t levels) (words_from (length l.values) all) l.values) (run_words ns t (nested ns t levels) (words_from (length l.fn.values) all) l.fn.values);
       shorter : words_size (words_from (length l.values) all) ≤ words_size (words_from (length l.fn.values) all);
     }
 

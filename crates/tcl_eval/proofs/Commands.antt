@@ -1,0 +1,100 @@
+-- Commands that come to a value straight away.
+use Rattle.std.proofs.Common.{◌≡◌, ◌≢◌, ◌≤◌, ◌<◌, ℕ, zero, suc, ◌+◌, List, [], ◌∷◌, ◌++◌, drop, length, Bool, true, false, cond, Option, Some, None, refl, sym, ap, ◌∙◌, arith}
+use Rattle.txt_core.specs.Names.{Names}
+use Rattle.tcl_parse.specs.Tree.{Words, no_words, Commands, no_commands, command as one_command}
+use Rattle.cmd_table.specs.Table.{command_of}
+use Rattle.cmd_table.specs.declared.command.Cmd.{Cmd}
+use Rattle.natives.specs.Names.{has_name}
+use Rattle.tcl_varcmd.specs.Commands.{begins_var_command, var_came}
+use Rattle.tcl_eval.specs.State.{State, LeafTable, Given, Out, Rest, Next}
+use Rattle.tcl_eval.specs.Eval.{Inner, act, arg, built, built_in, call_native, came_next, give, on_ok, run_command, run_commands, run_words, verb_of}
+use Rattle.tcl_eval.specs.Places.{command_at, commands_from, commands_size, words_from, words_size, HasCommand}
+use Rattle.tcl_eval.specs.Straight.{IsOwn, behind_command}
+use Rattle.tcl_eval.specs.Verbs.{ValueOf}
+use Rattle.tcl_eval.specs.declared.stack.Ended.{Ended}
+use Rattle.std.specs.Prelude.{IfSome}
+use Rattle.tcl_parse.specs.declared.tree.Script as code_script
+use Rattle.tcl_eval.specs.Eval.{nested}
+use Rattle.tcl_eval.specs.Places.{tree_of}
+use Rattle.tcl_eval.specs.Straight.{Alike}
+use Rattle.tcl_eval.specs.Stack.{stack_next}
+use Rattle.tcl_eval.specs.Engine.{Same, state_of}
+use Rattle.tcl_eval.specs.declared.engine.Engine.{Engine}
+use Rattle.tcl_eval.specs.declared.stack.Frame.{Frame}
+use Rattle.tcl_eval.specs.declared.stack.Frame.TheVariants.{Script}
+use Rattle.tcl_eval.proofs.Alike.{Runs, run_words_alike}
+use Rattle.tcl_eval.proofs.Stacks.{pushed}
+use Rattle.tcl_eval.proofs.Steps.{other_code, handed_on}
+
+-- what is known of a value is known in another way, and of none
+pub some_value : (o : Option Ended) (known wanted : Ended → Type 0) (none : Type 0) → ((v : Ended) → known v → wanted v) → none → IfSome o known → ValueOf o wanted none
+some_value None known wanted none f n h = n
+some_value (Some v) known wanted none f n h = f v h
+
+pub same_value : (o : Option Ended) (known wanted : Ended → Type 0) (none : Type 0) → ((v : Ended) → known v → wanted v) → ValueOf o known none → ValueOf o wanted none
+same_value None known wanted none f h = h
+same_value (Some v) known wanted none f h = f v h
+
+module _ {H : Type 0} (ns : Names) (t : LeafTable H) where
+  -- a command on variables
+  pub variable_built : (inner : Inner H) (words : List (List ℕ)) (k : Next H) (s : State H) (b : ℕ) (g : Given) (x : Out H) → has_name ns (arg words 0) ≡ false → begins_var_command words ≡ true → x ≡ came_next (var_came s.frames words) k s b g → x ≡ built ns t inner words k s b g
+  variable_built inner words k s b g x miss is e =
+      let way : Bool → Rest H = λ c. cond c (λ (state : State H). came_next (var_came state.frames words) k state) (built_in ns t inner (verb_of (arg words 0)) words k) in
+      e ∙ sym (ap (λ (c : Bool). way c s b g) is)
+      ∙ sym (ap (λ (c : Bool). (cond c (call_native words k) (way (begins_var_command words))) s b g) miss)
+
+  -- a built-in that ends what is under way
+  pub end_built : (inner : Inner H) (words : List (List ℕ)) (k : Next H) (s : State H) (b : ℕ) (g : Given) (x : Out H) → has_name ns (arg words 0) ≡ false → begins_var_command words ≡ false → x ≡ built_in ns t inner (verb_of (arg words 0)) words k s b g → x ≡ built ns t inner words k s b g
+  end_built inner words k s b g x miss none e =
+      let way : Bool → Rest H = λ c. cond c (λ (state : State H). came_next (var_came state.frames words) k state) (built_in ns t inner (verb_of (arg words 0)) words k) in
+      e ∙ sym (ap (λ (c : Bool). way c s b g) none)
+      ∙ sym (ap (λ (c : Bool). (cond c (call_native words k) (way (begins_var_command words))) s b g) miss)
+
+  -- a built-in is called by its own name
+  pub own_act : (inner : Inner H) (words : List (List ℕ)) (k : Next H) (s : State H) (b : ℕ) (g : Given) (x : Out H) → IsOwn s.commands words → x ≡ built ns t inner words k s b g → x ≡ act ns t inner words k s b g
+  own_act inner words k s b g x own e =
+      e ∙ ap (λ (ws : List (List ℕ)). built ns t inner ws k s b g) own.1
+      ∙ sym (ap (λ (o : Option Cmd). run_command ns t inner o words k s b g) own.0)
+
+  -- the command at a place of a script is next
+  pub next_one : (inner : Inner H) (cs : Commands) (at : ℕ) (value : Ended) (k : Next H) (s : State H) (b : ℕ) (g : Given) (x : Out H) → value.code ≡ 0 → HasCommand true at cs → x ≡ run_words ns t inner (command_at at cs) [] (behind_command ns t inner cs at k) s b g → x ≡ on_ok (λ result. run_commands ns t inner (commands_from at cs) result k) k value.code value.result s b g
+  next_one inner cs at value k s b g x z here e =
+      e ∙ sym (ap (λ (c : Commands). run_commands ns t inner c value.result k s b g) here)
+      ∙ sym (ap (λ (n : ℕ). on_ok (λ result. run_commands ns t inner (commands_from at cs) result k) k n value.result s b g) z)
+
+  -- no command is left
+  pub none_left : (inner : Inner H) (cs : Commands) (at : ℕ) (value : Ended) (k : Next H) (s : State H) (b : ℕ) (g : Given) → value.code ≡ 0 → HasCommand false at cs → give value k s b g ≡ on_ok (λ result. run_commands ns t inner (commands_from at cs) result k) k value.code value.result s b g
+  none_left inner cs at value k s b g z none =
+      ap (λ (n : ℕ). k n value.result s b g) z
+      ∙ sym (ap (λ (c : Commands). run_commands ns t inner c value.result k s b g) none)
+      ∙ sym (ap (λ (n : ℕ). on_ok (λ result. run_commands ns t inner (commands_from at cs) result k) k n value.result s b g) z)
+
+module _ {H : Type 0} (ns : Names) (t : LeafTable H) where
+  -- what is alike whatever comes next is the same above one stack
+  pub alike_same : (new old : Engine H) (new_way old_way : Next H → Rest H) → Alike new old new_way old_way → new.stack ≡ old.stack → Same ns t new old new_way old_way
+  alike_same new old new_way old_way alike same = λ given.
+      alike (stack_next ns t new.stack.items) given
+      ∙ ap (λ stack. old_way (stack_next ns t stack.items) (state_of old) old.budget given) same
+
+  -- a script waits on the stack for the command that goes on
+  pub waits_behind : (fs fs1 : List Frame) (script again : _) (at levels : ℕ) (way : Next H → Rest H) (s : State H) (b : ℕ) (g : Given) → fs1 ≡ fs ++ Script again (at + 1) levels ∷ [] → again.value ≡ script.value → way (stack_next ns t fs1) s b g ≡ way (behind_command ns t (nested ns t levels) (tree_of script.value) at (stack_next ns t fs)) s b g
+  waits_behind fs fs1 script again at levels way s b g push same =
+      let inner = nested ns t levels in
+      let k = stack_next ns t fs in
+      ap (λ (x : Next H). way x s b g) (pushed ns t fs fs1 (Script again (at + 1) levels) push)
+      ∙ ap (λ (x : code_script.Script). way (on_ok (λ v. run_commands ns t inner (commands_from (at + 1) (tree_of x)) v k) k) s b g) same
+
+  -- nothing waits for the last command
+  pub last_behind : (inner : Inner H) (run : Runs inner) (cs : Commands) (at : ℕ) (ws : Words) (values : List (List ℕ)) (k : Next H) (s : State H) (b : ℕ) (g : Given) → HasCommand false (at + 1) cs → run_words ns t inner ws values k s b g ≡ run_words ns t inner ws values (behind_command ns t inner cs at k) s b g
+  last_behind inner run cs at ws values k s b g none =
+      run_words_alike ns t inner run ws values b k (on_ok (λ v. k 0 v) k) (handed_on k b) s b g (omega arith)
+      ∙ sym (ap (λ (c : Commands). run_words ns t inner ws values (on_ok (λ v. run_commands ns t inner c v k) k) s b g) none)
+
+-- behind another code than 0 nothing more is run
+module _ {H : Type 0} where
+  pub ended_so : (go : List ℕ → Next H → Rest H) (k : Next H) (value : Ended) (s : State H) (b : ℕ) (g : Given) → value.code ≢ 0 → give value k s b g ≡ on_ok (λ v. go v k) k value.code value.result s b g
+  ended_so go k value s b g other = other_code (λ v. go v k) k value.code value.result s b g other
+
+-- how much is left behind a command
+pub less_left : (cs : Commands) (at : ℕ) → HasCommand true at cs → commands_size (commands_from at cs) ≡ words_size (command_at at cs) + 1 + commands_size (commands_from (at + 1) cs)
+less_left cs at here = ap (λ (c : Commands). commands_size c) here

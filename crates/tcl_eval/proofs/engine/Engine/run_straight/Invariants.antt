@@ -1,0 +1,24 @@
+use Rattle.std.proofs.Common.{◌≡◌, ◌≤◌, ℕ}
+use Rattle.natives.specs.Names.{names_of}
+use Rattle.tcl_eval.specs.Eval.{nested, on_ok, run_commands}
+use Rattle.tcl_eval.specs.Places.{tree_of, commands_from, commands_size}
+use Rattle.tcl_eval.specs.Straight.{Alike, Straightly}
+use Rattle.tcl_eval.specs.Engine.{Holds}
+use Rattle.tcl_eval.proofs.engine.Engine.run_straight.Given as goal
+
+abbrev pub invariant-commands : goal.invariant-commands
+invariant-commands g l =
+    let t = g.H.Host.table in
+    let ns = names_of l.natives in
+    let tree = tree_of l.script in
+    record {
+      means : (levels : ℕ) → Alike l.self l.fn.self
+          (λ k. on_ok (λ result. run_commands ns t (nested ns t levels) (commands_from l.at tree) result k) k l.value.code l.value.result)
+          (λ k. on_ok (λ result. run_commands ns t (nested ns t levels) (commands_from l.fn.from tree) result k) k l.fn.value.code l.fn.value.result);
+      size : commands_size (commands_from l.at tree) ≤ commands_size (commands_from l.fn.from tree);
+      straight : Straightly l.self l.fn.self;
+      holds : Holds l.self l.fn.self;
+    }
+
+abbrev pub decreases-commands : goal.decreases-commands
+decreases-commands g l = commands_size (commands_from l.at (tree_of l.script))

@@ -1,0 +1,13 @@
+use Rattle.natives.specs.Names.{names_of}
+use Rattle.tcl_eval.specs.Engine.{state_of}
+use Rattle.tcl_eval.proofs.Commands.{same_value, own_act}
+use Rattle.tcl_eval.proofs.engine.Engine.straight_value.Goals as goal
+
+pub returns-clause-means : goal.returns-clause-means
+returns-clause-means g c =
+    let ns = names_of c.args.natives.now in
+    let t = g.H.Host.table in
+    let e = c.args.self.now in
+    same_value c.in_ok-value.value _ _ _
+    (λ v means inner k b gv. own_act ns t inner c.args.words.now k (state_of e) b gv _ (c.is_own.ensures c.if-not-is_own.false) (means inner k b gv))
+    c.in_ok-value.ensures.means
