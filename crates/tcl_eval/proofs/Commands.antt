@@ -77,7 +77,7 @@ module _ {H : Type 0} (ns : Names) (t : LeafTable H) where
       ∙ ap (λ stack. old_way (stack_next ns t stack.items) (state_of old) old.budget given) same
 
   -- a script waits on the stack for the command that goes on
-  pub waits_behind : (fs fs1 : List Frame) (script again : _) (at levels : ℕ) (way : Next H → Rest H) (s : State H) (b : ℕ) (g : Given) → fs1 ≡ fs ++ Script again (at + 1) levels ∷ [] → again.value ≡ script.value → way (stack_next ns t fs1) s b g ≡ way (behind_command ns t (nested ns t levels) (tree_of script.value) at (stack_next ns t fs)) s b g
+  pub waits_behind : (fs fs1 : List Frame) (script : code_script.Script) (again : _) (at levels : ℕ) (way : Next H → Rest H) (s : State H) (b : ℕ) (g : Given) → fs1 ≡ fs ++ Script again (at + 1) levels ∷ [] → again.value ≡ script → way (stack_next ns t fs1) s b g ≡ way (behind_command ns t (nested ns t levels) (tree_of script) at (stack_next ns t fs)) s b g
   waits_behind fs fs1 script again at levels way s b g push same =
       let inner = nested ns t levels in
       let k = stack_next ns t fs in

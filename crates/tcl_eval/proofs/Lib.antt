@@ -22,3 +22,4 @@ pub mod Steps
 pub mod Commands
 pub mod Values
 pub mod Tails
+pub mod Looping

@@ -28,7 +28,7 @@ module _ {H : Type 0} where
   good_code go k value s b g z = sym (ap (λ (n : ℕ). on_ok go k n value.result s b g) z)
 
   -- what hands each code on comes to what it hands to
-  handed_on : (k : Next H) (m : ℕ) → After m k (on_ok (λ v. k 0 v) k)
+  pub handed_on : (k : Next H) (m : ℕ) → After m k (on_ok (λ v. k 0 v) k)
   handed_on k m zero result = λ s b g le. refl
   handed_on k m (suc code) result = λ s b g le. refl
 

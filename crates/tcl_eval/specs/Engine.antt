@@ -12,12 +12,15 @@ use Rattle.cmd_table.specs.declared.definition.Def.{Def}
 use Rattle.cmd_table.specs.declared.definition.Def.TheVariants as defs
 use Rattle.tcl_frame.specs.Stack.{Stack}
 use Rattle.tcl_frame.specs.Base.{IsAtBase, kept}
-use Rattle.tcl_eval.specs.Stack.{stack_next, stack_free, step_free}
+use Rattle.tcl_eval.specs.Stack.{stack_next, stack_free, step_next, step_free}
 use Rattle.tcl_eval.specs.declared.engine.Engine.{Engine}
 use Rattle.tcl_eval.specs.declared.engine.OpenQuestion.{OpenQuestion}
 use Rattle.tcl_eval.specs.declared.stack.AtRest.{AtRest}
 use Rattle.tcl_eval.specs.declared.stack.AtRest.TheVariants as settled
 use Rattle.tcl_eval.specs.declared.stack.Step.{Step}
+use Rattle.tcl_eval.specs.declared.stack.Step.TheVariants as step
+use Rattle.tcl_eval.specs.declared.stack.Gone.{Gone}
+use Rattle.tcl_eval.specs.declared.stack.Gone.TheVariants as gone
 use Rattle.tcl_eval.specs.declared.stack.Acted.{Acted}
 use Rattle.tcl_eval.specs.declared.stack.Acted.TheVariants as acted
 use Rattle.tcl_host.specs.declared.host.HostReply.{HostReply}
@@ -57,6 +60,13 @@ Enters (acted.Asks question) fact = ⊥
 Enters acted.TooDeep fact = Unit {0}
 Enters acted.Spent fact = Unit {0}
 
+-- how a run goes on behind what asked nothing
+abbrev pub gone_of : Acted → Gone
+gone_of (acted.Gives value) = gone.Goes (step.Value value)
+gone_of (acted.Asks question) = gone.Spent
+gone_of acted.TooDeep = gone.TooDeep
+gone_of acted.Spent = gone.Spent
+
 module _ {H : Type 0} where
   -- what comes after the values of parameters were written, or one was refused
   abbrev pub after_writes : Option Ended → (Next H → Rest H) → Next H → Rest H
@@ -95,6 +105,12 @@ module _ {H : Type 0} (names : Names) (table : LeafTable H) where
   acted_next (acted.Asks question) opened k = asking opened question k
   acted_next acted.TooDeep opened k = λ state budget given. too_deep state
   acted_next acted.Spent opened k = λ state budget given. spent state
+
+  -- what comes after a choice, a loop or a page
+  abbrev pub gone_next : Gone → Next H → Rest H
+  gone_next (gone.Goes what) k = step_next names table what k
+  gone_next gone.TooDeep k = λ state budget given. too_deep state
+  gone_next gone.Spent k = λ state budget given. spent state
 
   -- what comes after an outcome
   abbrev pub outcome_next : Outcome → Option OpenQuestion → Next H → Rest H
@@ -205,6 +221,12 @@ module _ {H : Type 0} where
   -- the budget didn't rise, and what falls rose by so much at most
   abbrev pub Lower : Engine H → Engine H → ℕ → Type 0
   Lower new old more = (new.budget ≤ old.budget) × (credit new ≤ credit old + more)
+
+  -- where a run goes on, less falls from one text that is run to the next than this
+  abbrev pub Nears : Gone → Engine H → ℕ → Type 0
+  Nears (gone.Goes what) engine most = credit engine + step_free what < most
+  Nears gone.TooDeep engine most = Unit {0}
+  Nears gone.Spent engine most = Unit {0}
 
   -- where all has ended, nothing is suspended
   abbrev pub Emptied : AtRest → Engine H → Type 0

@@ -29,5 +29,6 @@ pub mod Kept
 pub mod Simple
 pub mod Stack
 pub mod Straight
+pub mod Turns
 pub mod AtOnce
 pub mod ExprReadings

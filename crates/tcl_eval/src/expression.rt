@@ -33,10 +33,10 @@ use tcl_parse::Script;
 use txt_core::{NoMemory, Text, Words, read_truth};
 
 /// What an evaluation of an expression costs.
-const EVALUATION_COST: u128 = 1;
+pub(crate) const EVALUATION_COST: u128 = 1;
 
 /// How deep parts of an expression may stand in one another that is evaluated at once.
-const MOST_AT_ONCE: u32 = 60;
+pub(crate) const MOST_AT_ONCE: u32 = 60;
 
 #[tactic(auto, using(crate::proofs::Stacks::frees_push))]
 impl<H: Host> Engine<H> {

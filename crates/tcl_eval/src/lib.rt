@@ -13,6 +13,7 @@ mod info;
 mod latest;
 mod law;
 mod lend;
+mod loop_turns;
 mod loops;
 mod message;
 mod operation;

@@ -1,35 +1,39 @@
 //! Loops under way.
 
-ghost use Rattle.std.specs.Prelude.{◌≡◌, ◌<◌, ◌≤◌, ◌+◌, IfOk, OnOk, Option, drop, length};
+ghost use Rattle.std.specs.Prelude.{◌≡◌, ◌<◌, ◌≤◌, ◌+◌, ℕ, IfOk, IfSome, OnOk, Option, Some, drop, length};
+ghost use Rattle.natives.specs.Names.{names_of};
 ghost use Rattle.txt_core.specs.Names.{Names};
 ghost use Rattle.tcl_eval.specs.State.{Next};
 ghost use Rattle.tcl_eval.specs.Eval.{nested, unread, do_while, do_for, do_foreach};
-ghost use Rattle.tcl_eval.specs.Loops.{assigned, in_loop, turns, turn_on, turn_body, walk_on, walk_all};
+ghost use Rattle.tcl_eval.specs.Loops.{assigned, in_loop, turns, turn_on, walk_on, walk_all};
 ghost use Rattle.tcl_eval.specs.LoopsSeen.{flow_of};
 ghost use Rattle.tcl_eval.specs.Stack.{branch_next, branch_free};
-ghost use Rattle.tcl_eval.specs.Engine.{Holds, Same, Opens, Enters, Lower, acted_next, credit};
+ghost use Rattle.tcl_eval.specs.Turns.{IsTurnSet, option_free, turn_free, turn_next};
+ghost use Rattle.tcl_eval.specs.Engine.{Holds, Nears, Same, Opens, Enters, Lower, Remains, acted_next, credit, gone_next};
 ghost use Rattle.tcl_eval.specs.declared.branch.Branch.{Branch};
+ghost use Rattle.tcl_eval.specs.declared.loop_turns.Turn.TheVariants.{Whole};
 ghost use Rattle.tcl_eval.specs.declared.engine.OpenQuestion.{OpenQuestion};
 
 use crate::branch::{Branch, Turning, Walk, place_behind};
 use crate::engine::Engine;
-use crate::message::no_boolean;
 use crate::read_expr::read_word;
-use crate::stack::{Acted, Ended, Frame};
+use crate::loop_turns::{Tested, Turn};
+use crate::stack::{Acted, Ended, Frame, Gone, Step, gone_from};
 use crate::value::{done, wrong_words};
 use crate::words::{copy_word, word_at};
+use natives::Natives;
 use std::alloc::Global;
 use std::rc::Rc;
 use tcl_host::{BREAK, CONTINUE, Host, OK};
 use tcl_list::{ListFault, split};
 use txt_core::error_text::{bad_value, no_list};
-use txt_core::{NoMemory, Pairs, Text, Words, read_truth};
+use txt_core::{NoMemory, Pairs, Text, Words};
 
 /// What a turn of a loop costs.
-const TURN_COST: u128 = 1;
+pub(crate) const TURN_COST: u128 = 1;
 
 /// How a loop goes on where a part of it ended.
-enum Flow {
+pub(crate) enum Flow {
     /// It goes on.
     On,
     /// It ends with this.
@@ -37,7 +41,7 @@ enum Flow {
 }
 
 /// How a loop goes on where its body, or the script between two turns, ended with this.
-fn flow_from(alloc: Global, value: Ended) -> Flow
+pub(crate) fn flow_from(alloc: Global, value: Ended) -> Flow
     ensures { result ≡ flow_of value.code value.result }
 {
     match value.code {
@@ -79,31 +83,8 @@ fn from_place(items: &[Text], at: usize) -> &[Text]
 
 #[tactic(auto, using(crate::proofs::Stacks::frees_push))]
 impl<H: Host> Engine<H> {
-    /// Begins a turn of a loop, where one is left, with its condition.
-    fn next_turn(&mut self, turning: Rc<Turning>, left: u64, levels: u32) -> Result<Acted, NoMemory>
-        ensures means { IfOk result (λ acted.
-            (names : Names) (opened : Option OpenQuestion)
-            → Same names H.table self.new self.old (acted_next names H.table acted opened)
-            (turns (nested names H.table levels) turning.value left)) }
-        ensures lower { OnOk result (Lower self.new self.old 1) }
-        ensures opens { IfOk result (λ acted. Opens acted self.new self.old) }
-        ensures enters { IfOk result (λ acted. Enters acted (credit self.new < credit self.old)) }
-        ensures holds { Holds self.new self.old }
-    {
-        if left == 0 {
-            return Ok(Acted::Spent);
-        }
-        let again = turning.clone()?;
-        self.stack.push(Frame::Branch(Branch::Condition {
-            turning: again,
-            turns: left - 1,
-            levels,
-        }))?;
-        let acted = self.evaluate_read(&turning.condition, levels)?;
-        Ok(acted)
-    }
-
-    /// Begins the turns of a loop, of which there are as many as the budget that is left.
+    /// Puts a loop on the stack whose turns come next, of which there are as many as the budget that is
+    /// left.
     fn begin_turns(&mut self, turning: Turning, levels: u32) -> Result<Acted, NoMemory>
         ensures means { IfOk result (λ acted.
             (names : Names) (opened : Option OpenQuestion)
@@ -114,8 +95,13 @@ impl<H: Host> Engine<H> {
         ensures holds { Holds self.new self.old }
     {
         let turning = Rc::new(self.alloc, turning)?;
-        let acted = self.next_turn(turning, self.budget, levels)?;
-        Ok(acted)
+        let turns = self.budget;
+        self.stack.push(Frame::Branch(Branch::Next {
+            turning,
+            turns,
+            levels,
+        }))?;
+        Ok(Acted::Gives(done(self.alloc)))
     }
 
     /// `while c body`.
@@ -171,164 +157,242 @@ impl<H: Host> Engine<H> {
         Ok(acted)
     }
 
-    /// Goes on behind the start of a `for`.
-    pub(crate) fn give_start(
+    /// Goes on with what is left of a turn, behind which so many turns may come.
+    fn enter_turn(
         &mut self,
         turning: Rc<Turning>,
+        turn: Turn,
+        left: u64,
         levels: u32,
-        value: Ended,
-    ) -> Result<Acted, NoMemory>
-        ensures means { IfOk result (λ acted.
-            (names : Names) (opened : Option OpenQuestion)
-            → Same names H.table self.new self.old (acted_next names H.table acted opened) (λ k.
-            branch_next names H.table (Branch.Start turning levels) k value.code value.result)) }
-        ensures lower { OnOk result (Lower self.new self.old 1) }
-        ensures opens { IfOk result (λ acted. Opens acted self.new self.old) }
-        ensures enters { IfOk result (λ acted.
-            Enters acted
-            (credit self.new < credit self.old + branch_free (Branch.Start turning levels))) }
+    ) -> Result<Gone, NoMemory>
+        requires { IsTurnSet turn }
+        ensures means { IfOk result (λ gone.
+            (names : Names)
+            → Same names H.table self.new self.old (gone_next names H.table gone) (λ k.
+            turn_next names H.table (nested names H.table levels) turning.value (Some turn)
+            (turns (nested names H.table levels) turning.value left k) k)) }
+        ensures nears { IfOk result (λ gone.
+            (most : ℕ) → credit self.old + turn_free turn < most → Nears gone self.new most) }
+        ensures remains { OnOk result (Remains self.new self.old) }
         ensures holds { Holds self.new self.old }
     {
-        if value.code != OK {
-            return Ok(Acted::Gives(value));
+        match turn {
+            Turn::Ends(value) => Ok(Gone::Goes(Step::Value(value))),
+            Turn::Spent => Ok(Gone::Spent),
+            Turn::Whole => {
+                let gone = self.enter_condition(turning, left, levels)?;
+                Ok(gone)
+            }
+            Turn::Body(ran) => {
+                self.stack.push(Frame::Branch(Branch::Body {
+                    turning,
+                    turns: left,
+                    levels,
+                }))?;
+                let step = self.enter_ran(ran)?;
+                Ok(Gone::Goes(step))
+            }
+            Turn::Next(ran) => {
+                self.stack.push(Frame::Branch(Branch::Next {
+                    turning,
+                    turns: left,
+                    levels,
+                }))?;
+                let step = self.enter_ran(ran)?;
+                Ok(Gone::Goes(step))
+            }
         }
-        let acted = self.next_turn(turning, self.budget, levels)?;
-        Ok(acted)
     }
 
-    /// Pays for a turn and runs its body.
-    fn enter_body(
+    /// Begins a turn of a loop with its condition, for which something may be run.
+    fn enter_condition(
         &mut self,
         turning: Rc<Turning>,
         left: u64,
         levels: u32,
-    ) -> Result<Acted, NoMemory>
-        ensures means { IfOk result (λ acted.
-            (names : Names) (opened : Option OpenQuestion)
-            → Same names H.table self.new self.old (acted_next names H.table acted opened) (λ k.
-            turn_body (nested names H.table levels) turning.value
+    ) -> Result<Gone, NoMemory>
+        ensures means { IfOk result (λ gone.
+            (names : Names)
+            → Same names H.table self.new self.old (gone_next names H.table gone) (λ k.
+            turn_next names H.table (nested names H.table levels) turning.value (Some Whole)
             (turns (nested names H.table levels) turning.value left k) k)) }
-        ensures lower { OnOk result (Lower self.new self.old 1) }
-        ensures opens { IfOk result (λ acted. Opens acted self.new self.old) }
-        ensures enters { IfOk result (λ acted. Enters acted (credit self.new ≤ credit self.old)) }
+        ensures nears { IfOk result (λ gone. Nears gone self.new (credit self.old)) }
+        ensures remains { OnOk result (Remains self.new self.old) }
         ensures holds { Holds self.new self.old }
     {
-        if !self.pay(TURN_COST) {
-            return Ok(Acted::Spent);
-        }
         let again = turning.clone()?;
-        self.stack.push(Frame::Branch(Branch::Body {
+        self.stack.push(Frame::Branch(Branch::Condition {
             turning: again,
             turns: left,
             levels,
         }))?;
-        let acted = self.enter_read(&turning.body, levels)?;
-        Ok(acted)
+        let acted = self.evaluate_read(&turning.condition, levels)?;
+        Ok(gone_from(acted))
+    }
+
+    /// Goes on with the turns of a loop, of which so many are left.
+    fn next_turn(
+        &mut self,
+        natives: &Natives,
+        turning: Rc<Turning>,
+        left: u64,
+        levels: u32,
+    ) -> Result<Gone, NoMemory>
+        ensures means { IfOk result (λ gone.
+            Same (names_of natives.now) H.table self.new self.old
+            (gone_next (names_of natives.now) H.table gone)
+            (turns (nested (names_of natives.now) H.table levels) turning.value left)) }
+        ensures nears { IfOk result (λ gone. Nears gone self.new (credit self.old + 1)) }
+        ensures remains { OnOk result (Remains self.new self.old) }
+        ensures holds { Holds self.new self.old }
+    {
+        let turned = self.turns_straight(natives, &turning, left, levels)?;
+        let gone = self.enter_turn(turning, turned.turn, turned.left, levels)?;
+        Ok(gone)
+    }
+
+    /// Goes on with what is left of a turn, or with the next turn.
+    fn go_on_turning(
+        &mut self,
+        natives: &Natives,
+        turning: Rc<Turning>,
+        turn: Option<Turn>,
+        left: u64,
+        levels: u32,
+    ) -> Result<Gone, NoMemory>
+        requires { IfSome turn IsTurnSet }
+        ensures means { IfOk result (λ gone.
+            Same (names_of natives.now) H.table self.new self.old
+            (gone_next (names_of natives.now) H.table gone) (λ k.
+            turn_next (names_of natives.now) H.table
+            (nested (names_of natives.now) H.table levels) turning.value turn
+            (turns (nested (names_of natives.now) H.table levels) turning.value left k) k)) }
+        ensures nears { IfOk result (λ gone.
+            (most : ℕ) → credit self.old + option_free turn < most → Nears gone self.new most) }
+        ensures remains { OnOk result (Remains self.new self.old) }
+        ensures holds { Holds self.new self.old }
+    {
+        match turn {
+            None => {
+                let gone = self.next_turn(natives, turning, left, levels)?;
+                Ok(gone)
+            }
+            Some(turn) => {
+                let gone = self.enter_turn(turning, turn, left, levels)?;
+                Ok(gone)
+            }
+        }
+    }
+
+    /// Goes on behind the start of a `for`.
+    pub(crate) fn give_start(
+        &mut self,
+        natives: &Natives,
+        turning: Rc<Turning>,
+        levels: u32,
+        value: Ended,
+    ) -> Result<Gone, NoMemory>
+        ensures means { IfOk result (λ gone.
+            Same (names_of natives.now) H.table self.new self.old
+            (gone_next (names_of natives.now) H.table gone) (λ k.
+            branch_next (names_of natives.now) H.table (Branch.Start turning levels) k value.code
+            value.result)) }
+        ensures nears { IfOk result (λ gone.
+            Nears gone self.new
+            (credit self.old + branch_free (Branch.Start turning levels))) }
+        ensures remains { OnOk result (Remains self.new self.old) }
+        ensures holds { Holds self.new self.old }
+    {
+        if value.code != OK {
+            return Ok(Gone::Goes(Step::Value(value)));
+        }
+        let turns = self.budget;
+        let gone = self.next_turn(natives, turning, turns, levels)?;
+        Ok(gone)
     }
 
     /// Goes on by the truth of a loop's condition.
     pub(crate) fn give_condition(
         &mut self,
+        natives: &Natives,
         turning: Rc<Turning>,
         left: u64,
         levels: u32,
         value: Ended,
-    ) -> Result<Acted, NoMemory>
-        ensures means { IfOk result (λ acted.
-            (names : Names) (opened : Option OpenQuestion)
-            → Same names H.table self.new self.old (acted_next names H.table acted opened) (λ k.
-            branch_next names H.table (Branch.Condition turning left levels) k value.code
-            value.result)) }
-        ensures lower { OnOk result (Lower self.new self.old 1) }
-        ensures opens { IfOk result (λ acted. Opens acted self.new self.old) }
-        ensures enters { IfOk result (λ acted.
-            Enters acted
-            (credit self.new < credit self.old
-            + branch_free (Branch.Condition turning left levels))) }
+    ) -> Result<Gone, NoMemory>
+        ensures means { IfOk result (λ gone.
+            Same (names_of natives.now) H.table self.new self.old
+            (gone_next (names_of natives.now) H.table gone) (λ k.
+            branch_next (names_of natives.now) H.table (Branch.Condition turning left levels) k
+            value.code value.result)) }
+        ensures nears { IfOk result (λ gone.
+            Nears gone self.new
+            (credit self.old + branch_free (Branch.Condition turning left levels))) }
+        ensures remains { OnOk result (Remains self.new self.old) }
         ensures holds { Holds self.new self.old }
     {
-        if value.code != OK {
-            return Ok(Acted::Gives(value));
-        }
-        match read_truth(&value.result) {
-            None => {
-                let acted = self.fails(no_boolean(self.alloc, value.result.bytes())?)?;
-                Ok(acted)
+        match self.tested(value)? {
+            Tested::Holds => {
+                let turn = self.body_straight(natives, &turning, levels)?;
+                let gone = self.go_on_turning(natives, turning, turn, left, levels)?;
+                Ok(gone)
             }
-            Some(false) => Ok(Acted::Gives(done(self.alloc))),
-            Some(true) => {
-                let acted = self.enter_body(turning, left, levels)?;
-                Ok(acted)
-            }
+            Tested::Fails => Ok(Gone::Goes(Step::Value(done(self.alloc)))),
+            Tested::Ends(value) => Ok(Gone::Goes(Step::Value(value))),
+            Tested::Spent | Tested::Left => unreachable!(),
         }
     }
 
     /// Goes on behind the body of a turn.
     pub(crate) fn give_body(
         &mut self,
+        natives: &Natives,
         turning: Rc<Turning>,
         left: u64,
         levels: u32,
         value: Ended,
-    ) -> Result<Acted, NoMemory>
-        ensures means { IfOk result (λ acted.
-            (names : Names) (opened : Option OpenQuestion)
-            → Same names H.table self.new self.old (acted_next names H.table acted opened) (λ k.
-            branch_next names H.table (Branch.Body turning left levels) k value.code
-            value.result)) }
-        ensures lower { OnOk result (Lower self.new self.old 1) }
-        ensures opens { IfOk result (λ acted. Opens acted self.new self.old) }
-        ensures enters { IfOk result (λ acted.
-            Enters acted
-            (credit self.new < credit self.old + branch_free (Branch.Body turning left levels))) }
+    ) -> Result<Gone, NoMemory>
+        ensures means { IfOk result (λ gone.
+            Same (names_of natives.now) H.table self.new self.old
+            (gone_next (names_of natives.now) H.table gone) (λ k.
+            branch_next (names_of natives.now) H.table (Branch.Body turning left levels) k
+            value.code value.result)) }
+        ensures nears { IfOk result (λ gone.
+            Nears gone self.new
+            (credit self.old + branch_free (Branch.Body turning left levels))) }
+        ensures remains { OnOk result (Remains self.new self.old) }
         ensures holds { Holds self.new self.old }
     {
-        match flow_from(self.alloc, value) {
-            Flow::Ends(value) => Ok(Acted::Gives(value)),
-            Flow::On => match &turning.next {
-                None => {
-                    let acted = self.next_turn(turning, left, levels)?;
-                    Ok(acted)
-                }
-                Some(next) => {
-                    let again = turning.clone()?;
-                    self.stack.push(Frame::Branch(Branch::Next {
-                        turning: again,
-                        turns: left,
-                        levels,
-                    }))?;
-                    let acted = self.enter_read(next, levels)?;
-                    Ok(acted)
-                }
-            },
-        }
+        let turn = self.behind_straight(natives, &turning, levels, value)?;
+        let gone = self.go_on_turning(natives, turning, turn, left, levels)?;
+        Ok(gone)
     }
 
     /// Goes on behind the script between two turns.
     pub(crate) fn give_next(
         &mut self,
+        natives: &Natives,
         turning: Rc<Turning>,
         left: u64,
         levels: u32,
         value: Ended,
-    ) -> Result<Acted, NoMemory>
-        ensures means { IfOk result (λ acted.
-            (names : Names) (opened : Option OpenQuestion)
-            → Same names H.table self.new self.old (acted_next names H.table acted opened) (λ k.
-            branch_next names H.table (Branch.Next turning left levels) k value.code
-            value.result)) }
-        ensures lower { OnOk result (Lower self.new self.old 1) }
-        ensures opens { IfOk result (λ acted. Opens acted self.new self.old) }
-        ensures enters { IfOk result (λ acted.
-            Enters acted
-            (credit self.new < credit self.old + branch_free (Branch.Next turning left levels))) }
+    ) -> Result<Gone, NoMemory>
+        ensures means { IfOk result (λ gone.
+            Same (names_of natives.now) H.table self.new self.old
+            (gone_next (names_of natives.now) H.table gone) (λ k.
+            branch_next (names_of natives.now) H.table (Branch.Next turning left levels) k
+            value.code value.result)) }
+        ensures nears { IfOk result (λ gone.
+            Nears gone self.new
+            (credit self.old + branch_free (Branch.Next turning left levels))) }
+        ensures remains { OnOk result (Remains self.new self.old) }
         ensures holds { Holds self.new self.old }
     {
         match flow_from(self.alloc, value) {
-            Flow::Ends(value) => Ok(Acted::Gives(value)),
+            Flow::Ends(value) => Ok(Gone::Goes(Step::Value(value))),
             Flow::On => {
-                let acted = self.next_turn(turning, left, levels)?;
-                Ok(acted)
+                let gone = self.next_turn(natives, turning, left, levels)?;
+                Ok(gone)
             }
         }
     }
@@ -496,52 +560,64 @@ impl<H: Host> Engine<H> {
     }
 
     /// Gives a choice, a loop or a page what it waited for.
-    pub(crate) fn go_on(&mut self, branch: Branch, value: Ended) -> Result<Acted, NoMemory>
-        ensures means { IfOk result (λ acted.
-            (names : Names) (opened : Option OpenQuestion)
-            → Same names H.table self.new self.old (acted_next names H.table acted opened) (λ k.
-            branch_next names H.table branch k value.code value.result)) }
-        ensures lower { OnOk result (self.new.budget ≤ self.old.budget) }
-        ensures opens { IfOk result (λ acted. Opens acted self.new self.old) }
-        ensures enters { IfOk result (λ acted.
-            Enters acted (credit self.new < credit self.old + branch_free branch)) }
+    pub(crate) fn go_on(
+        &mut self,
+        natives: &Natives,
+        branch: Branch,
+        value: Ended,
+    ) -> Result<Gone, NoMemory>
+        ensures means { IfOk result (λ gone.
+            Same (names_of natives.now) H.table self.new self.old
+            (gone_next (names_of natives.now) H.table gone) (λ k.
+            branch_next (names_of natives.now) H.table branch k value.code value.result)) }
+        ensures nears { IfOk result (λ gone.
+            Nears gone self.new (credit self.old + branch_free branch)) }
+        ensures remains { OnOk result (Remains self.new self.old) }
         ensures holds { Holds self.new self.old }
     {
-        let acted = match branch {
+        match branch {
+            Branch::Start { turning, levels } => self.give_start(natives, turning, levels, value),
+            Branch::Condition {
+                turning,
+                turns,
+                levels,
+            } => self.give_condition(natives, turning, turns, levels, value),
+            Branch::Body {
+                turning,
+                turns,
+                levels,
+            } => self.give_body(natives, turning, turns, levels, value),
+            Branch::Next {
+                turning,
+                turns,
+                levels,
+            } => self.give_next(natives, turning, turns, levels, value),
             Branch::If {
                 body,
                 branches,
                 next,
                 levels,
-            } => self.give_if(body, branches, next, levels, value)?,
-            Branch::Start { turning, levels } => self.give_start(turning, levels, value)?,
-            Branch::Condition {
-                turning,
-                turns,
-                levels,
-            } => self.give_condition(turning, turns, levels, value)?,
-            Branch::Body {
-                turning,
-                turns,
-                levels,
-            } => self.give_body(turning, turns, levels, value)?,
-            Branch::Next {
-                turning,
-                turns,
-                levels,
-            } => self.give_next(turning, turns, levels, value)?,
+            } => {
+                let acted = self.give_if(body, branches, next, levels, value)?;
+                Ok(gone_from(acted))
+            }
             Branch::Each {
                 walk,
                 at,
                 turns,
                 levels,
-            } => self.give_each(walk, at, turns, levels, value)?,
+            } => {
+                let acted = self.give_each(walk, at, turns, levels, value)?;
+                Ok(gone_from(acted))
+            }
             Branch::Page {
                 pieces,
                 next,
                 levels,
-            } => self.give_page(pieces, next, levels, value)?,
-        };
-        Ok(acted)
+            } => {
+                let acted = self.give_page(pieces, next, levels, value)?;
+                Ok(gone_from(acted))
+            }
+        }
     }
 }

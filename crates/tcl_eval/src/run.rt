@@ -5,8 +5,8 @@ ghost use Rattle.natives.specs.Names.{names_of};
 ghost use Rattle.outside.specs.declared.question.Answer.{Answer};
 ghost use Rattle.outside.specs.declared.question.Question.{Question};
 ghost use Rattle.tcl_eval.specs.Eval.{nested, command, run_work, eval};
-ghost use Rattle.tcl_eval.specs.Stack.{step_next, ready_next, ready_free};
-ghost use Rattle.tcl_eval.specs.Engine.{Same, Counts, Opens, IsIdle, Leaves, Stands, AnsweredAt, Falls, state_of, acted_next, outcome_next, PaidFor, Moves, Fell, FellTo, FellFrom, Begins, gives, comes_to};
+ghost use Rattle.tcl_eval.specs.Stack.{step_next};
+ghost use Rattle.tcl_eval.specs.Engine.{Same, Counts, Opens, IsIdle, Leaves, Stands, AnsweredAt, Falls, state_of, acted_next, outcome_next, PaidFor, Fell, FellTo, FellFrom, Begins, gives, comes_to};
 ghost use Rattle.tcl_eval.specs.Laws.{state_in, IsFront};
 ghost use Rattle.tcl_eval.specs.State.{Given};
 ghost use Rattle.tcl_eval.specs.declared.outcome.Outcome.TheVariants.{Asks};
@@ -14,7 +14,7 @@ ghost use Rattle.tcl_eval.specs.declared.outcome.Outcome.TheVariants.{Asks};
 use crate::act::{MOST_LEVELS, answer_cost};
 use crate::engine::Engine;
 use crate::outcome::{Outcome, Work};
-use crate::stack::{Acted, AtRest, Frame, Ready, Step};
+use crate::stack::{Acted, AtRest, Frame, Gone, Ready, Step};
 use crate::words::command_cost;
 use cmd_table::Steps;
 use natives::Natives;
@@ -52,37 +52,6 @@ impl<H: Host> Engine<H> {
         Ok(acted)
     }
 
-    /// Does what is ready.
-    fn do_ready<L: Ledger>(
-        &mut self,
-        natives: &Natives,
-        ready: Ready,
-        steps: &mut Steps<L>,
-    ) -> Result<Acted, NoMemory>
-        ensures means { IfOk result (λ acted.
-            Same (names_of natives.now) H.table self.new self.old
-            (acted_next (names_of natives.now) H.table acted self.new.question)
-            (ready_next (names_of natives.now) H.table ready)) }
-        ensures moves { IfOk result (λ acted. Moves acted (ready_free ready) self.new self.old) }
-        ensures opens { IfOk result (λ acted. Opens acted self.new self.old) }
-        ensures steps { steps.old ≤ steps.new }
-        ensures counts { Counts steps.new steps.old self.new self.old }
-        ensures kept { OnErr result (self.new.made ≡ self.old.made) }
-    {
-        match ready {
-            Ready::Command { words, levels } => {
-                let acted = self.do_command(natives, words, levels, steps)?;
-                Ok(acted)
-            }
-            Ready::Branch { branch, value } => {
-                let acted = self.go_on(branch, value)?;
-                Ok(acted)
-            }
-            Ready::TooDeep => Ok(Acted::TooDeep),
-            Ready::Spent => Ok(Acted::Spent),
-        }
-    }
-
     /// Runs on until all ends or a question is asked.
     fn run<L: Ledger>(
         &mut self,
@@ -115,11 +84,22 @@ impl<H: Host> Engine<H> {
                 }
                 AtRest::Ready(ready) => ready,
             };
-            match self.do_ready(natives, ready, steps)? {
-                Acted::Gives(value) => step = Step::Value(value),
-                Acted::Asks(question) => return Ok(Outcome::Asks(question)),
-                Acted::TooDeep => return Ok(Outcome::TooDeep),
-                Acted::Spent => return Ok(Outcome::Spent),
+            match ready {
+                Ready::TooDeep => return Ok(Outcome::TooDeep),
+                Ready::Spent => return Ok(Outcome::Spent),
+                Ready::Branch { branch, value } => match self.go_on(natives, branch, value)? {
+                    Gone::Goes(next) => step = next,
+                    Gone::TooDeep => return Ok(Outcome::TooDeep),
+                    Gone::Spent => return Ok(Outcome::Spent),
+                },
+                Ready::Command { words, levels } => {
+                    match self.do_command(natives, words, levels, steps)? {
+                        Acted::Gives(value) => step = Step::Value(value),
+                        Acted::Asks(question) => return Ok(Outcome::Asks(question)),
+                        Acted::TooDeep => return Ok(Outcome::TooDeep),
+                        Acted::Spent => return Ok(Outcome::Spent),
+                    }
+                }
             }
         }
     }

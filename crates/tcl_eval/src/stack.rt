@@ -1,5 +1,8 @@
 //! Suspended work.
 
+ghost use Rattle.std.specs.Prelude.{◌≡◌};
+ghost use Rattle.tcl_eval.specs.Engine.{Enters, gone_of};
+
 use crate::branch::Branch;
 use crate::gather::{Gathered, SoFar};
 use crate::place::Place;
@@ -133,4 +136,25 @@ pub enum Acted {
     Asks(Question),
     TooDeep,
     Spent,
+}
+
+/// How a run goes on behind a choice, a loop or a page.
+#[derive(Drop)]
+pub enum Gone {
+    Goes(Step),
+    TooDeep,
+    Spent,
+}
+
+/// How a run goes on behind what asked nothing.
+pub fn gone_from(acted: Acted) -> Gone
+    requires { Enters acted (Unit {0}) }
+    ensures { result ≡ gone_of acted }
+{
+    match acted {
+        Acted::Gives(value) => Gone::Goes(Step::Value(value)),
+        Acted::TooDeep => Gone::TooDeep,
+        Acted::Spent => Gone::Spent,
+        Acted::Asks(_) => unreachable!(),
+    }
 }

@@ -12,7 +12,7 @@ returns-in-Some-clause-means g c = λ ns opened gv.
     let all = c.args.branches.value in
     let found = rw c.deref.ensures at c.in-Some.ensures in
     let count = rw c.deref-in-Some.ensures at c.len.ensures in
-    choose_step ns g.H.Host.table e.stack.items c.push.new.self.items c.in_ok-again-in-Some.again all c.in-Some.clause.now c.in_ok-condition-in-Some.condition c.in_ok-body-in-Some.body c.args.at _ c.args.levels (state_of e) e.budget gv _ c.in_ok-push-in-Some.ensures.items c.in_ok-again-in-Some.ensures.cases found (omega (arith, c.place_behind-next.ensures, count)) (c.in_ok-condition-in-Some.ensures ∙ c.bytes.ensures) (c.in_ok-body-in-Some.ensures ∙ c.bytes-in-Some.ensures) (c.in_ok-acted-in-Some.ensures.means ns opened gv)
+    choose_step ns g.H.Host.table e.stack.items c.push.new.self.items c.in_ok-again-in-Some.again all c.in-Some.clause.now c.in_ok-condition-in-Some.condition c.in_ok-body-in-Some.body c.args.at _ c.args.levels (state_of e) e.budget gv _ c.in_ok-push-in-Some.ensures.items c.in_ok-again-in-Some.ensures.cases found (omega (arith, c.place_behind-next.ensures, count)) (c.in_ok-condition-in-Some.ensures) (c.in_ok-body-in-Some.ensures) (c.in_ok-acted-in-Some.ensures.means ns opened gv)
 
 pub returns-in-None-last-clause-means : goal.returns-in-None-last-clause-means
 returns-in-None-last-clause-means g c = λ ns opened gv.

@@ -18,7 +18,7 @@ returns-clause-means g c =
     let tree = tree_of c.args.script.value in
     IfOk-weaker c.next_costly.result _ _
     (λ step means ns gv. means ns gv
-    ∙ waits_behind ns t e.stack.items c.push.new.self.items c.args.script c.in_ok-again.again c.args.at c.args.levels (λ k. run_costly (nested ns t c.args.levels) (words_from c.args.word (command_at c.args.at tree)) k) (state_of e) e.budget gv c.in_ok-push.ensures.items c.in_ok-again.ensures.cases)
+    ∙ waits_behind ns t e.stack.items c.push.new.self.items c.args.script.value c.in_ok-again.again c.args.at c.args.levels (λ k. run_costly (nested ns t c.args.levels) (words_from c.args.word (command_at c.args.at tree)) k) (state_of e) e.budget gv c.in_ok-push.ensures.items c.in_ok-again.ensures.cases)
     c.next_costly.ensures.means
 
 pub returns-clause-falls : goal.returns-clause-falls

@@ -1,0 +1,405 @@
+//! Turns of loops for which nothing is put on the stack.
+
+ghost use Rattle.std.specs.Prelude.{◌≡◌, ℕ, [], IfOk, IfSome, OnOk, Some};
+ghost use Rattle.natives.specs.Names.{names_of};
+ghost use Rattle.txt_core.specs.Names.{Bytes, Names};
+ghost use Rattle.parse_cache.specs.Readings.{IsReading};
+ghost use Rattle.tcl_host.specs.Codes as code_of;
+ghost use Rattle.tcl_eval.specs.State.{Rest};
+ghost use Rattle.tcl_eval.specs.Eval.{Inner, by_truth, nested, on_ok, pay, run_commands, run_script, unread};
+ghost use Rattle.tcl_eval.specs.Expressions.{test};
+ghost use Rattle.tcl_eval.specs.Loops.{between, in_loop, turn_body, turns};
+ghost use Rattle.tcl_eval.specs.Places.{tree_of};
+ghost use Rattle.tcl_eval.specs.Stack.{step_next};
+ghost use Rattle.tcl_eval.specs.Straight.{Alike, Straightly};
+ghost use Rattle.tcl_eval.specs.Turns.{IsBehind, IsSet, IsTested, IsTruth, IsTurnSet, Leads, TestPays, TurnPays, ran_next, tested_next, turn_next};
+ghost use Rattle.tcl_eval.specs.Engine.{Holds, Same, Stays};
+ghost use Rattle.tcl_eval.specs.declared.branch.Turning.{Turning};
+
+use crate::branch::Turning;
+use crate::engine::Engine;
+use crate::expr_reading::ExprReading;
+use crate::expression::{EVALUATION_COST, MOST_AT_ONCE};
+use crate::loops::{Flow, TURN_COST, flow_from};
+use crate::message::{no_boolean, script_fault};
+use crate::read_expr::ReadExpr;
+use crate::simple_value::simple_value;
+use crate::stack::{Ended, Ready, Step};
+use crate::straight::Stand;
+use crate::value::{done, error};
+use natives::Natives;
+use parse_cache::{ReadScript, Reading};
+use std::rc::Rc;
+use tcl_host::{Host, OK};
+use tcl_parse::Script;
+use txt_core::{NoMemory, read_truth};
+
+/// What a text came to that was run as a script, as far as nothing is put on the stack for it.
+#[derive(Drop)]
+pub enum Ran {
+    Ends(Ended),
+    TooDeep,
+    /// The script stands here.
+    Stands {
+        script: Rc<Script>,
+        stand: Stand,
+        levels: u32,
+    },
+}
+
+/// What a condition comes to for which nothing is run.
+#[derive(Drop)]
+pub enum Tested {
+    Holds,
+    Fails,
+    /// It has this code, or no truth.
+    Ends(Ended),
+    Spent,
+    /// Something may be run for it, and nothing of it was done.
+    Left,
+}
+
+/// What is left of a turn of a loop that was begun.
+#[derive(Drop)]
+pub enum Turn {
+    /// The loop ends with this.
+    Ends(Ended),
+    Spent,
+    /// All of it: something may be run for its condition.
+    Whole,
+    /// Its body stands here.
+    Body(Ran),
+    /// The script behind its body stands here.
+    Next(Ran),
+}
+
+/// A loop under way: what is left of its turn, and how many turns may come behind that.
+#[derive(Drop)]
+pub struct Turned {
+    pub turn: Turn,
+    pub left: u64,
+}
+
+#[tactic(auto, using(crate::proofs::Stacks::frees_push))]
+impl<H: Host> Engine<H> {
+    /// Runs what a text is as a script, as far as nothing is put on the stack for it.
+    fn run_reading(
+        &mut self,
+        natives: &Natives,
+        reading: Reading,
+        levels: u32,
+    ) -> Result<Ran, NoMemory>
+        ensures means { IfOk result (λ ran.
+            (text : Bytes) → IsReading text reading
+            → Alike self.new self.old (ran_next (names_of natives.now) H.table ran)
+            (run_script (names_of natives.now) H.table levels (unread text))) }
+        ensures set { IfOk result (λ ran. IsSet ran) }
+        ensures straight { OnOk result (Straightly self.new self.old) }
+        ensures holds { Holds self.new self.old }
+    {
+        if levels == 0 {
+            return Ok(Ran::TooDeep);
+        }
+        match reading {
+            Reading::Fault { at, kind } => {
+                let message = script_fault(self.alloc, kind, at)?;
+                Ok(Ran::Ends(error(self.alloc, message)?))
+            }
+            Reading::Script(script) => {
+                let ran = self.run_first(natives, script, levels - 1)?;
+                Ok(ran)
+            }
+        }
+    }
+
+    /// Runs a script from its first command on, as far as nothing is put on the stack for it.
+    fn run_first(
+        &mut self,
+        natives: &Natives,
+        script: Rc<Script>,
+        levels: u32,
+    ) -> Result<Ran, NoMemory>
+        ensures means { IfOk result (λ ran.
+            Alike self.new self.old (ran_next (names_of natives.now) H.table ran)
+            (run_commands (names_of natives.now) H.table
+            (nested (names_of natives.now) H.table levels) (tree_of script.value) [])) }
+        ensures set { IfOk result (λ ran. IsSet ran) }
+        ensures straight { OnOk result (Straightly self.new self.old) }
+        ensures holds { Holds self.new self.old }
+    {
+        match self.run_straight(natives, &script, 0, done(self.alloc))? {
+            Stand::Ends(value) => Ok(Ran::Ends(value)),
+            stand => Ok(Ran::Stands {
+                script,
+                stand,
+                levels,
+            }),
+        }
+    }
+
+    /// Runs a text that was read, as far as nothing is put on the stack for it.
+    fn run_read(
+        &mut self,
+        natives: &Natives,
+        text: &ReadScript,
+        levels: u32,
+    ) -> Result<Ran, NoMemory>
+        ensures means { IfOk result (λ ran.
+            Alike self.new self.old (ran_next (names_of natives.now) H.table ran)
+            (run_script (names_of natives.now) H.table levels (unread text.now))) }
+        ensures set { IfOk result (λ ran. IsSet ran) }
+        ensures straight { OnOk result (Straightly self.new self.old) }
+        ensures holds { Holds self.new self.old }
+    {
+        let reading = text.reading()?;
+        let ran = self.run_reading(natives, reading, levels)?;
+        Ok(ran)
+    }
+
+    /// Goes on where a text stands that was run.
+    pub(crate) fn enter_ran(&mut self, ran: Ran) -> Result<Step, NoMemory>
+        requires { IsSet ran }
+        ensures means { IfOk result (λ step.
+            (names : Names)
+            → Same names H.table self.new self.old (step_next names H.table step)
+            (ran_next names H.table ran)) }
+        ensures keeps { IfOk result (λ step. Stays step self.new self.old) }
+        ensures holds { Holds self.new self.old }
+    {
+        match ran {
+            Ran::Ends(value) => Ok(Step::Value(value)),
+            Ran::TooDeep => Ok(Step::Stop(Ready::TooDeep)),
+            Ran::Stands {
+                script,
+                stand,
+                levels,
+            } => {
+                let step = self.enter_stand(script, stand, levels)?;
+                Ok(step)
+            }
+        }
+    }
+
+    /// A value as that of a condition.
+    pub(crate) fn tested(&self, value: Ended) -> Result<Tested, NoMemory>
+        ensures means { IfOk result (λ tested. (inner : Inner H) → IsTested inner tested value) }
+        ensures truth { IfOk result IsTruth }
+    {
+        if value.code != OK {
+            return Ok(Tested::Ends(value));
+        }
+        match read_truth(&value.result) {
+            None => {
+                let message = no_boolean(self.alloc, value.result.bytes())?;
+                Ok(Tested::Ends(error(self.alloc, message)?))
+            }
+            Some(true) => Ok(Tested::Holds),
+            Some(false) => Ok(Tested::Fails),
+        }
+    }
+
+    /// Pays for a condition that came to this.
+    fn pay_tested(&mut self, value: Ended) -> Result<Tested, NoMemory>
+        ensures means { IfOk result (λ tested.
+            (inner : Inner H) (text : Bytes) (second : Rest H)
+            → Leads self.new self.old
+            (λ first k. tested_next inner text tested first second k)
+            (λ first k.
+            pay 1
+            (on_ok (λ v. by_truth v first second k) k value.code value.result))) }
+        ensures pays { IfOk result (λ tested. TestPays tested self.new self.old) }
+        ensures straight { OnOk result (Straightly self.new self.old) }
+        ensures holds { Holds self.new self.old }
+    {
+        if !self.pay(EVALUATION_COST) {
+            return Ok(Tested::Spent);
+        }
+        let tested = self.tested(value)?;
+        Ok(tested)
+    }
+
+    /// Pays for a condition and evaluates it, where nothing is run for it.
+    fn test_straight(&mut self, condition: &ReadExpr) -> Result<Tested, NoMemory>
+        ensures means { IfOk result (λ tested.
+            (names : Names) (levels : ℕ) (second : Rest H)
+            → Leads self.new self.old
+            (λ first k.
+            tested_next (nested names H.table levels) condition.now tested first second k)
+            (λ first k. test (nested names H.table levels) condition.now first second k)) }
+        ensures pays { IfOk result (λ tested. TestPays tested self.new self.old) }
+        ensures straight { OnOk result (Straightly self.new self.old) }
+        ensures holds { Holds self.new self.old }
+    {
+        match condition.reading() {
+            ExprReading::Bad { .. } => Ok(Tested::Left),
+            ExprReading::Good(expr) => {
+                match simple_value(self.alloc, &self.frames, expr, MOST_AT_ONCE)? {
+                    None => Ok(Tested::Left),
+                    Some(value) => {
+                        let tested = self.pay_tested(value)?;
+                        Ok(tested)
+                    }
+                }
+            }
+        }
+    }
+
+    /// Does the turn of a loop whose condition comes next, as far as nothing is put on the stack for it;
+    /// `None` where the next turn comes.
+    fn turn_straight(
+        &mut self,
+        natives: &Natives,
+        turning: &Turning,
+        levels: u32,
+    ) -> Result<Option<Turn>, NoMemory>
+        ensures means { IfOk result (λ turn.
+            Leads self.new self.old
+            (turn_next (names_of natives.now) H.table
+            (nested (names_of natives.now) H.table levels) turning.now turn)
+            (λ go k.
+            test (nested (names_of natives.now) H.table levels) turning.now.condition
+            (turn_body (nested (names_of natives.now) H.table levels) turning.now go k)
+            (k code_of.ok []) k)) }
+        ensures pays { IfOk result (λ turn. TurnPays 1 2 turn self.new self.old) }
+        ensures set { IfOk result (λ turn. IfSome turn IsTurnSet) }
+        ensures straight { OnOk result (Straightly self.new self.old) }
+        ensures holds { Holds self.new self.old }
+    {
+        match self.test_straight(&turning.condition)? {
+            Tested::Holds => {
+                let turn = self.body_straight(natives, turning, levels)?;
+                Ok(turn)
+            }
+            Tested::Fails => Ok(Some(Turn::Ends(done(self.alloc)))),
+            Tested::Ends(value) => Ok(Some(Turn::Ends(value))),
+            Tested::Spent => Ok(Some(Turn::Spent)),
+            Tested::Left => Ok(Some(Turn::Whole)),
+        }
+    }
+
+    /// Pays for a turn and does it from its body on, as far as nothing is put on the stack for it.
+    pub(crate) fn body_straight(
+        &mut self,
+        natives: &Natives,
+        turning: &Turning,
+        levels: u32,
+    ) -> Result<Option<Turn>, NoMemory>
+        ensures means { IfOk result (λ turn.
+            Leads self.new self.old
+            (turn_next (names_of natives.now) H.table
+            (nested (names_of natives.now) H.table levels) turning.now turn)
+            (turn_body (nested (names_of natives.now) H.table levels) turning.now)) }
+        ensures pays { IfOk result (λ turn. TurnPays 1 1 turn self.new self.old) }
+        ensures set { IfOk result (λ turn. IfSome turn IsTurnSet) }
+        ensures straight { OnOk result (Straightly self.new self.old) }
+        ensures holds { Holds self.new self.old }
+    {
+        if !self.pay(TURN_COST) {
+            return Ok(Some(Turn::Spent));
+        }
+        match self.run_read(natives, &turning.body, levels)? {
+            Ran::Ends(value) => {
+                let turn = self.behind_straight(natives, turning, levels, value)?;
+                Ok(turn)
+            }
+            ran => Ok(Some(Turn::Body(ran))),
+        }
+    }
+
+    /// Does a turn from the end of its body on, as far as nothing is put on the stack for it.
+    pub(crate) fn behind_straight(
+        &mut self,
+        natives: &Natives,
+        turning: &Turning,
+        levels: u32,
+        value: Ended,
+    ) -> Result<Option<Turn>, NoMemory>
+        ensures means { IfOk result (λ turn.
+            Leads self.new self.old
+            (turn_next (names_of natives.now) H.table
+            (nested (names_of natives.now) H.table levels) turning.now turn)
+            (λ go k.
+            in_loop (between (nested (names_of natives.now) H.table levels) turning.now.next go k) k
+            value.code value.result)) }
+        ensures pays { IfOk result (λ turn. TurnPays 0 0 turn self.new self.old) }
+        ensures set { IfOk result (λ turn. IfSome turn IsTurnSet) }
+        ensures behind { IfOk result (λ turn. IfSome turn IsBehind) }
+        ensures straight { OnOk result (Straightly self.new self.old) }
+        ensures holds { Holds self.new self.old }
+    {
+        match flow_from(self.alloc, value) {
+            Flow::Ends(value) => Ok(Some(Turn::Ends(value))),
+            Flow::On => match &turning.next {
+                None => Ok(None),
+                Some(next) => {
+                    let turn = self.between_straight(natives, next, levels)?;
+                    Ok(turn)
+                }
+            },
+        }
+    }
+
+    /// Runs the script between two turns, as far as nothing is put on the stack for it.
+    fn between_straight(
+        &mut self,
+        natives: &Natives,
+        next: &ReadScript,
+        levels: u32,
+    ) -> Result<Option<Turn>, NoMemory>
+        ensures means { IfOk result (λ turn.
+            (turning : Turning)
+            → Leads self.new self.old
+            (turn_next (names_of natives.now) H.table
+            (nested (names_of natives.now) H.table levels) turning turn)
+            (λ go k.
+            run_script (names_of natives.now) H.table levels (unread next.now) (in_loop go k))) }
+        ensures pays { IfOk result (λ turn. TurnPays 0 0 turn self.new self.old) }
+        ensures set { IfOk result (λ turn. IfSome turn IsTurnSet) }
+        ensures behind { IfOk result (λ turn. IfSome turn IsBehind) }
+        ensures straight { OnOk result (Straightly self.new self.old) }
+        ensures holds { Holds self.new self.old }
+    {
+        match self.run_read(natives, next, levels)? {
+            Ran::Ends(value) => match flow_from(self.alloc, value) {
+                Flow::Ends(value) => Ok(Some(Turn::Ends(value))),
+                Flow::On => Ok(None),
+            },
+            ran => Ok(Some(Turn::Next(ran))),
+        }
+    }
+
+    /// Does turns of a loop, of which so many are left, as far as nothing is put on the stack for them.
+    pub(crate) fn turns_straight(
+        &mut self,
+        natives: &Natives,
+        turning: &Turning,
+        left: u64,
+        levels: u32,
+    ) -> Result<Turned, NoMemory>
+        ensures means { IfOk result (λ turned.
+            Alike self.new self.old
+            (λ k.
+            turn_next (names_of natives.now) H.table
+            (nested (names_of natives.now) H.table levels) turning.now (Some turned.turn)
+            (turns (nested (names_of natives.now) H.table levels) turning.now turned.left k) k)
+            (turns (nested (names_of natives.now) H.table levels) turning.now left)) }
+        ensures pays { IfOk result (λ turned.
+            TurnPays 1 2 (Some turned.turn) self.new self.old) }
+        ensures set { IfOk result (λ turned. IsTurnSet turned.turn) }
+        ensures straight { OnOk result (Straightly self.new self.old) }
+        ensures holds { Holds self.new self.old }
+    {
+        let mut left = left;
+        'turns: while left > 0 {
+            left -= 1;
+            match self.turn_straight(natives, turning, levels)? {
+                None => {}
+                Some(turn) => return Ok(Turned { turn, left }),
+            }
+        }
+        Ok(Turned {
+            turn: Turn::Spent,
+            left: 0,
+        })
+    }
+}
