@@ -1,6 +1,6 @@
 use Rattle.natives.specs.Names.{names_of}
 use Rattle.std.proofs.Common.{◌∙◌, arith}
-use Rattle.tcl_eval.proofs.Counts.{counted_both, counted_on}
+use Rattle.tcl_eval.proofs.Counts.{counted_on}
 use Rattle.tcl_eval.specs.Stack.{step_next}
 use Rattle.tcl_eval.proofs.Fronts.{on_err, step_front}
 use Rattle.tcl_eval.specs.Engine.{gives}
@@ -8,58 +8,32 @@ use Rattle.tcl_eval.specs.State.{Given}
 use Rattle.tcl_eval.specs.Laws.{state_in, IsFront}
 use Rattle.tcl_eval.proofs.engine.Engine.run.Goals as goal
 
-pub steps-preserved : goal.steps-preserved
-steps-preserved g c =
-    let ns = names_of c.args.natives.now in
-    let settled = rw c.in-Ready.is at c.in_ok-value.ensures.means in
-    let did = rw c.in-Gives.is at c.in_ok-value-2.ensures.means in
-    let moved = rw c.in-Gives.is at c.in_ok-value-2.ensures.moves in
-    let opened = rw c.in-Gives.is at c.in_ok-value-2.ensures.opens in
+pub steps-preserved-in-Goes : goal.steps-preserved-in-Goes
+steps-preserved-in-Goes g c =
+    let settled = rw (c.in-Ready.is, c.in-Branch.is) at c.in_ok-value.ensures.means in
+    let went = rw c.in-Goes.is at c.in_ok-next-in-Branch.ensures.means in
+    let remains = c.in_ok-next-in-Branch.ensures.remains in
+    let before = c.in_ok-value.ensures.keeps in
     record {
-      means = λ gv. did gv ∙ settled gv ∙ c.steps.invariant.means gv;
-      closed = opened ∙ c.in_ok-value.ensures.keeps.1 ∙ c.steps.invariant.closed;
-      lower = omega (arith, moved.0, c.in_ok-value.ensures.keeps.0, c.steps.invariant.lower);
-      steps = omega (arith, c.in_ok-value-2.ensures.steps, c.steps.invariant.steps);
-      counts = counted_both c.do_ready.new.steps c.steps.steps c.args.steps.now c.do_ready.new.self c.settle.new.self c.args.self.now c.in_ok-value-2.ensures.counts
+      means = λ gv. went gv ∙ settled gv ∙ c.steps.invariant.means gv;
+      closed = remains.1 ∙ before.1 ∙ c.steps.invariant.closed;
+      lower = omega (arith, remains.0, before.0, c.steps.invariant.lower);
+      steps = c.steps.invariant.steps;
+      counts = counted_on c.steps.steps c.args.steps.now c.go_on.new.self c.settle.new.self c.args.self.now c.in_ok-next-in-Branch.ensures.holds
           (counted_on c.steps.steps c.args.steps.now c.settle.new.self c.steps.self c.args.self.now c.in_ok-value.ensures.holds c.steps.invariant.counts);
     }
 
-pub returns-in-Asks-clause-means : goal.returns-in-Asks-clause-means
-returns-in-Asks-clause-means g c = λ gv.
-    let settled = rw c.in-Ready.is at c.in_ok-value.ensures.means in
-    let did = rw c.in-Asks.is at c.in_ok-value-2.ensures.means in
-    did gv ∙ settled gv ∙ c.steps.invariant.means gv
+pub returns-in-TooDeep-2-clause-means : goal.returns-in-TooDeep-2-clause-means
+returns-in-TooDeep-2-clause-means g c = λ gv.
+    let settled = rw (c.in-Ready.is, c.in-Branch.is) at c.in_ok-value.ensures.means in
+    let went = rw c.in-TooDeep-2.is at c.in_ok-next-in-Branch.ensures.means in
+    went gv ∙ settled gv ∙ c.steps.invariant.means gv
 
-pub returns-in-TooDeep-clause-means : goal.returns-in-TooDeep-clause-means
-returns-in-TooDeep-clause-means g c = λ gv.
-    let settled = rw c.in-Ready.is at c.in_ok-value.ensures.means in
-    let did = rw c.in-TooDeep.is at c.in_ok-value-2.ensures.means in
-    did gv ∙ settled gv ∙ c.steps.invariant.means gv
-
-pub returns-in-Spent-clause-means : goal.returns-in-Spent-clause-means
-returns-in-Spent-clause-means g c = λ gv.
-    let settled = rw c.in-Ready.is at c.in_ok-value.ensures.means in
-    let did = rw c.in-Spent.is at c.in_ok-value-2.ensures.means in
-    did gv ∙ settled gv ∙ c.steps.invariant.means gv
-
-pub returns-in-Asks-clause-counts : goal.returns-in-Asks-clause-counts
-returns-in-Asks-clause-counts g c =
-    counted_both c.do_ready.new.steps c.steps.steps c.args.steps.now c.do_ready.new.self c.settle.new.self c.args.self.now c.in_ok-value-2.ensures.counts
-    (counted_on c.steps.steps c.args.steps.now c.settle.new.self c.steps.self c.args.self.now c.in_ok-value.ensures.holds c.steps.invariant.counts)
-
-pub returns-in-TooDeep-clause-counts : goal.returns-in-TooDeep-clause-counts
-returns-in-TooDeep-clause-counts g c =
-    counted_both c.do_ready.new.steps c.steps.steps c.args.steps.now c.do_ready.new.self c.settle.new.self c.args.self.now c.in_ok-value-2.ensures.counts
-    (counted_on c.steps.steps c.args.steps.now c.settle.new.self c.steps.self c.args.self.now c.in_ok-value.ensures.holds c.steps.invariant.counts)
-
-pub returns-in-Spent-clause-counts : goal.returns-in-Spent-clause-counts
-returns-in-Spent-clause-counts g c =
-    counted_both c.do_ready.new.steps c.steps.steps c.args.steps.now c.do_ready.new.self c.settle.new.self c.args.self.now c.in_ok-value-2.ensures.counts
-    (counted_on c.steps.steps c.args.steps.now c.settle.new.self c.steps.self c.args.self.now c.in_ok-value.ensures.holds c.steps.invariant.counts)
-
-pub returns-in-Ended-clause-counts : goal.returns-in-Ended-clause-counts
-returns-in-Ended-clause-counts g c =
-    counted_on c.steps.steps c.args.steps.now c.settle.new.self c.steps.self c.args.self.now c.in_ok-value.ensures.holds c.steps.invariant.counts
+pub returns-in-Spent-2-clause-means : goal.returns-in-Spent-2-clause-means
+returns-in-Spent-2-clause-means g c = λ gv.
+    let settled = rw (c.in-Ready.is, c.in-Branch.is) at c.in_ok-value.ensures.means in
+    let went = rw c.in-Spent-2.is at c.in_ok-next-in-Branch.ensures.means in
+    went gv ∙ settled gv ∙ c.steps.invariant.means gv
 
 pub returns-in_err-value-clause-front : goal.returns-in_err-value-clause-front
 returns-in_err-value-clause-front g c =
@@ -71,13 +45,24 @@ returns-in_err-value-clause-front g c =
     λ given. step_front ns t c.steps.step way c.settle.new.self c.steps.self e given c.in_err-value.ensures.holds.1 c.steps.invariant.means in
     on_err _ front
 
-pub returns-in_err-value-2-clause-front : goal.returns-in_err-value-2-clause-front
-returns-in_err-value-2-clause-front g c =
+pub returns-in_err-next-in-Branch-clause-front : goal.returns-in_err-next-in-Branch-clause-front
+returns-in_err-next-in-Branch-clause-front g c =
     let ns = names_of c.args.natives.now in
     let t = g.H.Host.table in
     let e = c.args.self.now in
     let way = step_next ns t c.args.step in
-    let same = c.in_err-value-2.ensures.kept ∙ c.in_ok-value.ensures.holds.1 in
-    let front : (given : Given) → IsFront c.do_ready.new.self.made (state_in (gives ns t way e given)).made =
-    λ given. step_front ns t c.steps.step way c.do_ready.new.self c.steps.self e given same c.steps.invariant.means in
+    let same = c.in_err-next-in-Branch.ensures.holds.1 ∙ c.in_ok-value.ensures.holds.1 in
+    let front : (given : Given) → IsFront c.go_on.new.self.made (state_in (gives ns t way e given)).made =
+    λ given. step_front ns t c.steps.step way c.go_on.new.self c.steps.self e given same c.steps.invariant.means in
+    on_err _ front
+
+pub returns-in_err-value-in-Command-clause-front : goal.returns-in_err-value-in-Command-clause-front
+returns-in_err-value-in-Command-clause-front g c =
+    let ns = names_of c.args.natives.now in
+    let t = g.H.Host.table in
+    let e = c.args.self.now in
+    let way = step_next ns t c.args.step in
+    let same = c.in_err-value-in-Command.ensures.kept ∙ c.in_ok-value.ensures.holds.1 in
+    let front : (given : Given) → IsFront c.do_command.new.self.made (state_in (gives ns t way e given)).made =
+    λ given. step_front ns t c.steps.step way c.do_command.new.self c.steps.self e given same c.steps.invariant.means in
     on_err _ front
