@@ -12,7 +12,7 @@ use std::rc::Rc;
 use txt_core::{NoMemory, Text};
 
 /// How many texts are kept, beside those at the places.
-const MOST_KEPT: usize = 448;
+const MOST_KEPT: usize = 512;
 
 /// How many bytes a text may have that is kept.
 const LONGEST_KEPT: usize = 4_096;

@@ -23,7 +23,7 @@ use tcl_host::Host;
 use txt_core::{NoMemory, Text, Words};
 
 /// How many scripts an engine keeps by their texts, beside those that it ran most lately.
-const SCRIPTS: usize = 448;
+const SCRIPTS: usize = 512;
 
 /// How many bytes a text has at most whose script is kept. A longer one is read each time.
 const MOST_KEPT_BYTES: usize = 4_096;
