@@ -16,8 +16,8 @@ ghost use Rattle.tcl_eval.specs.declared.engine.OpenQuestion.{OpenQuestion};
 
 use crate::branch::{Branch, Turning, Walk, place_behind};
 use crate::engine::Engine;
-use crate::read_expr::read_word;
 use crate::loop_turns::{Tested, Turn};
+use crate::read_expr::read_word;
 use crate::stack::{Acted, Ended, Frame, Gone, Step, gone_from};
 use crate::value::{done, wrong_words};
 use crate::words::{copy_word, word_at};

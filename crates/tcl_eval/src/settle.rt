@@ -611,12 +611,7 @@ impl<H: Host> Engine<H> {
 
     /// Gives a frame, which stood on top, the code and result for which it waited.
     #[tactic(auto, using(crate::proofs::Stacks::frees_push, crate::proofs::Tails::stays_remains, crate::proofs::Tails::stays_free))]
-    fn give(
-        &mut self,
-        natives: &Natives,
-        frame: Frame,
-        value: Ended,
-    ) -> Result<Step, NoMemory>
+    fn give(&mut self, natives: &Natives, frame: Frame, value: Ended) -> Result<Step, NoMemory>
         ensures means { IfOk result (λ step.
             Same (names_of natives.now) H.table self.new self.old
             (step_next (names_of natives.now) H.table step) (λ k.

@@ -123,11 +123,7 @@ impl<H: Host> Engine<H> {
     }
 
     /// Does a built-in, whose own name is the first word, where it comes to a value straight away.
-    fn built_value(
-        &mut self,
-        natives: &Natives,
-        words: &Words,
-    ) -> Result<Option<Ended>, NoMemory>
+    fn built_value(&mut self, natives: &Natives, words: &Words) -> Result<Option<Ended>, NoMemory>
         ensures means { IfOk result (λ value.
             ValueOf value
             (λ ended. (inner : Inner H)

@@ -68,9 +68,9 @@ commands-preserved g c =
     let before = c.commands.invariant.straight in
     record {
       means = λ levels k gv.
-      let inner = nested ns t levels in
-      next_one ns t inner tree c.commands.at c.commands.value k (state_of e) e.budget gv _ c.commands-test.true c.if-not-has_command.ensures.there (did levels (behind_command ns t inner tree c.commands.at k) gv)
-      ∙ c.commands.invariant.means levels k gv;
+          let inner = nested ns t levels in
+          next_one ns t inner tree c.commands.at c.commands.value k (state_of e) e.budget gv _ c.commands-test.true c.if-not-has_command.ensures.there (did levels (behind_command ns t inner tree c.commands.at k) gv)
+          ∙ c.commands.invariant.means levels k gv;
       size = omega (arith, less_left tree c.commands.at c.if-not-has_command.ensures.there, c.commands.invariant.size);
       straight = (omega (arith, straight.0, before.0), straight.1 ∙ before.1, straight.2 ∙ before.2);
       holds = held_both c.next_straight.new.self e c.args.self.now c.in_ok-next.ensures.holds c.commands.invariant.holds;
