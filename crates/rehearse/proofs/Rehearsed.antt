@@ -493,14 +493,16 @@ pub runs_out_at_once : (natives : List (List ℕ)) (outside : Outside) → Rehea
 runs_out_at_once natives outside = (
   (omega arith, omega arith),
   record {
-    given = [];
-    events = [];
     lines = [];
-    world = opening natives;
-    left = [];
-    read = gives_none outside.input;
-    opens = record { text_is = refl; in_time = omega arith; plays = no_event };
-    input = λ input is events all end holds. (all, refl);
+    played = record {
+      given = [];
+      events = [];
+      world = opening natives;
+      left = [];
+      read = gives_none outside.input;
+      opens = record { text_is = refl; in_time = omega arith; plays = no_event };
+      input = λ input is events all end holds. (all, refl);
+    };
     written = gains_none outside.output;
   },
 )
