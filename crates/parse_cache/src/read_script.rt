@@ -47,6 +47,13 @@ impl ReadScript {
         ReadScript { text, reading }
     }
 
+    /// The text.
+    pub fn text(&self) -> &Text
+        ensures { result.now ≡ self.now }
+    {
+        &self.text
+    }
+
     /// What the text is as a script; a script is shared. The only error is want of memory.
     pub fn reading(&self) -> Result<Reading, NoMemory>
         ensures { IfOk result (λ read. IsReading self.now read) }

@@ -1,7 +1,7 @@
 -- What a function returned, carried from one fact about outcomes to another.
 use Rattle.std.proofs.Common.{ℕ, List, Result, Ok, Err}
-use Rattle.tcl_parse.specs.declared.fault.Stop.{Stop}
-use Rattle.tcl_parse.specs.declared.fault.Stop.TheVariants as stop
+use Rattle.txt_core.specs.declared.stop.Stop.{Stop}
+use Rattle.txt_core.specs.declared.stop.Stop.TheVariants as stop
 use Rattle.tcl_expr.specs.Outcome.{Outcome, done, bad}
 use Rattle.tcl_expr.specs.Trees.{Tree}
 use Rattle.tcl_expr.specs.Answers.{Stopped, Gives}

@@ -3,7 +3,8 @@ use Rattle.std.proofs.Common.{◌≡◌, ℕ, zero, suc, List, [], ◌∷◌, Bo
 use Rattle.std.specs.Prelude.{◌==◌, if◌then◌else◌}
 use Rattle.std.proofs.lemmas.Bool.{ne_eqb}
 use Rattle.txt_core.specs.Number.{is_space, trimmed_front}
-use Rattle.tcl_parse.specs.Bytes.{begins_with, newline}
+use Rattle.txt_core.specs.Texts.{begins_with}
+use Rattle.tcl_parse.specs.Bytes.{newline}
 use Rattle.tcl_expr.specs.declared.operator.Op.{Op}
 use Rattle.tcl_expr.specs.Tokens.{single, double, sign, before, either, counted, next_operator, next_sign, next_question, next_colon}
 use Rattle.tcl_expr.proofs.Tokens.{with_count}

@@ -4,7 +4,8 @@ use Rattle.std.specs.Prelude.{◌-◌, if◌then◌else◌}
 use Rattle.std.proofs.lemmas.Bool.{eqb-true}
 use Rattle.std.proofs.lemmas.List.{length-append}
 use Rattle.txt_core.specs.Number.{trimmed_front}
-use Rattle.tcl_parse.specs.Bytes.{begins_with, newline, backslash}
+use Rattle.txt_core.specs.Texts.{begins_with}
+use Rattle.tcl_parse.specs.Bytes.{newline, backslash}
 use Rattle.tcl_parse.specs.declared.fault.Kind.{Kind}
 use Rattle.tcl_parse.specs.declared.fault.Kind.TheVariants.{Quote, Brace, Bracket, Variable, Extra, Deep}
 use Rattle.tcl_parse.specs.Tree.{Part, Word}

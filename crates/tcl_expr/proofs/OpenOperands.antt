@@ -9,7 +9,8 @@ use Rattle.std.proofs.lemmas.List.{length-drop, take_all, take-append-drop}
 use Rattle.std.proofs.lemmas.List.Folds.{list_all-append}
 use Rattle.std.proofs.lemmas.List.Sums.{prefix_len-le-length}
 use Rattle.txt_core.specs.Number.{is_space, trimmed_front, number}
-use Rattle.tcl_parse.specs.Bytes.{begins_with, backslash}
+use Rattle.txt_core.specs.Texts.{begins_with}
+use Rattle.tcl_parse.specs.Bytes.{backslash}
 use Rattle.tcl_parse.specs.Tree.{Part, Word}
 use Rattle.tcl_parse.specs.Outcome as script_outcome
 use Rattle.tcl_parse.specs.Steps as steps

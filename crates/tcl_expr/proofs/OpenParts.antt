@@ -10,13 +10,14 @@ use Rattle.std.proofs.lemmas.List.Sums.{prefix_len-le-length}
 use Rattle.txt_core.specs.Escape.{escape_of}
 use Rattle.txt_core.specs.Number.{is_space, trimmed_front}
 use Rattle.tcl_parse.specs.declared.fault.Kind.{Kind}
-use Rattle.tcl_parse.specs.Bytes.{begins_with, newline, is_name}
+use Rattle.tcl_parse.specs.Bytes.{newline, is_name}
 use Rattle.tcl_parse.specs.Tree.{Part, Word}
 use Rattle.tcl_parse.specs.Names.{name_at, up_to, named_part}
 use Rattle.tcl_parse.specs.Outcome.{done, fault}
 use Rattle.tcl_parse.specs.Steps.{Substitution, named, indexed, opened, unnamed, Step, ends, bytes, substituted, behind_dollar, between_braces, behind_name, by_name, step_at}
 use Rattle.tcl_parse.specs.Grammar.{PartIs, InBracket, InIndex}
 use Rattle.txt_core.specs.Limits.{most_nested}
+use Rattle.txt_core.specs.Texts.{begins_with}
 use Rattle.tcl_parse.specs.Laws.Within.{bracket_within, index_within}
 use Rattle.tcl_expr.specs.declared.operator.Op.{Op}
 use Rattle.tcl_expr.specs.declared.operator.Op.TheVariants.{EqNumber, NeNumber, EqText, NeText}

@@ -6,7 +6,7 @@ use Rattle.std.proofs.lemmas.Bool.{eqb-true}
 use Rattle.txt_core.specs.Escape.{skip_margin}
 use Rattle.tcl_parse.specs.declared.fault.Kind.{Kind}
 use Rattle.tcl_parse.specs.declared.fault.Kind.TheVariants.{Extra}
-use Rattle.tcl_parse.specs.Bytes.{begins_with, newline, joins_lines}
+use Rattle.tcl_parse.specs.Bytes.{newline, joins_lines}
 use Rattle.tcl_parse.specs.Gaps.{skip, skip_blanks, between, ends_word, at_end}
 use Rattle.tcl_parse.specs.Tree.{Part, Word, Command, Script, element, bracket, parts, commands, literal}
 use Rattle.tcl_parse.specs.Names.{named_part}
@@ -16,6 +16,7 @@ use Rattle.tcl_parse.specs.Grammar.{PartIs, PartsAt, no_part, some_bytes, bad_pa
 use Rattle.tcl_parse.specs.Braces.{Braced, BracedAt, matching_brace, joined_lines, taken_byte, inner_braces, plain_byte}
 use Rattle.tcl_parse.specs.Laws.Braces.{Inside, braced, passes, is_escaped, braced_is, reads_matched, braced_shut}
 use Rattle.txt_core.specs.Counting.{in_front}
+use Rattle.txt_core.specs.Texts.{begins_with}
 use Rattle.tcl_parse.specs.Laws.Braces as braces
 use Rattle.tcl_parse.specs.Laws.Within.{Within, bracket_within, index_within}
 use Rattle.tcl_expr.specs.Grammar.{fault_place}

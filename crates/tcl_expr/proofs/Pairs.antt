@@ -6,12 +6,13 @@ use Rattle.std.proofs.Math.Nat.{eq-or-lt_of_le}
 use Rattle.std.proofs.lemmas.Bool.{eqb-true}
 use Rattle.std.proofs.lemmas.List.{length-append}
 use Rattle.txt_core.specs.Number.{trimmed_front}
-use Rattle.tcl_parse.specs.Bytes.{begins_with, newline, backslash}
+use Rattle.tcl_parse.specs.Bytes.{newline, backslash}
 use Rattle.tcl_parse.specs.declared.fault.Kind.{Kind}
 use Rattle.tcl_parse.specs.Tree.{Part, Word}
 use Rattle.tcl_parse.specs.Outcome as script_outcome
 use Rattle.tcl_parse.specs.Grammar.{Opening, by_brace, by_quote, bare, opening, InBracket, InIndex}
 use Rattle.txt_core.specs.Limits.{most_nested}
+use Rattle.txt_core.specs.Texts.{begins_with}
 use Rattle.tcl_parse.specs.Laws.Within.{bracket_within, index_within}
 use Rattle.tcl_expr.specs.declared.operator.Op.{Op}
 use Rattle.tcl_expr.specs.Trees.{Tree, value}

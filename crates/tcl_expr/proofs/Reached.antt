@@ -6,7 +6,8 @@ use Rattle.std.proofs.lemmas.Bool.{eqb-true}
 use Rattle.std.proofs.lemmas.Bool.Decides.{nat_tests}
 use Rattle.std.proofs.lemmas.List.{length-append}
 use Rattle.std.proofs.lemmas.List.Elements.{All-nil, All-cons}
-use Rattle.tcl_parse.specs.Bytes.{begins_with, newline}
+use Rattle.txt_core.specs.Texts.{begins_with}
+use Rattle.tcl_parse.specs.Bytes.{newline}
 use Rattle.tcl_expr.specs.Trees.{Tree}
 use Rattle.tcl_expr.specs.Outcome.{Answer, tree, bad_from}
 use Rattle.tcl_expr.specs.Grammar.{Reads}

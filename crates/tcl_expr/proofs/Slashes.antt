@@ -11,7 +11,7 @@ use Rattle.std.proofs.lemmas.List.Sums.{prefix_len-le-length}
 use Rattle.txt_core.specs.Escape.{skip_margin, escape_of}
 use Rattle.txt_core.specs.Number.{trimmed_front}
 use Rattle.tcl_parse.specs.declared.fault.Kind.{Kind}
-use Rattle.tcl_parse.specs.Bytes.{begins_with, backslash}
+use Rattle.tcl_parse.specs.Bytes.{backslash}
 use Rattle.tcl_parse.specs.Tree.{Part, Word}
 use Rattle.tcl_parse.specs.Names.{name_at, up_to}
 use Rattle.tcl_parse.specs.Outcome as script_outcome
@@ -19,6 +19,7 @@ use Rattle.tcl_parse.specs.Outcome.{done, fault}
 use Rattle.tcl_parse.specs.Steps.{quotes, Substitution, named, indexed, opened, unnamed, Step, ends, bytes, substituted, behind_dollar, between_braces, by_name, step_at}
 use Rattle.tcl_parse.specs.Grammar.{PartIs, PartsAt, in_braces, in_quotes, InBracket, InIndex, close_bracket, close_index, close_brace, close_quote, opening, by_brace, by_quote}
 use Rattle.txt_core.specs.Limits.{most_nested}
+use Rattle.txt_core.specs.Texts.{begins_with}
 use Rattle.tcl_parse.specs.Braces.{Braced, BracedAt, matching_brace, joined_lines, taken_byte, inner_braces, plain_byte}
 use Rattle.tcl_parse.specs.Laws.Within.{bracket_within, index_within}
 use Rattle.tcl_expr.specs.Trees.{Tree, word}

@@ -7,8 +7,9 @@ use Rattle.std.proofs.lemmas.Bool.{ne_eqb, eqb-true}
 use Rattle.std.proofs.lemmas.List.{length-append, take-append-drop}
 use Rattle.txt_core.specs.Digits.{digit_of, leading_digits}
 use Rattle.txt_core.specs.Escape.{utf8, low_byte, letter_and_digits, byte_form, character_form, octal_form, skip_margin, letter_form, escape_of}
+use Rattle.txt_core.specs.Texts.{begins_with}
 use Rattle.tcl_parse.specs.declared.fault.Kind.TheVariants.{Extra, Deep}
-use Rattle.tcl_parse.specs.Bytes.{begins_with, newline, is_name, is_blank, ends_command, joins_lines}
+use Rattle.tcl_parse.specs.Bytes.{newline, is_name, is_blank, ends_command, joins_lines}
 use Rattle.tcl_parse.specs.Gaps.{skip, skip_blanks, between, joining, comment, escaped, Before, ends_word}
 use Rattle.tcl_parse.specs.Tree.{Part, Word, Command, Script}
 use Rattle.tcl_parse.specs.Names.{name_at, up_to}

@@ -13,7 +13,7 @@ use Rattle.txt_core.specs.Digits.{digit_of, is_digit, value_of, leading_digits}
 use Rattle.txt_core.specs.Escape.{utf8, low_byte, letter_and_digits, byte_form, character_form, octal_form, skip_margin, letter_form, escape_of}
 use Rattle.txt_core.specs.EscapeWithin.{escape_within, margin_within}
 use Rattle.tcl_parse.specs.declared.fault.Kind.TheVariants.{Variable, Extra, Deep}
-use Rattle.tcl_parse.specs.Bytes.{begins_with, newline, is_name, is_blank, ends_command, joins_lines}
+use Rattle.tcl_parse.specs.Bytes.{newline, is_name, is_blank, ends_command, joins_lines}
 use Rattle.tcl_parse.specs.Gaps.{skip, skip_blanks, between, joining, comment, escaped, Before, ends_word, at_end, closes}
 use Rattle.tcl_parse.specs.Tree.{Part, Word, Command, Script}
 use Rattle.tcl_parse.specs.Names.{name_at, up_to, named_part}
@@ -24,6 +24,7 @@ use Rattle.txt_core.specs.Limits.{most_nested}
 use Rattle.tcl_parse.specs.Braces.{BracedAt}
 use Rattle.tcl_parse.specs.Laws.Braces.{Inside, braced, passes, is_escaped, braced_is, reads_matched}
 use Rattle.txt_core.specs.Counting.{in_front}
+use Rattle.txt_core.specs.Texts.{begins_with}
 use Rattle.tcl_parse.specs.Laws.Braces as braces
 use Rattle.tcl_parse.specs.Laws.Within.{Within, skip_within, skip_blanks_within, parts_within, enclosed_within, words_within, script_within, bracket_within, index_within}
 use Rattle.tcl_parse.specs.Laws.Some.{some_in_bracket, some_in_index}

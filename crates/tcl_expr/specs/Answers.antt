@@ -2,8 +2,8 @@
 use Rattle.std.specs.Prelude.{◌≡◌, ℕ, ◌+◌, length, Option, None, Some, Result, Ok, Err, ◌-◌, ◌⊎◌}
 use Rattle.txt_core.specs.Names.{Bytes}
 use Rattle.tcl_parse.specs.declared.fault.Fault.{Fault}
-use Rattle.tcl_parse.specs.declared.fault.Stop.{Stop}
-use Rattle.tcl_parse.specs.declared.fault.Stop.TheVariants as stop
+use Rattle.txt_core.specs.declared.stop.Stop.{Stop}
+use Rattle.txt_core.specs.declared.stop.Stop.TheVariants as stop
 use Rattle.tcl_expr.specs.Trees.{Tree}
 use Rattle.tcl_expr.specs.Outcome.{Outcome, done, bad, tree, bad_from}
 use Rattle.tcl_parse.specs.Outcome as script_outcome

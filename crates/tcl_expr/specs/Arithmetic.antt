@@ -1,6 +1,6 @@
 -- Whole numbers without a bound: quotient, remainder and shifts, and which of them 64 bits hold.
 -- A number is `pos a`, which is a, or `negsuc a`, which is -(a + 1).
-use Rattle.std.specs.Prelude.{ℕ, suc, ◌-◌, ◌/◌, ◌%◌, ◌^◌, Bool, nat_lt, ℤ, pos, negsuc, neg_ℤ, ◌*ℤ◌, ◌≤ℤ◌, ◌<ℤ◌}
+use Rattle.std.specs.Prelude.{ℕ, suc, ◌-◌, ◌/◌, ◌%◌, ◌^◌, ℤ, pos, negsuc, neg_ℤ, ◌*ℤ◌, ◌≤ℤ◌, ◌<ℤ◌}
 use Rattle.std.specs.Int.{div_ceil}
 
 -- The quotient, rounded towards minus infinity: that of the magnitudes, rounded down where the signs agree, else rounded up and below 0.
@@ -28,11 +28,6 @@ shifted_left m k = m *ℤ pos (2 ^ k)
 -- m divided by 2 to the power of k, rounded down
 abbrev pub shifted_right : ℤ → ℕ → ℤ
 shifted_right m k = quotient m (pos (2 ^ k))
-
--- 64 bits with a sign hold the number: it is from -2 ^ 63 to 2 ^ 63 - 1
-abbrev pub is_held : ℤ → Bool
-is_held (pos n) = nat_lt n (2 ^ 63)
-is_held (negsuc n) = nat_lt n (2 ^ 63)
 
 -- r is from 0 up to n, or from n, where it is below 0, up to 0, and isn't n
 abbrev pub IsBetween : ℤ → ℤ → Type 0

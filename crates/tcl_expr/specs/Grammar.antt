@@ -4,11 +4,12 @@ use Rattle.txt_core.specs.Names.{Bytes}
 use Rattle.txt_core.specs.Number.{trimmed_front}
 use Rattle.tcl_parse.specs.declared.fault.Kind.{Kind}
 use Rattle.tcl_parse.specs.declared.fault.Kind.TheVariants.{Quote, Brace, Bracket, Variable, Extra, Deep}
-use Rattle.tcl_parse.specs.Bytes.{dollar, left_bracket, left_parenthesis, right_parenthesis, backslash, begins_with}
+use Rattle.tcl_parse.specs.Bytes.{dollar, left_bracket, left_parenthesis, right_parenthesis, backslash}
 use Rattle.tcl_parse.specs.Tree.{Part, Word}
 use Rattle.tcl_parse.specs.Outcome as script_outcome
 use Rattle.tcl_parse.specs.Grammar.{InBracket, InIndex, EnclosedAt, SubstitutedAt, Opening, by_brace, by_quote, bare, opening}
 use Rattle.txt_core.specs.Limits.{most_nested}
+use Rattle.txt_core.specs.Texts.{begins_with}
 use Rattle.tcl_expr.specs.declared.operator.Op.{Op}
 use Rattle.tcl_expr.specs.Trees.{Tree, value, word, binary}
 use Rattle.tcl_expr.specs.Outcome.{Outcome, done, bad, signed, chosen, Answer, tree, bad_from}

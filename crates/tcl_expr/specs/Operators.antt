@@ -1,18 +1,18 @@
 -- The table of the operators: from an operator and its operands, which are texts, to a text or the first fault that fits.
-use Rattle.std.specs.Prelude.{◌≡◌, ℕ, Bool, true, false, not, ◌&&◌, ◌||◌, ◌==◌, nat_lt, if◌then◌else◌, ℤ, pos, negsuc, neg_ℤ, ◌+ℤ◌, ◌-ℤ◌, ◌*ℤ◌, Option, None, Some, Result, Ok, Err, codes, bytes_eq}
+use Rattle.std.specs.Prelude.{◌≡◌, ℕ, Bool, not, ◌&&◌, ◌||◌, ◌==◌, nat_lt, if◌then◌else◌, ℤ, pos, negsuc, neg_ℤ, ◌+ℤ◌, ◌-ℤ◌, ◌*ℤ◌, Option, None, Some, Result, Ok, Err, bytes_eq}
 use Rattle.std.specs.Int.{w64, int_bit_and, int_bit_or, int_bit_xor, int_bit_not}
 use Rattle.std.specs.declared.cmp.Ordering.{Ordering}
 use Rattle.std.specs.Ordering.{int_cmp, nat_cmp, is_eq, is_ne, is_lt, is_gt, is_le, is_ge}
 use Rattle.std.specs.Cmp.Lexicographic.{slice_cmp}
 use Rattle.std.specs.Fmt.{signed_decimal}
 use Rattle.txt_core.specs.Names.{Bytes}
-use Rattle.txt_core.specs.Number.{number}
-use Rattle.txt_core.specs.Truth.{truth}
+use Rattle.txt_core.specs.Number.{number, fits}
+use Rattle.txt_core.specs.Truth.{truth, truth_text}
 use Rattle.tcl_expr.specs.declared.operator.Op.{Op}
 use Rattle.tcl_expr.specs.declared.operator.Op.TheVariants.{Minus, Plus, Invert, Not, Mul, Div, Rem, Add, Sub, Shl, Shr, Lt, Gt, Le, Ge, EqNumber, NeNumber, EqText, NeText, BitAnd, BitXor, BitOr, And, Or}
 use Rattle.tcl_expr.specs.declared.operator.ExprFault.{ExprFault}
 use Rattle.tcl_expr.specs.declared.operator.ExprFault.TheVariants.{NotNumber, NotBoolean, DivZero, Overflow, Shift, NoMemory}
-use Rattle.tcl_expr.specs.Arithmetic.{quotient, remainder, shifted_left, shifted_right, is_held}
+use Rattle.tcl_expr.specs.Arithmetic.{quotient, remainder, shifted_left, shifted_right}
 
 -- What an operator gives: a text, or a fault.
 abbrev pub Applied : Type 0
@@ -20,7 +20,7 @@ Applied = Result Bytes ExprFault
 
 -- a number, where 64 bits hold it
 abbrev pub held : ℤ → Result ℤ ExprFault
-held n = if is_held n then Ok n else Err Overflow
+held n = if fits n then Ok n else Err Overflow
 
 -- a shift by a count, which must be one of 0 to 63
 abbrev pub shifted : (ℕ → ℤ) → ℤ → Result ℤ ExprFault
@@ -62,14 +62,9 @@ abbrev pub on_number : (ℤ → Result ℤ ExprFault) → Option ℤ → Applied
 on_number by (Some n) = in_decimal (by n)
 on_number by None = Err NotNumber
 
--- a truth as a text: 1 or 0
-abbrev pub told : Bool → Bytes
-told true = codes "1"
-told false = codes "0"
-
 -- the operand must have a truth
 abbrev pub on_truth : (Bool → Bool) → Option Bool → Applied
-on_truth by (Some p) = Ok (told (by p))
+on_truth by (Some p) = Ok (truth_text (by p))
 on_truth by None = Err NotBoolean
 
 -- two truths joined by `&&`, or else by `||`
@@ -79,7 +74,7 @@ joined _ p q = p || q
 
 -- both operands must have a truth
 abbrev pub on_truths : (Bool → Bool → Bool) → Option Bool → Option Bool → Applied
-on_truths by (Some p) (Some q) = Ok (told (by p q))
+on_truths by (Some p) (Some q) = Ok (truth_text (by p q))
 on_truths by (Some p) None = Err NotBoolean
 on_truths by None q = Err NotBoolean
 
@@ -102,14 +97,14 @@ unary _ v = Err NotNumber
 
 -- The operators between two operands. Comparisons, `&&` and `||` give 1 or 0; `eq` and `ne` compare bytes.
 abbrev pub binary : Op → Bytes → Bytes → Applied
-binary Lt l r = Ok (told (is_lt (compared l r)))
-binary Gt l r = Ok (told (is_gt (compared l r)))
-binary Le l r = Ok (told (is_le (compared l r)))
-binary Ge l r = Ok (told (is_ge (compared l r)))
-binary EqNumber l r = Ok (told (is_eq (compared l r)))
-binary NeNumber l r = Ok (told (is_ne (compared l r)))
-binary EqText l r = Ok (told (bytes_eq l r))
-binary NeText l r = Ok (told (not (bytes_eq l r)))
+binary Lt l r = Ok (truth_text (is_lt (compared l r)))
+binary Gt l r = Ok (truth_text (is_gt (compared l r)))
+binary Le l r = Ok (truth_text (is_le (compared l r)))
+binary Ge l r = Ok (truth_text (is_ge (compared l r)))
+binary EqNumber l r = Ok (truth_text (is_eq (compared l r)))
+binary NeNumber l r = Ok (truth_text (is_ne (compared l r)))
+binary EqText l r = Ok (truth_text (bytes_eq l r))
+binary NeText l r = Ok (truth_text (not (bytes_eq l r)))
 binary And l r = on_truths (joined And) (truth l) (truth r)
 binary Or l r = on_truths (joined Or) (truth l) (truth r)
 binary op l r = on_numbers (combined op) (number l) (number r)

@@ -3,23 +3,13 @@
 ghost use Rattle.std.specs.Prelude.{◌≡◌, IfOk, Result, Ok, Err, ◌<◌};
 ghost use Rattle.txt_core.specs.Number.{number};
 ghost use Rattle.txt_core.specs.Truth.{truth};
-ghost use Rattle.tcl_expr.specs.Operators.{combined, told, in_decimal, joined, on_truths, on_numbers, unary, binary, value_of, Gives};
+ghost use Rattle.tcl_expr.specs.Operators.{combined, in_decimal, joined, on_truths, on_numbers, unary, binary, value_of, Gives};
 
 use crate::arithmetic::combined;
 use crate::comparison::compared;
 use crate::operator::{ExprFault, Op};
 use std::alloc::Global;
-use txt_core::{NoMemory, Text, read_int, read_truth, write_int};
-
-fn told(alloc: Global, truth: bool) -> Result<Text, NoMemory>
-    ensures { IfOk result (λ t. t ≡ told truth) }
-{
-    if truth {
-        Text::new(alloc, b"1")
-    } else {
-        Text::new(alloc, b"0")
-    }
-}
+use txt_core::{NoMemory, Text, read_int, read_truth, truth_text, write_int};
 
 fn in_decimal(alloc: Global, n: Result<i64, ExprFault>) -> Result<Text, ExprFault>
     ensures { Gives result (in_decimal n) }
@@ -55,7 +45,7 @@ pub fn apply_unary(alloc: Global, op: Op, value: &Text) -> Result<Text, ExprFaul
         }
         Op::Not => {
             let truth = read_truth(value).ok_or(ExprFault::NotBoolean)?;
-            let text = told(alloc, !truth)?;
+            let text = truth_text(alloc, !truth)?;
             Ok(text)
         }
         _ => Err(ExprFault::NotNumber),
@@ -76,7 +66,7 @@ fn on_truths(alloc: Global, op: Op, left: &Text, right: &Text) -> Result<Text, E
 {
     let p = read_truth(left).ok_or(ExprFault::NotBoolean)?;
     let q = read_truth(right).ok_or(ExprFault::NotBoolean)?;
-    let text = told(alloc, joined(op, p, q))?;
+    let text = truth_text(alloc, joined(op, p, q))?;
     Ok(text)
 }
 
@@ -115,7 +105,7 @@ pub fn apply_binary(alloc: Global, op: Op, left: &Text, right: &Text) -> Result<
         Op::And | Op::Or => return on_truths(alloc, op, left, right),
         _ => return on_numbers(alloc, op, left, right),
     };
-    let text = told(alloc, truth)?;
+    let text = truth_text(alloc, truth)?;
     Ok(text)
 }
 

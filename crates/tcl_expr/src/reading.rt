@@ -19,10 +19,8 @@ use crate::run::{is_word, names_value, split_run, value_front};
 use crate::token::{level, next_colon, next_operator, next_question, next_sign, skip, stuck};
 use std::alloc::Global;
 use std::rc::Rc;
-use tcl_parse::{
-    Command, Fault, Kind, Piece, Script, Stop, Word, read_enclosed, read_substitution,
-};
-use txt_core::{MOST_NESTED, NoMemory, Text};
+use tcl_parse::{Command, Fault, Kind, Piece, Script, Word, read_enclosed, read_substitution};
+use txt_core::{MOST_NESTED, NoMemory, Stop, Text};
 
 /// How many operators an expression may have, with its question marks.
 pub const MOST_OPERATORS: u32 = 1000;

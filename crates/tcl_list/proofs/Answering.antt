@@ -1,20 +1,20 @@
 -- What a function returned, carried from one fact about outcomes to another.
 use Rattle.std.proofs.Common.{◌≡◌, ℕ, ◌+◌, List, [], ◌∷◌, ◌++◌, length, false, Result, Ok, Err, refl, ap, sym, subst, append_assoc}
-use Rattle.tcl_list.specs.declared.fault.Stop.{Stop}
-use Rattle.tcl_list.specs.declared.fault.Stop.TheVariants as stop
+use Rattle.txt_core.specs.declared.stop.Stop.{Stop}
+use Rattle.txt_core.specs.declared.stop.Stop.TheVariants as stop
 use Rattle.txt_core.specs.Counting.{braced}
 use Rattle.txt_core.specs.Lists.{Outcome, done, bad, put, BracedAt, QuotedAt, ElementAt, in_braces, in_quotes}
 use Rattle.txt_core.specs.Listing.{close_brace, counted, quoted_by}
 use Rattle.tcl_list.specs.Answers.{Stopped, Gives, QuoteGives}
 
-pub stopped_map : {Y Z : Type 0} (P : Outcome Y → Type 0) (Q : Outcome Z → Type 0) → ((n : ℕ) → P (bad n) → Q (bad n)) → (e : Stop) → Stopped e P → Stopped e Q
-stopped_map P Q f stop.Memory h = tt
-stopped_map P Q f (stop.Bad n) h = f n h
+pub stopped_map : {Y Z : Type 0} (P : Outcome Y → Type 0) (Q : Outcome Z → Type 0) → ((n : ℕ) → P (bad n) → Q (bad n)) → (e : Stop ℕ) → Stopped e P → Stopped e Q
+stopped_map P Q f stop.NoMemory h = tt
+stopped_map P Q f (stop.Fault n) h = f n h
 
-pub gives_map : {X Y : Type 0} (view : X → Y) (rest : X → List ℕ) (P Q : Outcome Y → Type 0) → ((o : Outcome Y) → P o → Q o) → (r : Result X Stop) → Gives view rest r P → Gives view rest r Q
+pub gives_map : {X Y : Type 0} (view : X → Y) (rest : X → List ℕ) (P Q : Outcome Y → Type 0) → ((o : Outcome Y) → P o → Q o) → (r : Result X (Stop ℕ)) → Gives view rest r P → Gives view rest r Q
 gives_map view rest P Q f (Ok x) h = f (done (view x) (rest x)) h
-gives_map view rest P Q f (Err stop.Memory) h = tt
-gives_map view rest P Q f (Err (stop.Bad n)) h = f (bad n) h
+gives_map view rest P Q f (Err stop.NoMemory) h = tt
+gives_map view rest P Q f (Err (stop.Fault n)) h = f (bad n) h
 
 pub element_braces : (b : ℕ) (t u : List ℕ) (o : Outcome (List ℕ)) → t ≡ b ∷ u → b ≡ 123 → close_brace (length u + 1) (braced false 0 u) ≡ o → ElementAt t o
 element_braces b t u o et eb e =

@@ -5,8 +5,8 @@ use Rattle.txt_core.specs.Forms.{form_of}
 use Rattle.txt_core.specs.Lists.{Outcome, done, bad, Step, ends, bytes, BytesAt, elements, bad_at}
 use Rattle.txt_core.specs.Listing.{close_quote, listing}
 use Rattle.txt_core.specs.Quoting.{quoting}
-use Rattle.tcl_list.specs.declared.fault.Stop.{Stop}
-use Rattle.tcl_list.specs.declared.fault.Stop.TheVariants as stop
+use Rattle.txt_core.specs.declared.stop.Stop.{Stop}
+use Rattle.txt_core.specs.declared.stop.Stop.TheVariants as stop
 use Rattle.tcl_list.specs.declared.element.Step as code_step
 use Rattle.tcl_list.specs.declared.element.Step.TheVariants as code_steps
 use Rattle.tcl_list.specs.declared.fault.ListFault.{ListFault}
@@ -38,12 +38,12 @@ IsShorter n (code_steps.Byte b t) = length t.now < n
 IsShorter n (code_steps.Escaped f t) = length t.now < n
 
 -- where reading stopped for a bad place, that is the outcome
-abbrev pub Stopped : {Y : Type 0} → Stop → (Outcome Y → Type 0) → Type 0
-Stopped stop.Memory P = Unit {0}
-Stopped (stop.Bad n) P = P (bad n)
+abbrev pub Stopped : {Y : Type 0} → Stop ℕ → (Outcome Y → Type 0) → Type 0
+Stopped stop.NoMemory P = Unit {0}
+Stopped (stop.Fault n) P = P (bad n)
 
 -- a value with what is left of it, or where reading stopped, as an outcome
-abbrev pub Gives : {X Y : Type 0} → (X → Y) → (X → Bytes) → Result X Stop → (Outcome Y → Type 0) → Type 0
+abbrev pub Gives : {X Y : Type 0} → (X → Y) → (X → Bytes) → Result X (Stop ℕ) → (Outcome Y → Type 0) → Type 0
 Gives view rest (Ok x) P = P (done (view x) (rest x))
 Gives view rest (Err e) P = Stopped e P
 

@@ -2,9 +2,7 @@
 
 ghost use Rattle.std.specs.Prelude.{◌≡◌};
 ghost use Rattle.tcl_list.specs.declared.fault.ListFault.TheVariants as list_fault;
-ghost use Rattle.tcl_list.specs.declared.fault.Stop.TheVariants.{Memory};
 
-use std::alloc::{AllocError, AllocFailed};
 use txt_core::NoMemory;
 
 /// Why there is no list.
@@ -22,29 +20,5 @@ impl From<NoMemory> for ListFault {
 
     fn from(_e: NoMemory) -> ListFault {
         ListFault::NoMemory
-    }
-}
-
-/// Why reading stops early.
-#[derive(Clone, Copy, Debug, PartialEq, Eq)]
-pub enum Stop {
-    /// How many bytes are left from the place on that is bad.
-    Bad(usize),
-    Memory,
-}
-
-impl From<AllocError> for Stop {
-    ghost from_gives = { λ _ e. e ≡ Memory };
-
-    fn from(_e: AllocError) -> Stop {
-        Stop::Memory
-    }
-}
-
-impl<T: Drop> From<AllocFailed<T>> for Stop {
-    ghost from_gives = { λ _ e. e ≡ Memory };
-
-    fn from(_e: AllocFailed<T>) -> Stop {
-        Stop::Memory
     }
 }

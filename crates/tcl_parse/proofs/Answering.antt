@@ -2,8 +2,8 @@
 use Rattle.std.proofs.Common.{ℕ, List, Result, Ok, Err}
 use Rattle.tcl_parse.specs.declared.fault.Kind.{Kind}
 use Rattle.tcl_parse.specs.declared.fault.Fault.{Fault}
-use Rattle.tcl_parse.specs.declared.fault.Stop.{Stop}
-use Rattle.tcl_parse.specs.declared.fault.Stop.TheVariants as stop
+use Rattle.txt_core.specs.declared.stop.Stop.{Stop}
+use Rattle.txt_core.specs.declared.stop.Stop.TheVariants as stop
 use Rattle.tcl_parse.specs.Outcome.{Outcome, done, fault, Stopped, Gives}
 
 pub stopped_map : {Y Z : Type 0} (P : Outcome Y → Type 0) (Q : Outcome Z → Type 0) → ((k : Kind) (n : ℕ) → P (fault k n) → Q (fault k n)) → (e : Stop Fault) → Stopped e P → Stopped e Q

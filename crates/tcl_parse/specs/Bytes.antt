@@ -1,6 +1,7 @@
 -- Bytes by their names, and kinds of bytes.
-use Rattle.std.specs.Prelude.{ℕ, [], ◌∷◌, Bool, false, ◌&&◌, ◌||◌, ◌==◌, nat_le}
+use Rattle.std.specs.Prelude.{ℕ, Bool, ◌&&◌, ◌||◌, ◌==◌, nat_le}
 use Rattle.txt_core.specs.Names.{Bytes}
+use Rattle.txt_core.specs.Texts.{begins_with}
 
 abbrev pub tab : ℕ
 tab = 9
@@ -76,11 +77,6 @@ ends_command b = (b == newline) || (b == semicolon)
 -- A name of a variable is made of ASCII letters, digits and underscores.
 abbrev pub is_name : ℕ → Bool
 is_name b = (nat_le 97 b && nat_le b 122) || (nat_le 65 b && nat_le b 90) || (nat_le 48 b && nat_le b 57) || (b == underscore)
-
--- the byte at the front is such a byte
-abbrev pub begins_with : ℕ → Bytes → Bool
-begins_with c [] = false
-begins_with c (b ∷ t) = b == c
 
 -- Backslash-newline: the byte is a backslash, and a newline stands behind it.
 abbrev pub joins_lines : ℕ → Bytes → Bool

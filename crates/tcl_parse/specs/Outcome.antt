@@ -3,8 +3,8 @@ use Rattle.std.specs.Prelude.{ℕ, List, ◌∷◌, Option, Some, None, Result, 
 use Rattle.txt_core.specs.Names.{Bytes}
 use Rattle.tcl_parse.specs.declared.fault.Kind.{Kind}
 use Rattle.tcl_parse.specs.declared.fault.Fault.{Fault}
-use Rattle.tcl_parse.specs.declared.fault.Stop.{Stop}
-use Rattle.tcl_parse.specs.declared.fault.Stop.TheVariants as stop
+use Rattle.txt_core.specs.declared.stop.Stop.{Stop}
+use Rattle.txt_core.specs.declared.stop.Stop.TheVariants as stop
 use Rattle.tcl_parse.specs.Tree.{Word, literal}
 
 -- Reading gives a value and what is left behind it, or a fault and how many bytes are left where it stands, with its own byte.

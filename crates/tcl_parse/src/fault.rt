@@ -1,10 +1,5 @@
 //! Why a text is no script.
 
-ghost use Rattle.std.specs.Prelude.{◌≡◌};
-ghost use Rattle.tcl_parse.specs.declared.fault.Stop.TheVariants.{NoMemory};
-
-use std::alloc::{AllocError, AllocFailed};
-
 /// What is wrong with a text.
 #[derive(Clone, Copy, Debug, PartialEq, Eq)]
 pub enum Kind {
@@ -39,37 +34,4 @@ pub struct Fault {
     pub kind: Kind,
     /// How many bytes are left from the byte on where it stands.
     pub left: usize,
-}
-
-/// Why reading a part of a grammar inside a text stops.
-#[derive(Clone, Copy, Debug, PartialEq, Eq)]
-pub enum Stop<F> {
-    /// The text isn't one of the grammar, and this is what is wrong.
-    Fault(F),
-    /// Memory ran out.
-    NoMemory,
-}
-
-impl<F> From<AllocError> for Stop<F> {
-    ghost from_gives = { λ _ e. e ≡ NoMemory };
-
-    fn from(_e: AllocError) -> Stop<F> {
-        Stop::NoMemory
-    }
-}
-
-impl<T: Drop, F> From<AllocFailed<T>> for Stop<F> {
-    ghost from_gives = { λ _ e. e ≡ NoMemory };
-
-    fn from(_e: AllocFailed<T>) -> Stop<F> {
-        Stop::NoMemory
-    }
-}
-
-impl<F> From<txt_core::NoMemory> for Stop<F> {
-    ghost from_gives = { λ _ e. e ≡ NoMemory };
-
-    fn from(_e: txt_core::NoMemory) -> Stop<F> {
-        Stop::NoMemory
-    }
 }

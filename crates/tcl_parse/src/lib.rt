@@ -11,7 +11,7 @@ mod reading;
 mod step;
 mod tree;
 
-pub use fault::{Fault, Kind, ParseFault, Stop};
+pub use fault::{Fault, Kind, ParseFault};
 pub use law::{canonical_tree, one_answer, one_reading, passed_over};
 pub use reading::{parse, read_enclosed, read_substitution};
 pub use tree::{Command, Piece, Script, Word};

@@ -9,13 +9,13 @@ ghost use Rattle.tcl_parse.specs.Grammar.{InBracket, InIndex, PartIs, PartsAt, S
 ghost use Rattle.tcl_parse.specs.Answers.{mode_of, substitution_of, LeavesLess, Answers, BraceGives, BracketGives, IndexGives, QuoteGives};
 
 use crate::brace::in_braces;
-use crate::fault::{Fault, Kind, ParseFault, Stop};
+use crate::fault::{Fault, Kind, ParseFault};
 use crate::gap::{command_ends, to_command, to_word, word_ends};
 use crate::piece::{add_piece, bracket_piece, element_piece, named_piece, word_of_pieces};
 use crate::step::{Mode, Step, Substitution, first, next};
 use crate::tree::{Command, Piece, Script, Word};
 use std::alloc::Global;
-use txt_core::{MOST_NESTED, Text};
+use txt_core::{MOST_NESTED, Stop, Text};
 
 fn command_of_words(words: Vec<Word>) -> Command
     ensures { command_of result ≡ map word_of words.items }

@@ -9,6 +9,24 @@ use crate::number::write_natural;
 use crate::text::Text;
 use std::alloc::Global;
 
+/// What stands in front of the name of a variable that isn't there.
+pub const CANT_READ: &[u8] = b"can't read \"";
+
+/// What stands behind the name of a variable that isn't there.
+pub const NO_SUCH_VARIABLE: &[u8] = b"\": no such variable";
+
+/// What stands in front of the name of a variable that is of another kind than was wanted.
+pub const VARIABLE: &[u8] = b"variable \"";
+
+/// What stands behind the name of a variable that is an array.
+pub const IS_AN_ARRAY: &[u8] = b"\" is an array";
+
+/// What stands behind the name of a variable that is no array.
+pub const IS_NO_ARRAY: &[u8] = b"\" is no array";
+
+/// What stands behind the name of a variable that is there already.
+pub const EXISTS: &[u8] = b"\" exists";
+
 /// Three texts as one.
 pub fn naming(alloc: Global, front: &[u8], name: &[u8], back: &[u8]) -> Result<Text, NoMemory>
     ensures { IfOk result (λ text. text ≡ naming front.now name.now back.now) }
@@ -82,28 +100,28 @@ pub fn overflow(alloc: Global) -> Result<Text, NoMemory>
 pub fn no_variable(alloc: Global, name: &[u8]) -> Result<Text, NoMemory>
     ensures { IfOk result (λ text. text ≡ no_variable name.now) }
 {
-    naming(alloc, b"can't read \"", name, b"\": no such variable")
+    naming(alloc, CANT_READ, name, NO_SUCH_VARIABLE)
 }
 
 /// A scalar was wanted, and the variable is an array.
 pub fn is_an_array(alloc: Global, name: &[u8]) -> Result<Text, NoMemory>
     ensures { IfOk result (λ text. text ≡ is_an_array name.now) }
 {
-    naming(alloc, b"variable \"", name, b"\" is an array")
+    naming(alloc, VARIABLE, name, IS_AN_ARRAY)
 }
 
 /// An array was wanted, and the variable is none.
 pub fn is_no_array(alloc: Global, name: &[u8]) -> Result<Text, NoMemory>
     ensures { IfOk result (λ text. text ≡ is_no_array name.now) }
 {
-    naming(alloc, b"variable \"", name, b"\" is no array")
+    naming(alloc, VARIABLE, name, IS_NO_ARRAY)
 }
 
 /// A name to be linked is that of a variable already.
 pub fn variable_exists(alloc: Global, name: &[u8]) -> Result<Text, NoMemory>
     ensures { IfOk result (λ text. text ≡ variable_exists name.now) }
 {
-    naming(alloc, b"variable \"", name, b"\" exists")
+    naming(alloc, VARIABLE, name, EXISTS)
 }
 
 /// `break` or `continue`, by its name, where no loop is.

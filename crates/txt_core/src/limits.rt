@@ -1,6 +1,6 @@
 //! The limits that several parts of the server have in common.
 
-ghost use Rattle.std.specs.Prelude.{◌≡◌, nat_lt};
+ghost use Rattle.std.specs.Prelude.{◌≡◌, ◌+◌, length, nat_lt};
 ghost use Rattle.txt_core.specs.Limits.{is_long, most_bytes, moment_of};
 
 use crate::text::Text;
@@ -30,6 +30,13 @@ pub fn is_too_long(text: &Text) -> bool
     ensures { result ≡ is_long text.now }
 {
     is_over_limit(text.len())
+}
+
+/// Whether so many bytes, with a text behind them, are over the limit of a value.
+pub fn is_too_long_behind(front: usize, text: &Text) -> bool
+    ensures { result ≡ nat_lt most_bytes (front + length text.now) }
+{
+    is_over_limit(front.saturating_add(text.len()))
 }
 
 /// A moment, in seconds since the beginning of 1970; a later one than the last counts as the last.

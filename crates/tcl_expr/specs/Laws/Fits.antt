@@ -7,11 +7,12 @@ use Rattle.txt_core.specs.Names.{Bytes}
 use Rattle.txt_core.specs.Number.{is_space, trimmed_front}
 use Rattle.tcl_parse.specs.declared.fault.Kind.{Kind}
 use Rattle.tcl_parse.specs.declared.fault.Kind.TheVariants.{Quote, Brace, Bracket, Variable, Extra, Deep}
-use Rattle.tcl_parse.specs.Bytes.{begins_with, backslash}
+use Rattle.tcl_parse.specs.Bytes.{backslash}
 use Rattle.tcl_parse.specs.Tree.{Part, Word}
 use Rattle.tcl_parse.specs.Outcome as script_outcome
 use Rattle.tcl_parse.specs.Grammar.{InBracket, InIndex}
 use Rattle.txt_core.specs.Limits.{most_nested}
+use Rattle.txt_core.specs.Texts.{begins_with}
 use Rattle.tcl_parse.specs.Laws.Within as script_within
 use Rattle.tcl_expr.specs.declared.operator.Op.{Op}
 use Rattle.tcl_expr.specs.Trees.{Tree, value}
