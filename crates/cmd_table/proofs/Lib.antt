@@ -7,3 +7,4 @@ mod Taking
 mod States
 mod Applying
 mod Places
+mod Latests

@@ -12,15 +12,16 @@ use Rattle.std.proofs.lemmas.Map.{lookup-remove_entry}
 use Rattle.std.proofs.lemmas.Map.Keys.{IsDistinct-from_sorted}
 use Rattle.std.proofs.lemmas.Map.Text.{is_eq-slice_cmp}
 use Rattle.std.proofs.lemmas.Slice.Eq.{bytes_eq-Decides}
+use Rattle.txt_core.specs.Order.{text_cmp}
 use Rattle.natives.specs.Names.{has_name}
 use Rattle.cmd_table.specs.declared.command.Cmd.{Cmd}
 use Rattle.cmd_table.specs.declared.command.Cmd.TheVariants as commands
-use Rattle.cmd_table.specs.Table.{Table, name_order, names_of, IsInOrder, command_of, with_command, without_command}
+use Rattle.cmd_table.specs.Table.{Table, names_of, IsInOrder, command_of, with_command, without_command}
 use Rattle.cmd_table.specs.Commands.{built_ins, with_built}
 use Rattle.cmd_table.specs.Laws.{PuttingSetsOneName, RemovingDropsOneName, BuiltInsAreThere}
 
 -- the test of a look-up, by the order
-test_at : (k n : List ℕ) (o : Ordering) → name_order k n ≡ o → bytes_eq k n ≡ is_eq o
+test_at : (k n : List ℕ) (o : Ordering) → text_cmp k n ≡ o → bytes_eq k n ≡ is_eq o
 test_at k n o at = sym (is_eq-slice_cmp k n) ∙ ap is_eq at
 
 -- two entries whose first can't be the one that is asked for
@@ -33,27 +34,27 @@ both : {X : Type 0} (k q n : List ℕ) (v x : X) (rest : Option X) (s : Bool) �
 both k q n v x rest true same is = let e = sym (nat_list_eq_equiv.congr k q n same) ∙ is in rw e refl
 both k q n v x rest false same is = let e = nat_list_eq_equiv.symm q n ∙ (sym (nat_list_eq_equiv.congr k n q is) ∙ same) in rw e refl
 
-put_step : {X : Type 0} (k q n : List ℕ) (v x : X) (es : List (List ℕ × X)) (o : Ordering) → name_order k n ≡ o
-    → lookup (bytes_eq q) (insert_entry name_order es k v) ≡ cond (bytes_eq k q) (Some v) (lookup (bytes_eq q) es)
-    → lookup (bytes_eq q) (match_ordering o ((k, v) ∷ (n, x) ∷ es) ((n, v) ∷ es) ((n, x) ∷ insert_entry name_order es k v)) ≡ cond (bytes_eq k q) (Some v) (cond (bytes_eq q n) (Some x) (lookup (bytes_eq q) es))
+put_step : {X : Type 0} (k q n : List ℕ) (v x : X) (es : List (List ℕ × X)) (o : Ordering) → text_cmp k n ≡ o
+    → lookup (bytes_eq q) (insert_entry text_cmp es k v) ≡ cond (bytes_eq k q) (Some v) (lookup (bytes_eq q) es)
+    → lookup (bytes_eq q) (match_ordering o ((k, v) ∷ (n, x) ∷ es) ((n, v) ∷ es) ((n, x) ∷ insert_entry text_cmp es k v)) ≡ cond (bytes_eq k q) (Some v) (cond (bytes_eq q n) (Some x) (lookup (bytes_eq q) es))
 put_step {X} k q n v x es Less at ih = ap (λ (b : Bool). cond b (Some v) (cond (bytes_eq q n) (Some x) (lookup (bytes_eq q) es))) (nat_list_eq_equiv.symm q k)
 put_step {X} k q n v x es Equal at ih = both k q n v x (lookup (bytes_eq q) es) (bytes_eq k q) refl (test_at k n Equal at)
 put_step {X} k q n v x es Greater at ih = ap (λ (r : Option X). cond (bytes_eq q n) (Some x) r) ih ∙ front k q n v x (lookup (bytes_eq q) es) (bytes_eq k q) refl (test_at k n Greater at)
 
 -- what is found after an entry was put
-pub lookup_put : {X : Type 0} (k q : List ℕ) (v : X) (es : List (List ℕ × X)) → lookup (bytes_eq q) (insert_entry name_order es k v) ≡ cond (bytes_eq k q) (Some v) (lookup (bytes_eq q) es)
+pub lookup_put : {X : Type 0} (k q : List ℕ) (v : X) (es : List (List ℕ × X)) → lookup (bytes_eq q) (insert_entry text_cmp es k v) ≡ cond (bytes_eq k q) (Some v) (lookup (bytes_eq q) es)
 lookup_put k q v [] = ap (λ (b : Bool). cond b (Some v) None) (nat_list_eq_equiv.symm q k)
-lookup_put k q v (e ∷ es) = put_step k q e.0 v e.1 es (name_order k e.0) refl (lookup_put k q v es)
+lookup_put k q v (e ∷ es) = put_step k q e.0 v e.1 es (text_cmp k e.0) refl (lookup_put k q v es)
 
 pub putting : PuttingSetsOneName
 unfolding command_of with_command
 putting table name other cmd = lookup_put name other cmd table
 
-same_equality : eq_by_cmp name_order ≡ bytes_eq
+same_equality : eq_by_cmp text_cmp ≡ bytes_eq
 same_equality i k q = is_eq-slice_cmp k q i
 
 distinct : (table : Table) → IsInOrder table → IsDistinct bytes_eq (names_of table)
-distinct table s = subst (λ (e : List ℕ → List ℕ → Bool). IsDistinct e (names_of table)) same_equality (IsDistinct-from_sorted name_order (names_of table) s)
+distinct table s = subst (λ (e : List ℕ → List ℕ → Bool). IsDistinct e (names_of table)) same_equality (IsDistinct-from_sorted text_cmp (names_of table) s)
 
 pub removing : RemovingDropsOneName
 unfolding command_of without_command

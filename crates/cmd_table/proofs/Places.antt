@@ -12,10 +12,11 @@ use Rattle.std.specs.Str.{bytes_eq}
 use Rattle.std.proofs.lemmas.Map.Entries.{length-keys_of}
 use Rattle.std.proofs.lemmas.Map.Lookups.{btree_set_from_contains, exact_bytes}
 use Rattle.std.proofs.lemmas.Slice.Eq.{bytes_eq-Decides}
+use Rattle.txt_core.specs.Order.{text_cmp}
 use Rattle.natives.specs.Names.{has_name}
 use Rattle.cmd_table.specs.declared.command.Cmd.{Cmd}
 use Rattle.cmd_table.specs.declared.journal.Row.{Row}
-use Rattle.cmd_table.specs.Table.{Table, State, name_order, names_of, IsInOrder, command_of, with_command, mark_of, Keeps, back_at}
+use Rattle.cmd_table.specs.Table.{Table, State, names_of, IsInOrder, command_of, with_command, mark_of, Keeps, back_at}
 use Rattle.cmd_table.specs.Places.{has_command, has_place, with_entries, placed}
 use Rattle.cmd_table.specs.Slots.{Slots, present, AreInOrder, has_slot, AreFull}
 use Rattle.cmd_table.specs.Journal.{back, undone, past_of, AreMore, AreGrown, ArePlaced}
@@ -109,7 +110,7 @@ places_go_back old new keeps = ap placed ((keeps (mark_of old) (omega arith)).1 
 -- ---- the slots
 
 -- by the order, what a name finds
-found_by_order : (name : List ℕ) (t : Table) → is_some (lookup (is_at (name_order name)) t) ≡ has_command t name
+found_by_order : (name : List ℕ) (t : Table) → is_some (lookup (is_at (text_cmp name)) t) ≡ has_command t name
 unfolding command_of
 found_by_order name t = ap (λ (test : List ℕ → Bool). is_some (lookup test t)) (same_test name)
 
@@ -119,7 +120,7 @@ same_places es state s h =
     let ours : BTreeSet (List ℕ) = record { keys = keys_of es } in
     let theirs : BTreeSet (List ℕ) = record { keys = names_of (all_of state) } in
     btree_set_from_contains nat_list_cmp_total ours theirs s (places_in_order state)
-    (λ q. keys_found (is_at (name_order q)) es ∙ (h q ∙ sym (keys_found (is_at (name_order q)) (all_of state) ∙ (found_by_order q (all_of state) ∙ all_have state q))))
+    (λ q. keys_found (is_at (text_cmp q)) es ∙ (h q ∙ sym (keys_found (is_at (text_cmp q)) (all_of state) ∙ (found_by_order q (all_of state) ∙ all_have state q))))
     exact_bytes
 
 -- slots that came one after the other: those of the start, and those of commands since
@@ -151,21 +152,21 @@ more_at true v (Some w) h = refl
 more_at true None None h = sym (h refl)
 
 -- what a name has in slots that stand in order
-has_held : (name : List ℕ) (es : Slots) → AreInOrder es → has_command (present es) name ≡ is_some (held (lookup (is_at (name_order name)) es))
+has_held : (name : List ℕ) (es : Slots) → AreInOrder es → has_command (present es) name ≡ is_some (held (lookup (is_at (text_cmp name)) es))
 has_held name es s = ap is_some (found name es s)
 
-slot_put : (k name : List ℕ) (v : Option Cmd) (es : Slots) → lookup (is_at (name_order name)) (insert_entry name_order es k v) ≡ cond (bytes_eq k name) (Some v) (lookup (is_at (name_order name)) es)
+slot_put : (k name : List ℕ) (v : Option Cmd) (es : Slots) → lookup (is_at (text_cmp name)) (insert_entry text_cmp es k v) ≡ cond (bytes_eq k name) (Some v) (lookup (is_at (text_cmp name)) es)
 slot_put k name v es =
-    ap (λ (test : List ℕ → Bool). lookup test (insert_entry name_order es k v)) (same_test name)
+    ap (λ (test : List ℕ → Bool). lookup test (insert_entry text_cmp es k v)) (same_test name)
     ∙ (lookup_put k name v es
     ∙ ap (λ (test : List ℕ → Bool). cond (bytes_eq k name) (Some v) (lookup test es)) (sym (same_test name)))
 
 -- a change of the command of a name that has one, or then has one, makes only such a slot
-pub one_more_slot : (k : List ℕ) (v : Option Cmd) (es after : Slots) → after ≡ insert_entry name_order es k v → AreInOrder es → AreInOrder after → IsTrue (is_some v || has_command (present es) k) → AreMore es after
+pub one_more_slot : (k : List ℕ) (v : Option Cmd) (es after : Slots) → after ≡ insert_entry text_cmp es k v → AreInOrder es → AreInOrder after → IsTrue (is_some v || has_command (present es) k) → AreMore es after
 one_more_slot k v es after is s t some name =
-    let now : lookup (is_at (name_order name)) after ≡ cond (bytes_eq k name) (Some v) (lookup (is_at (name_order name)) es) = ap (lookup (is_at (name_order name))) is ∙ slot_put k name v es in
+    let now : lookup (is_at (text_cmp name)) after ≡ cond (bytes_eq k name) (Some v) (lookup (is_at (text_cmp name)) es) = ap (lookup (is_at (text_cmp name))) is ∙ slot_put k name v es in
     ap is_some now
-    ∙ (more_at (bytes_eq k name) v (lookup (is_at (name_order name)) es) (λ same. let e : k ≡ name = (bytes_eq-Decides k name).0 same in subst (λ (n : List ℕ). IsTrue (is_some v || is_some (held (lookup (is_at (name_order n)) es)))) e (subst (λ (b : Bool). IsTrue (is_some v || b)) (has_held k es s) some))
+    ∙ (more_at (bytes_eq k name) v (lookup (is_at (text_cmp name)) es) (λ same. let e : k ≡ name = (bytes_eq-Decides k name).0 same in subst (λ (n : List ℕ). IsTrue (is_some v || is_some (held (lookup (is_at (text_cmp n)) es)))) e (subst (λ (b : Bool). IsTrue (is_some v || b)) (has_held k es s) some))
     ∙ ap (λ (b : Bool). has_slot es name || b) (sym (has_held name after t ∙ ap (λ (l : Option (Option Cmd)). is_some (held l)) now)))
 
 full_at : (same : Bool) (cmd : Cmd) (l : Option (Option Cmd)) → is_some l ≡ is_some (held l) → is_some (cond same (Some (Some cmd)) l) ≡ is_some (held (cond same (Some (Some cmd)) l))
@@ -173,11 +174,11 @@ full_at false cmd l h = h
 full_at true cmd l h = refl
 
 -- slots that are full stay so where a command is put
-pub still_full : (k : List ℕ) (cmd : Cmd) (es after : Slots) → after ≡ insert_entry name_order es k (Some cmd) → AreInOrder es → AreInOrder after → AreFull es → AreFull after
+pub still_full : (k : List ℕ) (cmd : Cmd) (es after : Slots) → after ≡ insert_entry text_cmp es k (Some cmd) → AreInOrder es → AreInOrder after → AreFull es → AreFull after
 still_full k cmd es after is s t full name =
-    let now : lookup (is_at (name_order name)) after ≡ cond (bytes_eq k name) (Some (Some cmd)) (lookup (is_at (name_order name)) es) = ap (lookup (is_at (name_order name))) is ∙ slot_put k name (Some cmd) es in
+    let now : lookup (is_at (text_cmp name)) after ≡ cond (bytes_eq k name) (Some (Some cmd)) (lookup (is_at (text_cmp name)) es) = ap (lookup (is_at (text_cmp name))) is ∙ slot_put k name (Some cmd) es in
     ap is_some now
-    ∙ (full_at (bytes_eq k name) cmd (lookup (is_at (name_order name)) es) (full name ∙ has_held name es s)
+    ∙ (full_at (bytes_eq k name) cmd (lookup (is_at (text_cmp name)) es) (full name ∙ has_held name es s)
     ∙ sym (has_held name after t ∙ ap (λ (l : Option (Option Cmd)). is_some (held l)) now))
 
 -- no slots are full

@@ -3,16 +3,17 @@ use Rattle.std.specs.Prelude.{◌≡◌, ◌||◌, List, [], ◌∷◌, Option, 
 use Rattle.std.specs.Map.{remove_entry, set_value}
 use Rattle.std.specs.BTreeMap.{is_at}
 use Rattle.txt_core.specs.Names.{Bytes}
+use Rattle.txt_core.specs.Order.{text_cmp}
 use Rattle.cmd_table.specs.declared.command.Cmd.{Cmd}
 use Rattle.cmd_table.specs.declared.journal.Row.{Row}
-use Rattle.cmd_table.specs.Table.{Table, name_order}
+use Rattle.cmd_table.specs.Table.{Table}
 use Rattle.cmd_table.specs.Places.{has_command}
 use Rattle.cmd_table.specs.Slots.{Slots, present, has_slot, AreFull}
 
 -- the slots in which the slot of this name is what it was: it holds this again, or there is none
 abbrev pub with_slot : Slots → Bytes → Option (Option Cmd) → Slots
-with_slot slots name None = remove_entry (is_at (name_order name)) slots
-with_slot slots name (Some cmd) = set_value (is_at (name_order name)) slots cmd
+with_slot slots name None = remove_entry (is_at (text_cmp name)) slots
+with_slot slots name (Some cmd) = set_value (is_at (text_cmp name)) slots cmd
 
 -- the slots before a change
 abbrev pub back : Row → Slots → Slots

@@ -3,10 +3,11 @@ use Rattle.std.specs.Prelude.{◌≡◌, ◌≤◌, ◌++◌, ◌↔◌, ℕ, Li
 use Rattle.std.specs.Str.{bytes_eq}
 use Rattle.std.specs.List.Sorted.{IsStrictlySortedBy}
 use Rattle.txt_core.specs.Names.{Bytes, Names}
+use Rattle.txt_core.specs.Order.{text_cmp}
 use Rattle.natives.specs.Names.{has_name}
 use Rattle.cmd_table.specs.declared.command.Cmd.{Cmd}
 use Rattle.cmd_table.specs.declared.definition.Def.{Def}
-use Rattle.cmd_table.specs.Table.{Table, name_order, IsInOrder, command_of, with_command, without_command, State, mark_of, back_at, Keeps}
+use Rattle.cmd_table.specs.Table.{Table, IsInOrder, command_of, with_command, without_command, State, mark_of, back_at, Keeps}
 use Rattle.cmd_table.specs.Places.{has_place, placed}
 use Rattle.cmd_table.specs.declared.command.Cmd.TheVariants as commands
 use Rattle.cmd_table.specs.Commands.{built_ins, built, Commands, Applies, fits}
@@ -45,7 +46,7 @@ KeepingGoesOn = (first second third : State) → Keeps first second → Keeps se
 
 -- the names that have a place stand in their order, each once
 abbrev pub PlacesAreInOrder : Type 0
-PlacesAreInOrder = (state : State) → IsStrictlySortedBy name_order (placed state)
+PlacesAreInOrder = (state : State) → IsStrictlySortedBy text_cmp (placed state)
 
 -- they are exactly those that have a command now, or had one before a change that can be taken back
 abbrev pub PlacesAreOfCommands : Type 0

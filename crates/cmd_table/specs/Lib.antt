@@ -7,3 +7,4 @@ pub mod Laws
 -- What only proofs use.
 pub mod Slots
 pub mod Journal
+pub mod Latest

@@ -6,8 +6,9 @@ use Rattle.std.specs.Map.{keys_of, lookup}
 use Rattle.std.specs.BTreeMap.{is_at}
 use Rattle.std.specs.List.Sorted.{IsStrictlySortedBy}
 use Rattle.txt_core.specs.Names.{Bytes}
+use Rattle.txt_core.specs.Order.{text_cmp}
 use Rattle.cmd_table.specs.declared.command.Cmd.{Cmd}
-use Rattle.cmd_table.specs.Table.{Table, name_order, with_command, without_command}
+use Rattle.cmd_table.specs.Table.{Table, with_command, without_command}
 use Rattle.cmd_table.specs.Places.{has_command}
 
 abbrev pub Slots : Type 0
@@ -25,11 +26,11 @@ present (slot ∷ slots) = put_present slot.0 slot.1 (present slots)
 
 -- the slots stand in the order of their names, each once
 abbrev pub AreInOrder : Slots → Type 0
-AreInOrder slots = IsStrictlySortedBy name_order (keys_of slots)
+AreInOrder slots = IsStrictlySortedBy text_cmp (keys_of slots)
 
 -- the slot of a name is there
 abbrev pub has_slot : Slots → Bytes → Bool
-has_slot slots name = is_some (lookup (is_at (name_order name)) slots)
+has_slot slots name = is_some (lookup (is_at (text_cmp name)) slots)
 
 -- no slot is empty
 abbrev pub AreFull : Slots → Type 0

@@ -1,6 +1,6 @@
 //! Copies of commands and of definitions. The only error of these calls is want of memory.
 
-ghost use Rattle.std.specs.Prelude.{◌≡◌, IfOk};
+ghost use Rattle.std.specs.Prelude.{◌≡◌, ◌++◌, length, take, IfOk, OnOk};
 
 use crate::command::Cmd;
 use crate::definition::{Def, Defs};
@@ -66,13 +66,23 @@ pub fn copy_def(alloc: Global, def: &Def) -> Result<Def, NoMemory>
     })
 }
 
+/// Puts definitions at the end of others, each once more, up to the first for which memory wants.
+#[tactic(auto, using(std::proofs::lemmas::List::take_at))]
+pub fn append_copies(alloc: Global, all: &mut Defs, defs: &[Def]) -> Result<(), NoMemory>
+    ensures ok { OnOk result (all.new ≡ all.old ++ defs.now) }
+    ensures front { take (length all.old) all.new ≡ all.old }
+{
+    'defs: for def in defs {
+        all.add(copy_def(alloc, def)?)?;
+    }
+    Ok(())
+}
+
 /// Definitions once more, in their order.
 pub fn copy_defs(alloc: Global, defs: &Defs) -> Result<Defs, NoMemory>
     ensures { IfOk result (λ copy. copy ≡ defs.now) }
 {
     let mut copy = Sequence::new(alloc);
-    for def in defs.as_slice() {
-        copy.add(copy_def(alloc, def)?)?;
-    }
+    append_copies(alloc, &mut copy, defs.as_slice())?;
     Ok(copy)
 }

@@ -4,7 +4,7 @@ ghost use Rattle.std.specs.Prelude.{◌≡◌, ◌<◌, ◌+◌, ◌++◌, ◌�
 ghost use Rattle.std.specs.Option.{is_some};
 ghost use Rattle.std.specs.Map.{set_value};
 ghost use Rattle.std.specs.BTreeMap.{is_at};
-ghost use Rattle.cmd_table.specs.Table.{name_order};
+ghost use Rattle.txt_core.specs.Order.{text_cmp};
 ghost use Rattle.cmd_table.specs.Places.{has_command};
 ghost use Rattle.cmd_table.specs.Slots.{present, with_option, AreInOrder};
 ghost use Rattle.cmd_table.specs.Journal.{back, past_of, ArePlaced};
@@ -89,7 +89,7 @@ fn put_back(slots: &mut Slots, row: Row)
 fn set_slot(slots: &mut Slots, name: &Text, cmd: Option<Cmd>)
     requires { AreInOrder slots.old.entries }
     ensures set { slots.new.entries
-        ≡ set_value (is_at (name_order name.now)) slots.old.entries cmd }
+        ≡ set_value (is_at (text_cmp name.now)) slots.old.entries cmd }
     ensures ordered { AreInOrder slots.new.entries }
 {
     if let Some(slot) = slots.get_mut(name) {

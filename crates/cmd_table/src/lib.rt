@@ -6,6 +6,7 @@ mod copy;
 mod definition;
 mod filling;
 mod journal;
+mod latest;
 mod law;
 mod renaming;
 mod slots;
@@ -13,7 +14,7 @@ mod steps;
 mod table;
 
 pub use command::Cmd;
-pub use copy::{copy_def, copy_defs};
+pub use copy::{append_copies, copy_def, copy_defs};
 pub use definition::{Def, Defs, When};
 pub use law::{
     definitions_fit_where_they_apply, marks_stay, places_are_of_commands, tables_are_maps,

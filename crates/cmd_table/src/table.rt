@@ -14,6 +14,7 @@ use crate::copy::copy_cmd;
 use crate::definition::Def;
 use crate::filling::{fill_built_ins, fill_natives, no_slots};
 use crate::journal::{Journal, change, take_back};
+use crate::latest::{Latest, find_latest, put_latest};
 use crate::renaming::Renamed;
 use crate::slots::{Slots, find, present_names};
 use crate::steps::Steps;
@@ -34,24 +35,27 @@ pub struct CmdTable {
     alloc: Global,
     slots: Slots,
     journal: Journal,
+    latest: Latest,
 }
 
 impl Model for CmdTable {
     ghost use Rattle.cmd_table.specs.Table.{State};
     ghost use Rattle.cmd_table.specs.Slots.{present, AreInOrder};
     ghost use Rattle.cmd_table.specs.Journal.{past_of, ArePlaced};
+    ghost use Rattle.cmd_table.specs.Latest.{AreLatest};
 
     ghost Value = { State };
 
     ghost view = { λ a. record { past = past_of a.journal.items a.slots.entries; table = present a.slots.entries } };
 
-    ghost invariant = { λ a. AreInOrder a.slots.entries × ArePlaced a.journal.items a.slots.entries };
+    ghost invariant = { λ a. AreInOrder a.slots.entries × ArePlaced a.journal.items a.slots.entries × AreLatest (present a.slots.entries) a.latest };
 }
 
 impl CmdTable {
     /// The table of the built-in names, those of the natives among them: each has its built-in, and
     /// no other name a command. Each name is one step, which can't be taken back. Its only error is
     /// want of memory, and no more steps were then counted than there are names.
+    #[tactic(auto, using(crate::proofs::Latests::none_latest))]
     pub fn new<L: Ledger>(
         alloc: Global,
         natives: &Natives,
@@ -72,6 +76,7 @@ impl CmdTable {
             alloc,
             slots,
             journal: Vec::new(alloc),
+            latest: Latest::new(alloc),
         })
     }
 
@@ -79,7 +84,24 @@ impl CmdTable {
     pub fn get(&self, name: &Text) -> Option<&Cmd>
         ensures { option_copied result ≡ command_of self.now.table name.now }
     {
-        find(&self.slots, name)
+        match find_latest(&self.latest, name) {
+            Some(cmd) => Some(cmd),
+            None => find(&self.slots, name),
+        }
+    }
+
+    /// Notes that a name is looked up, so that `get` finds it soon until the table changes. Contracts
+    /// see nothing of it; where memory wants, nothing is noted.
+    pub fn note(&mut self, name: &Text)
+        ensures { self.new ≡ self.old }
+    {
+        if find_latest(&self.latest, name).is_some() {
+            return;
+        }
+        let Some(cmd) = find(&self.slots, name) else {
+            return;
+        };
+        let _noted = put_latest(self.alloc, &mut self.latest, name, cmd);
     }
 
     /// The names, each once and in byte order. Its only error is want of memory.
@@ -121,20 +143,24 @@ impl CmdTable {
     }
 
     /// Takes the last change back.
+    #[tactic(auto, using(crate::proofs::Latests::none_latest))]
     fn take_back(&mut self)
         requires { 0 < mark_of self.old }
         ensures { self.old ≡ changed self.new self.old.table }
     {
+        self.latest.clear();
         take_back(&mut self.slots, &mut self.journal);
     }
 
     /// Gives a name this command, or takes the one away that it has.
+    #[tactic(auto, using(crate::proofs::Latests::none_latest))]
     fn change(&mut self, name: Text, cmd: Option<Cmd>) -> Result<(), NoMemory>
         requires { IsTrue (is_some cmd || has_command self.old.table name) }
         ensures ok { OnOk result
             (self.new ≡ changed self.old (with_option self.old.table name cmd)) }
         ensures err { OnErr result (self.new ≡ self.old) }
     {
+        self.latest = Latest::new(self.alloc);
         change(self.alloc, &mut self.slots, &mut self.journal, name, cmd)
     }
 

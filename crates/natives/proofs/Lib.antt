@@ -1,3 +1,5 @@
 pub mod Finding
 pub mod Saying
 pub mod Rows
+pub mod Hinting
+pub mod Standing

@@ -14,5 +14,8 @@ pub mod Strings
 pub mod Pure
 pub mod Ranges
 pub mod Names
+pub mod Hints
+pub mod Places
 -- What only proofs use.
 pub mod SortingLaws
+pub mod Hinted

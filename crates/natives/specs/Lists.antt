@@ -1,8 +1,9 @@
 -- The commands on lists that make, read and change them.
-use Rattle.std.specs.Prelude.{[], ◌∷◌, ◌++◌, take, drop, length, map, filter, max, ℤ, pos, ◌+ℤ◌, Bool, true, false, Ok, codes, decimal, unwrap_or}
+use Rattle.std.specs.Prelude.{[], ◌∷◌, ◌++◌, take, drop, length, map, filter, max, ℤ, pos, ◌+ℤ◌, Ok, codes, decimal, unwrap_or}
 use Rattle.txt_core.specs.Names.{Bytes, Words}
 use Rattle.txt_core.specs.Number.{trimmed}
 use Rattle.txt_core.specs.Quoting.{quoting}
+use Rattle.txt_core.specs.Texts.{is_filled}
 use Rattle.natives.specs.Answers.{Reply, unless}
 use Rattle.natives.specs.Words.{arg}
 use Rattle.natives.specs.Checks.{list_error, items}
@@ -66,11 +67,7 @@ joined between [] = []
 joined between (x ∷ []) = x
 joined between (x ∷ y ∷ xs) = x ++ between ++ joined between (y ∷ xs)
 
-abbrev pub is_not_empty : Bytes → Bool
-is_not_empty [] = false
-is_not_empty (b ∷ t) = true
-
 -- `concat word*`: each word without the blanks and newlines round it, the empty ones left out, with
 -- a space between each two
 abbrev pub concat_reply : Words → Reply
-concat_reply words = Ok (joined (codes " ") (filter is_not_empty (map trimmed (drop 1 words))))
+concat_reply words = Ok (joined (codes " ") (filter is_filled (map trimmed (drop 1 words))))

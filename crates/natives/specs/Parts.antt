@@ -1,7 +1,8 @@
 -- The parts of a pattern of `format`: bytes that stand for themselves, and forms.
-use Rattle.std.specs.Prelude.{ℕ, zero, suc, ◌+◌, List, [], ◌∷◌, drop, length, Bool, false, ◌==◌, ◌||◌, ◌&&◌, nat_le, Option, None, Some, option_map, if◌then◌else◌}
+use Rattle.std.specs.Prelude.{ℕ, zero, suc, ◌+◌, List, [], ◌∷◌, drop, length, Bool, ◌==◌, ◌||◌, ◌&&◌, nat_le, Option, None, Some, option_map, if◌then◌else◌}
 use Rattle.txt_core.specs.Names.{Bytes}
 use Rattle.txt_core.specs.Digits.{leading_digits, value_of}
+use Rattle.txt_core.specs.Texts.{begins_with}
 
 -- A form: `%`, then an optional `-`, which puts the text to the left of its width, then an optional
 -- `0`, which fills up with zeros in place of spaces, then an optional width in digits, and a letter.
@@ -18,10 +19,6 @@ pub data Part : Type 0 where
 -- the letters d, s, x, c and %
 abbrev pub is_letter : ℕ → Bool
 is_letter b = (b == 100) || (b == 115) || (b == 120) || (b == 99) || (b == 37)
-
-abbrev pub begins_with : ℕ → Bytes → Bool
-begins_with b [] = false
-begins_with b (c ∷ t) = c == b
 
 -- 1 where a flag stands, else 0
 abbrev pub taken_by : Bool → ℕ

@@ -10,7 +10,8 @@ use Rattle.txt_core.specs.Names.{Bytes, Words}
 use Rattle.txt_core.specs.PatternLaws.{matches}
 use Rattle.natives.specs.Answers.{Reply, unless}
 use Rattle.txt_core.specs.ErrorTexts.{wrong_words, unknown_subcommand, bad_value}
-use Rattle.natives.specs.Words.{arg, arg_or, truth_text, usual_chars}
+use Rattle.txt_core.specs.Truth.{truth_text}
+use Rattle.natives.specs.Words.{arg, arg_or, usual_chars}
 use Rattle.natives.specs.Checks.{integer_error, integer}
 use Rattle.natives.specs.Indexes.{index_error, index, last_of, at_place, part_between}
 use Rattle.natives.specs.Searching.{place_text}

@@ -2,11 +2,13 @@
 #![tactic(auto)]
 
 mod fault;
+mod hints;
 mod index;
 mod law;
 mod list;
 mod native;
 mod natives;
+mod places;
 mod word;
 
 pub use fault::Fault;
@@ -15,4 +17,5 @@ pub use law::{elements_have_an_order, sorting_is_stable};
 pub use list::list_in;
 pub use native::{Call, Native};
 pub use natives::Natives;
+pub use places::Places;
 pub use word::{number_in, within_limit, word_at};

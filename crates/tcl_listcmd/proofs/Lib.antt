@@ -2,4 +2,3 @@ pub mod Joining
 pub mod Numbers
 pub mod Parts
 pub mod Saying
-pub mod Sorted

@@ -64,35 +64,14 @@ fn order(numbers: bool, falls: bool, one: &Text, other: &Text) -> Ordering
     }
 }
 
-/// Copies of elements.
-fn copied(alloc: Global, elements: &[Text]) -> Result<Vec<Text>, NoMemory>
-    ensures { IfOk result (λ copied. copied.items ≡ elements.now) }
-{
-    let mut copied = Vec::new(alloc);
-    'elements: for element in elements {
-        copied.push(element.copy(alloc)?)?;
-    }
-    Ok(copied)
-}
-
-/// Elements as a list.
-fn as_list(alloc: Global, elements: Vec<Text>) -> Result<Words, NoMemory>
-    ensures { IfOk result (λ list. list ≡ elements.items) }
-{
-    let mut list = Words::new(alloc);
-    'elements: for element in elements {
-        list.add(element)?;
-    }
-    Ok(list)
-}
-
 /// The elements in order. Those that tie stay in their order.
 fn in_order(alloc: Global, numbers: bool, falls: bool, list: &Words) -> Result<Words, NoMemory>
     ensures { IfOk result (λ sorted. sorted ≡ in_order (sorts_before numbers falls) list.now) }
 {
-    let mut elements = copied(alloc, list.as_slice())?;
+    let copies = Words::of_copies(alloc, list.as_slice())?;
+    let mut elements = copies.into_vec();
     elements.sort_by(|one, other| order(numbers, falls, one, other))?;
-    as_list(alloc, elements)
+    Ok(Words::from_vec(elements))
 }
 
 /// Looks whether each element is a number.

@@ -2,8 +2,9 @@
 use Rattle.std.proofs.Common.{◌≡◌, ◌∙◌, ap, sym, refl, ℕ, zero, suc, ◌+◌, List, [], ◌∷◌, length, drop, Bool, true, false, Option, None, Some, arith}
 use Rattle.std.proofs.lemmas.List.{drop-drop}
 use Rattle.std.specs.Prelude.{option_map, ◌==◌, if◌then◌else◌}
-use Rattle.natives.specs.Parts.{Form, Part, itself, form, begins_with, taken_by, all_digits, form_by, form_at, in_front, form_in_front, parts_behind, parts}
+use Rattle.natives.specs.Parts.{Form, Part, itself, form, taken_by, all_digits, form_by, form_at, in_front, form_in_front, parts_behind, parts}
 use Rattle.txt_core.specs.Digits.{value_of}
+use Rattle.txt_core.specs.Texts.{begins_with}
 use Rattle.tcl_string.specs.Patterns.{with_rest, behind_flags, as_part, first_part}
 
 -- what is behind a form, by what is behind its flags

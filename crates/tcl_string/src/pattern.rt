@@ -2,8 +2,9 @@
 
 ghost use Rattle.std.specs.Prelude.{◌≡◌, ◌≤◌, drop, length, min, option_map, if◌then◌else◌, true, false, None, Some, IfSome, MatchOption};
 ghost use Rattle.txt_core.specs.Digits.{digit_of, is_digit, value_of};
+ghost use Rattle.txt_core.specs.Texts.{begins_with};
 ghost use Rattle.natives.specs.Formatting.{takes_word};
-ghost use Rattle.natives.specs.Parts.{is_letter, begins_with, taken_by, all_digits, form_at, parts};
+ghost use Rattle.natives.specs.Parts.{is_letter, taken_by, all_digits, form_at, parts};
 ghost use Rattle.tcl_string.specs.Patterns.{letter_code, form_of, part_of, with_rest, behind_flags, first_part, words_taken};
 
 /// How wide a form may be, in bytes.

@@ -4,11 +4,10 @@ ghost use Rattle.std.specs.Prelude.{◌≡◌, ◌≤◌, length, IfOk};
 ghost use Rattle.natives.specs.Answers.{Answers};
 ghost use Rattle.natives.specs.Strings.{length_reply, compare_reply, equal_reply, match_reply, order_text};
 
-use crate::argument::truth_text;
 use natives::{Fault, word_at};
 use std::alloc::Global;
 use std::cmp::Ordering;
-use txt_core::{NoMemory, Text, Words, glob, write_natural};
+use txt_core::{NoMemory, Text, Words, glob, truth_text, write_natural};
 
 /// `string length s`.
 pub fn length(alloc: Global, words: &Words) -> Result<Text, Fault>

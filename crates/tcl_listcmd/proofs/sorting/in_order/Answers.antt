@@ -3,8 +3,7 @@ use Rattle.std.proofs.lemmas.Fn.{always_returns_same}
 use Rattle.std.specs.Cmp.{IsStrictWeakOrder}
 use Rattle.std.specs.List.Sorted.{IsSortedBy, IsStableBy}
 use Rattle.natives.specs.Sorting.{sorts_before}
-use Rattle.natives.specs.SortingLaws.{sorts_by_order}
-use Rattle.tcl_listcmd.proofs.Sorted.{sorted_is}
+use Rattle.natives.specs.SortingLaws.{only_order, sorts_by_order}
 use Rattle.tcl_listcmd.proofs.sorting.in_order.Goals as goal
 
 pub returns : goal.returns
@@ -12,7 +11,7 @@ returns c =
     let order : IsStrictWeakOrder (sorts_before c.args.numbers c.args.falls) = sorts_by_order c.args.numbers c.args.falls in
     let rises : IsSortedBy (sorts_before c.args.numbers c.args.falls) c.sort_by.new.self.items =
     c.in_ok-sort_by.ensures.sorted (sorts_before c.args.numbers c.args.falls) order (always_returns_same _ _ _ (λ a r f k. search rules)) in
-    let ties : IsStableBy (sorts_before c.args.numbers c.args.falls) c.in_ok-elements.elements.items c.sort_by.new.self.items =
+    let ties : IsStableBy (sorts_before c.args.numbers c.args.falls) c.into_vec-elements.result.items c.sort_by.new.self.items =
     c.in_ok-sort_by.ensures.stable (sorts_before c.args.numbers c.args.falls) order (always_returns_same _ _ _ (λ a r f k. search rules)) in
-    let same : c.in_ok-elements.elements.items ≡ c.args.list.now = c.in_ok-elements.ensures ∙ c.as_slice.ensures in
-    sorted_is (sorts_before c.args.numbers c.args.falls) c.args.list.now c.sort_by.new.self.items c.as_list.result order rises (rw same at ties) c.as_list.ensures
+    let same : c.into_vec-elements.result.items ≡ c.args.list.now = c.into_vec-elements.ensures ∙ c.in_ok-copies.ensures ∙ c.as_slice.ensures in
+    c.from_vec.ensures ∙ only_order (sorts_before c.args.numbers c.args.falls) order c.args.list.now c.sort_by.new.self.items rises (rw same at ties)

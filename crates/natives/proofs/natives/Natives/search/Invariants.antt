@@ -1,6 +1,6 @@
 use Rattle.std.proofs.Common.{◌≡◌, map, drop}
 use Rattle.natives.specs.Names.{has_name}
-use Rattle.natives.proofs.natives.Natives.find.Given as goal
+use Rattle.natives.proofs.natives.Natives.search.Given as goal
 
 -- the name is among all where it is among those that are left
 abbrev pub invariant-loop-native : goal.invariant-loop-native

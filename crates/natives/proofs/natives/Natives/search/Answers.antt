@@ -1,7 +1,7 @@
 use Rattle.std.proofs.Common.{◌≡◌, ap, sym, ◌∙◌, true, false}
 use Rattle.std.specs.Prelude.{bytes_eq}
 use Rattle.natives.proofs.Finding.{other_name, this_name, no_name}
-use Rattle.natives.proofs.natives.Natives.find.Goals as goal
+use Rattle.natives.proofs.natives.Natives.search.Goals as goal
 
 pub returns-then-eq-clause-there : goal.returns-then-eq-clause-there
 returns-then-eq-clause-there g c =

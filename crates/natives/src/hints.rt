@@ -1,0 +1,48 @@
+//! Hints: where the native of a name stands among natives, by a place that its name gives.
+
+ghost use Rattle.std.specs.Prelude.{◌≡◌, ◌<◌, slice_index};
+ghost use Rattle.natives.specs.Hints as hints;
+ghost use Rattle.natives.specs.Hinted as hinted;
+
+/// How many hints there are.
+pub(crate) const HINTS: usize = 128;
+
+/// The hint that a native of this place may be anywhere.
+pub(crate) const ANYWHERE: u8 = 255;
+
+/// A byte of a name as a number; 0 where the name has no such place.
+fn byte_at(name: &[u8], at: usize) -> usize
+    ensures is { result ≡ slice_index name.now at }
+    ensures byte { result < 256 }
+{
+    match name.get(at) {
+        Some(byte) => *byte as usize,
+        None => 0,
+    }
+}
+
+/// The place of a text in a table of `HINTS` places, by its length, its first and its last byte, and the
+/// two at a quarter and at the half of it. Several texts may have one place.
+#[tactic(auto, unfolding(crate::specs::Hints::hint_place))]
+pub(crate) fn hint_place(text: &[u8]) -> usize
+    ensures is { result ≡ hints.hint_place text.now }
+    ensures within { result < 128 }
+{
+    let length = text.len();
+    let first = byte_at(text, 0) * 14;
+    let early = byte_at(text, length / 4) * 9;
+    let middle = byte_at(text, length / 2) * 7;
+    let last = byte_at(text, length.saturating_sub(1)) * 5;
+    (length % HINTS * 3 + first + early + middle + last) % HINTS
+}
+
+/// The hint of a place, which was `before`, once the native at `at` has the place too.
+pub(crate) fn next_hint(before: u8, at: usize) -> u8
+    ensures { result ≡ hinted.next_hint before at }
+{
+    if before == 0 && at < 254 {
+        at as u8 + 1
+    } else {
+        ANYWHERE
+    }
+}
