@@ -16,7 +16,8 @@ use Rattle.tcl_frame.specs.declared.fault.VarFault.{VarFault}
 use Rattle.tcl_frame.specs.declared.fault.VarFault.TheVariants.{NoVariable, IsArray, NotArray, Exists, NoMemory}
 use Rattle.tcl_frame.specs.Refusal.{IsRefusedFor}
 use Rattle.tcl_frame.specs.Names.{Named, Whole, Element, variable_name}
-use Rattle.tcl_frame.specs.Variables.{Table, Scalars, elements_in, with_value, without, with_pairs, with_array}
+use Rattle.txt_core.specs.Keyed.{with_pairs}
+use Rattle.tcl_frame.specs.Variables.{Table, Scalars, elements_in, with_value, without, with_array}
 use Rattle.tcl_frame.specs.Meaning.{Found, Value, InScalar, whole, element, found, value_there, no_write, no_removal, no_array}
 use Rattle.tcl_frame.specs.Appending.{longer, with_longer}
 use Rattle.tcl_frame.specs.Stack.{Kept}

@@ -15,12 +15,12 @@ use Rattle.tcl_frame.specs.Variables.{Scalars}
 use Rattle.tcl_frame.specs.Meaning.{Value, whole, value_or_nothing, found}
 use Rattle.tcl_frame.specs.Stack.{Stack, Kept}
 use Rattle.tcl_frame.specs.Frames.{fresh, found_in}
-use Rattle.tcl_frame.specs.Undoing.{given_back}
+use Rattle.txt_core.specs.Keyed.{given_back}
 use Rattle.tcl_frame.specs.Base.{base_of, as_variables, at_base, IsAtBase, cleared, kept, unkept}
 use Rattle.tcl_frame.specs.Globals.{Bases, values_of, keeps_of, value_before, KnowBefore}
 use Rattle.tcl_frame.proofs.Bases.{same, alike, value_of, mapped_first, values_get, as_get}
 use Rattle.tcl_frame.proofs.Changes.{get_put, get_put_other, unlike}
-use Rattle.tcl_frame.proofs.Undoing.{put_and_taken, put_and_put}
+use Rattle.txt_core.proofs.Undoing.{put_and_taken, put_and_put}
 
 fold_last : {A B : Type 0} (f : B → A → B) (z : B) (xs : List A) (x : A) → fold f z (xs ++ x ∷ []) ≡ f (fold f z xs) x
 fold_last f z [] x = refl

@@ -6,4 +6,3 @@ pub mod Keeping
 pub mod Maps
 pub mod Tables
 pub mod Tops
-pub mod Undoing

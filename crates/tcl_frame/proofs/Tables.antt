@@ -10,7 +10,8 @@ use Rattle.std.proofs.lemmas.Bool.{cases_Bool, cond-true, cond-false, true≢fal
 use Rattle.std.proofs.lemmas.Map.Lookups.{exact_bytes}
 use Rattle.tcl_frame.specs.declared.variable.Variable.{Variable}
 use Rattle.tcl_frame.specs.declared.variable.Variable.TheVariants.{Scalar, Array}
-use Rattle.tcl_frame.specs.Variables.{Elements, elements_in, with_pairs}
+use Rattle.txt_core.specs.Keyed.{with_pairs}
+use Rattle.tcl_frame.specs.Variables.{Elements, elements_in}
 use Rattle.tcl_frame.specs.Arrays.{with_index, with_indexes, without_index}
 use Rattle.tcl_frame.specs.Appending.{text_of, with_more, with_more_at}
 use Rattle.tcl_frame.specs.Meaning.{element, whole, value_there, no_write, no_removal, no_array}

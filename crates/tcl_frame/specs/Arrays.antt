@@ -3,7 +3,7 @@ use Rattle.std.specs.FinMap as map
 use Rattle.txt_core.specs.Names.{Bytes, Words}
 use Rattle.tcl_frame.specs.declared.variable.Variable.{Variable}
 use Rattle.tcl_frame.specs.declared.variable.Variable.TheVariants.{Scalar, Array}
-use Rattle.tcl_frame.specs.Variables.{with_pairs}
+use Rattle.txt_core.specs.Keyed.{with_pairs}
 
 -- an array with this value at the index
 abbrev pub with_index : Variable → Bytes → Bytes → Variable

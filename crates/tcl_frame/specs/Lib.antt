@@ -13,6 +13,6 @@ pub mod Entries
 pub mod Findings
 pub mod Globals
 pub mod Lending
+pub mod OwnLending
 pub mod Seen
 pub mod StackCode
-pub mod Undoing

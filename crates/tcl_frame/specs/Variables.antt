@@ -1,9 +1,10 @@
 -- Variables by name. Each is a scalar, which is a text, or an array, which has texts by index.
-use Rattle.std.specs.Prelude.{◌∷◌, Option, Some, None}
+use Rattle.std.specs.Prelude.{Option, Some, None}
 use Rattle.std.specs.Ordering.{nat_cmp}
 use Rattle.std.specs.Cmp.Lexicographic.{slice_cmp}
 use Rattle.std.specs.FinMap as map
 use Rattle.txt_core.specs.Names.{Bytes, Words}
+use Rattle.txt_core.specs.Keyed.{with_pairs}
 use Rattle.tcl_frame.specs.declared.variable.Variable.{Variable}
 use Rattle.tcl_frame.specs.declared.variable.Variable.TheVariants.{Scalar, Array}
 use Rattle.tcl_frame.specs.Names.{Named, Whole, Element}
@@ -37,12 +38,6 @@ abbrev pub without : Table → Named → Table
 without table (Whole name) = map.remove table name
 without table (Element array index) =
     map.insert table array (Array (map.remove (elements_in (map.get table array)) index))
-
--- with the value behind each index of a list in which they take turns, so of an index that comes twice the last value stands. An
--- index without a value, at the end, is left out
-abbrev pub with_pairs : Elements → Words → Elements
-with_pairs elements (index ∷ value ∷ rest) = with_pairs (map.insert elements index value) rest
-with_pairs elements _ = elements
 
 -- with these indexes and values in the array of this name, which has no others where it is made
 abbrev pub with_array : Table → Bytes → Words → Table

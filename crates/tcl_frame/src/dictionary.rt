@@ -5,7 +5,7 @@ ghost use Rattle.std.specs.Borrow.{sem};
 ghost use Rattle.std.specs.Option.{option_copied, option_copied_mut};
 ghost use Rattle.std.specs.FinMap as map;
 ghost use Rattle.tcl_frame.specs.Lending.{lends_value};
-ghost use Rattle.tcl_frame.specs.Undoing.{given_back};
+ghost use Rattle.txt_core.specs.Keyed.{given_back};
 
 use std::alloc::Global;
 use std::collections::BTreeMap;

@@ -1,6 +1,8 @@
 //! The variables of an interpreter.
 
 ghost use Rattle.std.specs.Prelude.{◌≡◌, ◌≤◌, ◌<◌, ◌++◌, ◌≢◌, IfOk, IfErr, OnOk, OnErr, length, false};
+ghost use Rattle.std.specs.Borrow.{sem};
+ghost use Rattle.std.specs.Option.{option_copied, option_copied_mut};
 ghost use Rattle.std.specs.FinMap as map;
 ghost use Rattle.txt_core.specs.Knowing.{Holds};
 ghost use Rattle.tcl_frame.specs.Names.{named, is_element};
@@ -9,12 +11,14 @@ ghost use Rattle.tcl_frame.specs.Base.{IsAtBase, cleared, kept, unkept};
 ghost use Rattle.tcl_frame.specs.Seen.{name_seen};
 ghost use Rattle.tcl_frame.specs.Findings.{found_seen};
 ghost use Rattle.tcl_frame.specs.Refusal.{IsRefusedFor};
+ghost use Rattle.tcl_frame.specs.OwnLending.{own_variables, lends_own};
 
 use crate::fault::VarFault;
 use crate::found::Found;
 use crate::frame::Frame;
 use crate::globals::Globals;
 use crate::name::Name;
+use crate::variable::Table;
 use std::alloc::Global;
 use std::marker::Model;
 use txt_core::{Known, NoMemory, Pairs, Text};
@@ -128,13 +132,35 @@ impl Frames {
         self.above.len()
     }
 
+    /// The topmost frame's variables, where it has this variable's name for its own. `None` where the
+    /// name means a global variable.
+    fn own(&self, name: &[u8]) -> Option<&Table>
+        ensures { option_copied result ≡ own_variables self.now.above name.now }
+    {
+        match self.above.last() {
+            Some(frame) if !frame.links.contains(name) => Some(&frame.variables),
+            _ => None,
+        }
+    }
+
+    /// The same, to be changed.
+    fn own_mut(&mut self, name: &[u8]) -> Option<&mut Table>
+        ensures* writes_back { sem 𝓛 (lends_own self.entry name.now result) }
+        ensures value { option_copied_mut result ≡ own_variables self.old.above name.now }
+    {
+        match self.above.last_mut() {
+            Some(frame) if !frame.links.contains(name) => Some(&mut frame.variables),
+            _ => None,
+        }
+    }
+
     /// What a name finds.
     fn find(&self, name: &Name<'_>) -> Found<'_>
         ensures { found_seen result ≡ found_in self.now (name_seen name.now) }
     {
-        match self.above.last() {
-            Some(frame) if !frame.links.contains(name.variable()) => frame.variables.find(name),
-            _ => self.global.find(name),
+        match self.own(name.variable()) {
+            Some(variables) => variables.find(name),
+            None => self.global.find(name),
         }
     }
 
@@ -209,11 +235,9 @@ impl Frames {
         ensures depth { length self.new.above ≡ length self.old.above }
     {
         let name = Name::new(name.bytes());
-        match self.above.last_mut() {
-            Some(frame) if !frame.links.contains(name.variable()) => {
-                frame.variables.write(&name, value)
-            }
-            _ => self.global.write(&name, value),
+        match self.own_mut(name.variable()) {
+            Some(variables) => variables.write(&name, value),
+            None => self.global.write(&name, value),
         }
     }
 
@@ -247,11 +271,9 @@ impl Frames {
         ensures depth { length self.new.above ≡ length self.old.above }
     {
         let name = Name::new(name.bytes());
-        match self.above.last_mut() {
-            Some(frame) if !frame.links.contains(name.variable()) => {
-                frame.variables.append(&name, more, known)
-            }
-            _ => self.global.append(&name, more, known),
+        match self.own_mut(name.variable()) {
+            Some(variables) => variables.append(&name, more, known),
+            None => self.global.append(&name, more, known),
         }
     }
 
@@ -267,11 +289,9 @@ impl Frames {
         ensures depth { length self.new.above ≡ length self.old.above }
     {
         let name = Name::new(name.bytes());
-        match self.above.last_mut() {
-            Some(frame) if !frame.links.contains(name.variable()) => {
-                frame.variables.take_away(&name)
-            }
-            _ => self.global.take_away(&name),
+        match self.own_mut(name.variable()) {
+            Some(variables) => variables.take_away(&name),
+            None => self.global.take_away(&name),
         }
     }
 
@@ -289,9 +309,9 @@ impl Frames {
         let Name::Whole(name) = name else {
             return Err(VarFault::NotArray);
         };
-        match self.above.last_mut() {
-            Some(frame) if !frame.links.contains(name) => frame.variables.write_array(name, pairs),
-            _ => self.global.write_array(name, pairs),
+        match self.own_mut(name) {
+            Some(variables) => variables.write_array(name, pairs),
+            None => self.global.write_array(name, pairs),
         }
     }
 
@@ -300,10 +320,7 @@ impl Frames {
     pub fn is_linked(&self, name: &Text) -> bool
         ensures { result ≡ links_name self.now.above name.now }
     {
-        match self.above.last() {
-            Some(frame) => frame.links.contains(name.bytes()),
-            None => true,
-        }
+        self.own(name.bytes()).is_none()
     }
 
     /// Makes the name mean the global variable of this name, in all calls while this frame is the

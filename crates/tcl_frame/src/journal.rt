@@ -1,28 +1,27 @@
 //! Writes to an array that are undone where memory wants.
 
-ghost use Rattle.std.specs.Prelude.{◌≡◌, ◌<◌, ◌∷◌, length, OnOk, OnErr, IfSome, IfNone};
-ghost use Rattle.std.specs.FinMap as map;
-ghost use Rattle.tcl_frame.specs.Variables.{with_pairs};
-ghost use Rattle.tcl_frame.specs.Undoing.{undone};
+ghost use Rattle.std.specs.Prelude.{◌≡◌, OnOk, OnErr};
+ghost use Rattle.txt_core.specs.Keyed.{with_pairs};
 
 use crate::variable::Elements;
-use txt_core::{NoMemory, Text};
+use std::alloc::Global;
+use txt_core::{Keyed, NoMemory, Text, write_pairs};
 
-/// A write to an index, and what the index had before it.
-#[derive(Drop)]
-pub struct Change<'a> {
-    index: &'a Text,
-    before: Option<Text>,
-}
+impl Keyed for Elements {
+    ghost texts = { λ a. a };
 
-/// The first two texts of a list, and those behind them; `None` exactly where there are fewer.
-fn first_pair(list: &[Text]) -> Option<(&Text, &Text, &[Text])>
-    ensures pair { IfSome result (λ pair. list.now ≡ pair.0.now ∷ pair.1.now ∷ pair.2.now) }
-    ensures fewer { IfNone result (length list.now < 2) }
-{
-    let (index, behind) = list.split_first()?;
-    let (value, rest) = behind.split_first()?;
-    Some((index, value, rest))
+    fn exchange(
+        &mut self,
+        _alloc: Global,
+        key: &Text,
+        text: Text,
+    ) -> Result<Option<Text>, NoMemory> {
+        self.replace(key.bytes(), text)
+    }
+
+    fn give_back(&mut self, key: &Text, text: Option<Text>) {
+        self.put_back(key.bytes(), text);
+    }
 }
 
 impl Elements {
@@ -32,57 +31,6 @@ impl Elements {
         ensures ok { OnOk result (self.new ≡ with_pairs self.old pairs.now) }
         ensures err { OnErr result (self.new ≡ self.old) }
     {
-        let mut journal = Vec::new(self.alloc);
-        let written = self.write_noting(pairs, &mut journal);
-        if written.is_err() {
-            self.undo(journal);
-        }
-        written
-    }
-
-    /// The same, but that where memory wants, some of the pairs may be written. What is written is
-    /// noted in the journal.
-    fn write_noting<'a>(
-        &mut self,
-        pairs: &'a [Text],
-        journal: &mut Vec<Change<'a>>,
-    ) -> Result<(), NoMemory>
-        ensures ok { OnOk result (self.new ≡ with_pairs self.old pairs.now) }
-        ensures noted { undone journal.new.items self.new ≡ undone journal.old.items self.old }
-    {
-        let mut rest = pairs;
-        'pairs: while let Some((index, value, tail)) = first_pair(rest) {
-            self.write_one(index, value, journal)?;
-            rest = tail;
-        }
-        Ok(())
-    }
-
-    /// Gives an index a value, and notes that in the journal. The journal's room is taken first, so
-    /// that what is written is noted in any case.
-    fn write_one<'a>(
-        &mut self,
-        index: &'a Text,
-        value: &Text,
-        journal: &mut Vec<Change<'a>>,
-    ) -> Result<(), NoMemory>
-        ensures ok { OnOk result (self.new ≡ map.insert self.old index.now value.now) }
-        ensures noted { undone journal.new.items self.new ≡ undone journal.old.items self.old }
-    {
-        journal.reserve(1)?;
-        let value = value.copy(self.alloc)?;
-        let before = self.replace(index.bytes(), value)?;
-        journal.push_reserved(Change { index, before });
-        Ok(())
-    }
-
-    /// Undoes what a journal notes, the last write first. It takes no memory.
-    fn undo(&mut self, journal: Vec<Change<'_>>)
-        ensures { self.new ≡ undone journal.entry.items self.old }
-    {
-        let mut journal = journal;
-        'changes: while let Some(change) = journal.pop() {
-            self.put_back(change.index.bytes(), change.before);
-        }
+        write_pairs(self.alloc, self, pairs)
     }
 }

@@ -1,10 +1,9 @@
 -- The commands on arrays, and `info exists`.
-use Rattle.std.specs.Prelude.{◌%◌, ◌==◌, Bool, true, List, [], ◌∷◌, length, map, filter, slice_get, Option, Some, None, if◌then◌else◌, codes, decimal, bytes_eq}
+use Rattle.std.specs.Prelude.{◌%◌, ◌==◌, List, [], ◌∷◌, length, map, filter, slice_get, Option, Some, None, if◌then◌else◌, codes, decimal, bytes_eq}
 use Rattle.std.specs.FinMap as finite
 use Rattle.txt_core.specs.Names.{Bytes, Words}
 use Rattle.txt_core.specs.Lists.{Listing, elements, bad_at}
 use Rattle.txt_core.specs.Listing.{listing}
-use Rattle.txt_core.specs.PatternLaws.{matches}
 use Rattle.txt_core.specs.Quoting.{quoting}
 use Rattle.tcl_frame.specs.Stack.{Stack}
 use Rattle.tcl_frame.specs.Frames.{has, is_array, elements_of, removed, pairs_written}
@@ -13,24 +12,20 @@ use Rattle.tcl_varcmd.specs.declared.part.Part.TheVariants.{Exists, Size, Unset,
 use Rattle.tcl_varcmd.specs.declared.array.Listed.{Listed}
 use Rattle.tcl_varcmd.specs.declared.array.Listed.TheVariants.{Elements, Indexes}
 use Rattle.txt_core.specs.ErrorTexts.{unknown_subcommand, bad_value, no_list}
+pub use Rattle.txt_core.specs.Truth.{truth_text}
+use Rattle.txt_core.specs.Picking.{picks}
 use Rattle.tcl_varcmd.specs.Answers.{Came, gives, fails, unless}
 use Rattle.natives.specs.Checks.{items}
 use Rattle.tcl_varcmd.specs.Errors.{array_error, count_error}
 use Rattle.natives.specs.Words.{arg}
-pub use Rattle.natives.specs.Words.{truth_text}
 
 -- an element: its index and its value
 abbrev pub Pair : Type 0
 Pair = Bytes × Bytes
 
--- whether an element of this index is listed: any, or only where the index matches a pattern
-abbrev pub is_picked : Option Bytes → Bytes → Bool
-is_picked None index = true
-is_picked (Some pattern) index = matches pattern index
-
--- the elements that are listed
+-- the elements that are listed: all, or those whose index matches a pattern
 abbrev pub picked : Option Bytes → List Pair → List Pair
-picked pattern pairs = filter (λ pair. is_picked pattern pair.0) pairs
+picked pattern pairs = filter (λ pair. picks pattern pair.0) pairs
 
 -- indexes and values in turn
 abbrev pub in_turn : List Pair → Words

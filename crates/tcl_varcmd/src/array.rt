@@ -8,9 +8,8 @@ ghost use Rattle.tcl_frame.specs.Frames.{elements_of};
 ghost use Rattle.natives.specs.Answers.{Tried};
 ghost use Rattle.tcl_varcmd.specs.Answers.{Answers, IfNoMemory};
 ghost use Rattle.natives.specs.Checks.{items};
-ghost use Rattle.natives.specs.Words.{truth_text};
 ghost use Rattle.tcl_varcmd.specs.Errors.{array_error};
-ghost use Rattle.tcl_varcmd.specs.Arrays.{is_picked, picked, in_turn, listed_words, pairs_error, array_set, unset_array, array_part, array_came, info_came};
+ghost use Rattle.tcl_varcmd.specs.Arrays.{picked, in_turn, listed_words, pairs_error, array_set, unset_array, array_part, array_came, info_came};
 
 use crate::message::{check_count, refusal};
 use crate::part::{Part, part_of};
@@ -19,28 +18,7 @@ use natives::{Fault, list_in, word_at};
 use std::alloc::Global;
 use tcl_frame::{Frames, VarFault, is_element_name};
 use tcl_list::quote;
-use txt_core::{NoMemory, Pairs, Text, Words, glob, write_natural};
-
-/// 1 or 0.
-fn truth(alloc: Global, holds: bool) -> Result<Text, NoMemory>
-    ensures { IfOk result (λ text. text ≡ truth_text holds) }
-{
-    if holds {
-        Text::new(alloc, b"1")
-    } else {
-        Text::new(alloc, b"0")
-    }
-}
-
-/// Whether an element of this index is listed.
-fn is_listed(pattern: Option<&Text>, index: &Text) -> bool
-    ensures { result ≡ is_picked (option_copied pattern.entry) index.now }
-{
-    match pattern {
-        None => true,
-        Some(pattern) => glob(pattern, index),
-    }
-}
+use txt_core::{NoMemory, Pairs, Text, Words, picks, truth_text, write_natural};
 
 /// The indexes and values in turn of the elements that are listed.
 fn elements_in_turn(alloc: Global, pairs: &Pairs, pattern: Option<&Text>) -> Result<Words, NoMemory>
@@ -49,7 +27,7 @@ fn elements_in_turn(alloc: Global, pairs: &Pairs, pattern: Option<&Text>) -> Res
 {
     let mut words = Words::new(alloc);
     'pairs: for pair in pairs.as_slice() {
-        if is_listed(pattern, &pair.0) {
+        if picks(pattern, &pair.0) {
             words.add(pair.0.copy(alloc)?)?;
             words.add(pair.1.copy(alloc)?)?;
         }
@@ -64,7 +42,7 @@ fn indexes(alloc: Global, pairs: &Pairs, pattern: Option<&Text>) -> Result<Words
 {
     let mut words = Words::new(alloc);
     'pairs: for pair in pairs.as_slice() {
-        if is_listed(pattern, &pair.0) {
+        if picks(pattern, &pair.0) {
             words.add(pair.0.copy(alloc)?)?;
         }
     }
@@ -192,7 +170,7 @@ fn run_part(alloc: Global, frames: &mut Frames, part: Part, words: &Words) -> Re
     match part {
         Part::Exists => {
             check_count(alloc, words, 3, 3, "array")?;
-            Ok(truth(alloc, frames.is_array(name))?)
+            Ok(truth_text(alloc, frames.is_array(name))?)
         }
         Part::Size => {
             check_count(alloc, words, 3, 3, "array")?;
@@ -230,5 +208,5 @@ pub(crate) fn info(alloc: Global, frames: &Frames, words: &Words) -> Result<Text
     ensures { Answers (info_came frames.now words.now) result frames.now }
 {
     check_count(alloc, words, 3, 3, "info")?;
-    Ok(truth(alloc, frames.has(word_at(words, 2)))?)
+    Ok(truth_text(alloc, frames.has(word_at(words, 2)))?)
 }

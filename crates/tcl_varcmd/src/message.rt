@@ -1,9 +1,7 @@
 //! The texts of errors, and the checks that need no variable.
 
-ghost use Rattle.std.specs.Prelude.{◌≡◌, ◌↔◌, ◌<◌, ◌≤◌, nat_lt, length, IfOk, IsTrue, Some};
-ghost use Rattle.txt_core.specs.Names.{Bytes};
+ghost use Rattle.std.specs.Prelude.{◌≡◌, ◌↔◌, ◌<◌, ◌≤◌, nat_lt, length, IsTrue};
 ghost use Rattle.natives.specs.Answers.{Tried};
-ghost use Rattle.txt_core.specs.ErrorTexts.{wrong_words, overflow};
 ghost use Rattle.tcl_varcmd.specs.Answers.{Says};
 ghost use Rattle.tcl_varcmd.specs.Texts.{fault_text};
 ghost use Rattle.tcl_varcmd.specs.Errors.{count_error, least_error};
@@ -11,24 +9,7 @@ ghost use Rattle.tcl_varcmd.specs.Errors.{count_error, least_error};
 use natives::Fault;
 use std::alloc::Global;
 use tcl_frame::VarFault;
-use txt_core::{NoMemory, Text, Words, error_text};
-
-/// The error of a text, or want of memory where there is no text for want of it.
-fn told(text: Result<Text, NoMemory>) -> Fault
-    ensures { (said : Bytes) → IfOk text (λ t. t ≡ said) → Says (Some said) result }
-{
-    match text {
-        Ok(text) => Fault::Error(text),
-        Err(NoMemory) => Fault::NoMemory,
-    }
-}
-
-/// The error of a sum that isn't a number of 64 bits with a sign.
-pub(crate) fn overflow(alloc: Global) -> Fault
-    ensures { Says (Some overflow) result }
-{
-    told(error_text::overflow(alloc))
-}
+use txt_core::{Text, Words, error_text};
 
 /// Why a variable is refused.
 pub(crate) fn refusal(alloc: Global, fault: VarFault, name: &Text) -> Fault
@@ -36,10 +17,10 @@ pub(crate) fn refusal(alloc: Global, fault: VarFault, name: &Text) -> Fault
 {
     let name = name.bytes();
     match fault {
-        VarFault::NoVariable => told(error_text::no_variable(alloc, name)),
-        VarFault::IsArray => told(error_text::is_an_array(alloc, name)),
-        VarFault::NotArray => told(error_text::is_no_array(alloc, name)),
-        VarFault::Exists => told(error_text::variable_exists(alloc, name)),
+        VarFault::NoVariable => Fault::saying(error_text::no_variable(alloc, name)),
+        VarFault::IsArray => Fault::saying(error_text::is_an_array(alloc, name)),
+        VarFault::NotArray => Fault::saying(error_text::is_no_array(alloc, name)),
+        VarFault::Exists => Fault::saying(error_text::variable_exists(alloc, name)),
         VarFault::NoMemory => Fault::NoMemory,
     }
 }

@@ -10,10 +10,13 @@ ghost use Rattle.tcl_varcmd.specs.Linking.{AreWithin, AreFitting};
 use natives::Fault;
 use std::alloc::Global;
 use tcl_frame::VarFault;
+use txt_core::error_text::{
+    CANT_READ, EXISTS, IS_AN_ARRAY, IS_NO_ARRAY, NO_SUCH_VARIABLE, VARIABLE,
+};
 use txt_core::{NoMemory, Text};
 
-/// How many bytes the longest refusal of a removal has beside the name: those of `can't read "": no
-/// such variable`.
+/// How many bytes the longest refusal of a removal has beside the name: those of `CANT_READ` and
+/// `NO_SUCH_VARIABLE`.
 const AROUND: usize = 32;
 
 /// The larger one of two numbers.
@@ -70,12 +73,10 @@ pub(crate) fn refusal_within(room: Vec<u8>, fault: VarFault, name: &Text) -> Fau
 {
     let name = name.bytes();
     let text = match fault {
-        VarFault::NoVariable => {
-            naming_within(room, b"can't read \"", name, b"\": no such variable")
-        }
-        VarFault::IsArray => naming_within(room, b"variable \"", name, b"\" is an array"),
-        VarFault::NotArray => naming_within(room, b"variable \"", name, b"\" is no array"),
-        VarFault::Exists => naming_within(room, b"variable \"", name, b"\" exists"),
+        VarFault::NoVariable => naming_within(room, CANT_READ, name, NO_SUCH_VARIABLE),
+        VarFault::IsArray => naming_within(room, VARIABLE, name, IS_AN_ARRAY),
+        VarFault::NotArray => naming_within(room, VARIABLE, name, IS_NO_ARRAY),
+        VarFault::Exists => naming_within(room, VARIABLE, name, EXISTS),
         VarFault::NoMemory => unreachable!(),
     };
     Fault::Error(Text::from_vec(text))

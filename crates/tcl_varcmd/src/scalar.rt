@@ -1,10 +1,9 @@
 //! The commands that read or write one variable.
 
-ghost use Rattle.std.specs.Prelude.{◌≡◌, ◌+◌, ◌++◌, [], length, nat_lt, IfOk};
+ghost use Rattle.std.specs.Prelude.{◌≡◌, ◌++◌, [], length, IfOk};
 ghost use Rattle.std.specs.Option.{option_copied};
 ghost use Rattle.txt_core.specs.Knowing.{Holds};
 ghost use Rattle.tcl_frame.specs.Frames.{read_of};
-ghost use Rattle.txt_core.specs.Limits.{most_bytes};
 ghost use Rattle.natives.specs.Answers.{Tried};
 ghost use Rattle.tcl_varcmd.specs.Answers.{Answers, IfNoMemory};
 ghost use Rattle.tcl_varcmd.specs.Growing.{grown};
@@ -17,7 +16,7 @@ use natives::{Fault, number_in, word_at};
 use std::alloc::Global;
 use tcl_frame::Frames;
 use tcl_list::elements_behind;
-use txt_core::{Known, NoMemory, Text, Words, is_over_limit, is_too_long, write_int};
+use txt_core::{Known, NoMemory, Text, Words, is_too_long, is_too_long_behind, write_int};
 
 /// Writes a value, which is the result.
 fn store(alloc: Global, frames: &mut Frames, name: &Text, mut value: Text) -> Result<Text, Fault>
@@ -99,13 +98,6 @@ pub(crate) fn incr(alloc: Global, frames: &mut Frames, words: &Words) -> Result<
     add(alloc, frames, word_at(words, 1), words.get(2))
 }
 
-/// Whether so many bytes, with a text behind them, are over the limit of a value.
-fn are_too_many(front: usize, text: &Text) -> bool
-    ensures { result ≡ nat_lt most_bytes (front + length text.now) }
-{
-    is_over_limit(front.saturating_add(text.len()))
-}
-
 /// Puts a text behind a variable's own, and gives the new value. The condition is that what is known
 /// of it is true.
 fn grow(
@@ -121,7 +113,7 @@ fn grow(
     ensures depth { length frames.new.above ≡ length frames.old.above }
 {
     let front = length_or_none(alloc, frames, name)?;
-    if are_too_many(front, more) {
+    if is_too_long_behind(front, more) {
         return Err(Fault::too_long(alloc));
     }
     variable::append(alloc, frames, name, more.bytes(), known)

@@ -7,7 +7,6 @@ ghost use Rattle.natives.specs.Checks.{list_error, items};
 ghost use Rattle.tcl_varcmd.specs.Reading.{SaysOfList};
 ghost use Rattle.tcl_varcmd.specs.Errors.{sum_error};
 
-use crate::message::overflow;
 use natives::Fault;
 use std::alloc::Global;
 use tcl_list::{ListFault, append_elements};
@@ -19,7 +18,7 @@ pub(crate) fn sum(alloc: Global, left: i64, right: i64) -> Result<i64, Fault>
 {
     match left.checked_add(right) {
         Some(sum) => Ok(sum),
-        None => Err(overflow(alloc)),
+        None => Err(Fault::overflow(alloc)),
     }
 }
 

@@ -1,6 +1,6 @@
 use Rattle.std.proofs.Common.{◌≡◌, ap, subst, ◌∙◌}
 use Rattle.std.specs.FinMap as map
-use Rattle.tcl_frame.specs.Undoing.{given_back}
+use Rattle.txt_core.specs.Keyed.{given_back}
 use Rattle.tcl_frame.specs.Base.{base_of}
 use Rattle.tcl_frame.specs.Globals.{values_of, keeps_of, KnowBefore}
 use Rattle.tcl_frame.proofs.Keeping.{base_last, keeps_last, know_front, values_given}

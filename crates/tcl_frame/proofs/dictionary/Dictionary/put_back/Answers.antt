@@ -1,7 +1,7 @@
 use Rattle.std.proofs.Common.{◌≡◌, sym, ap, ◌∙◌, is_some}
 use Rattle.std.specs.Prelude.{if◌then◌else◌}
 use Rattle.std.specs.FinMap as map
-use Rattle.tcl_frame.specs.Undoing.{given_back}
+use Rattle.txt_core.specs.Keyed.{given_back}
 use Rattle.tcl_frame.proofs.Tables.{at_some}
 use Rattle.tcl_frame.proofs.dictionary.Dictionary.put_back.Goals as goal
 

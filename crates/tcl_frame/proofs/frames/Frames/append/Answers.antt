@@ -1,18 +1,31 @@
-use Rattle.std.proofs.Common.{◌≡◌, false, refl, ap, sym, ◌∙◌, subst}
-use Rattle.std.specs.FinMap as map
+use Rattle.std.proofs.Common.{◌≡◌, ap, ◌∙◌}
 use Rattle.tcl_frame.specs.Names.{named, variable_name}
 use Rattle.tcl_frame.specs.Appending.{with_longer}
-use Rattle.tcl_frame.proofs.Tables.{on_ok}
-use Rattle.tcl_frame.proofs.Tops.{top_changed}
+use Rattle.tcl_frame.specs.Frames.{with_table}
+use Rattle.tcl_frame.proofs.Tables.{on_ok, on_err, at_some}
+use Rattle.tcl_frame.proofs.Tops.{own_changed, own_unchanged, own_deep}
 use Rattle.tcl_frame.proofs.frames.Frames.append.Goals as goal
 
 pub returns-in-Some-clause-ok : goal.returns-in-Some-clause-ok
 returns-in-Some-clause-ok c =
+    let stack = c.args.self.now in
+    let new = c.append.new.self in
+    let is = at_some c.own_mut.result c.in-Some.variables (c.own_mut.follows.lender new ≡ with_table stack c.variable.result.now new) c.in-Some.is (c.own_mut.follows.holds new) in
     let meant = c.new-name.ensures ∙ ap named c.bytes.ensures in
-    let name = c.variable.ensures ∙ ap variable_name meant in
-    on_ok c.append.result _ _ (λ is.
-    top_changed c.self.inside.global.table c.self.inside.global.keeps c.self.inside.above.items c.self.inside.above.len c.in-Some.frame.now c.args.self.now (variable_name (named c.args.name.now))
-    (λ table. with_longer table (named c.args.name.now) c.args.more.now) c.append.new.self
-    c.self.inside.above.ok.0 (c.in-Some.ensures.variant.0 refl) c.in-Some.ensures.value c.self.view_is
-    (subst (λ n. map.contains_key c.in-Some.frame.now.links n ≡ false) name (sym c.contains.ensures ∙ c.if-not-contains.true))
-    (is ∙ ap (λ n. with_longer c.in-Some.frame.now.variables n c.args.more.now) meant)) c.append.ensures.ok
+    on_ok c.append.result _ _ (λ change.
+    own_changed stack c.variable.result.now c.in-Some.variables.now new (c.own_mut.follows.lender new) c.in-Some.ensures.value is (variable_name (named c.args.name.now))
+    (λ table. with_longer table (named c.args.name.now) c.args.more.now) (c.variable.ensures ∙ ap variable_name meant) (change ∙ ap (λ n. with_longer c.in-Some.variables.now n c.args.more.now) meant)) c.append.ensures.ok
+
+pub returns-in-Some-clause-err : goal.returns-in-Some-clause-err
+returns-in-Some-clause-err c =
+    let stack = c.args.self.now in
+    let new = c.append.new.self in
+    let is = at_some c.own_mut.result c.in-Some.variables (c.own_mut.follows.lender new ≡ with_table stack c.variable.result.now new) c.in-Some.is (c.own_mut.follows.holds new) in
+    on_err c.append.result _ _ (λ same. own_unchanged stack c.variable.result.now c.in-Some.variables.now new (c.own_mut.follows.lender new) c.in-Some.ensures.value is same) c.append.ensures.err
+
+pub returns-in-Some-clause-depth : goal.returns-in-Some-clause-depth
+returns-in-Some-clause-depth c =
+    let stack = c.args.self.now in
+    let new = c.append.new.self in
+    let is = at_some c.own_mut.result c.in-Some.variables (c.own_mut.follows.lender new ≡ with_table stack c.variable.result.now new) c.in-Some.is (c.own_mut.follows.holds new) in
+    own_deep stack c.variable.result.now c.in-Some.variables.now new (c.own_mut.follows.lender new) c.in-Some.ensures.value is
