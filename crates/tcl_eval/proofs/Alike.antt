@@ -45,7 +45,8 @@ use Rattle.natives.specs.Names.{has_name}
 use Rattle.tcl_eval.specs.Natives.{is_in_range, replied, call_native}
 use Rattle.tcl_eval.specs.State.{State, Leaf, says, wants, defines, stores, not_mine, Onward, goes, enters, TextEnd, LeafTable, Given, Out, spent, Rest, Next}
 use Rattle.tcl_eval.specs.Messages.{script_fault, variable_fault, too_long, no_boolean, bad_expression, no_list, bad_value, unknown_command, no_command, command_exists}
-use Rattle.tcl_eval.specs.Results.{most_bytes, bytes_for_one, error_of, wrong_words, element_name, read_as, stored, stored_of, command_cost, answer_cost, return_of, raised_of, break_of, continue_of}
+use Rattle.tcl_eval.specs.Costs.{result_cost, command_cost, answer_cost}
+use Rattle.tcl_eval.specs.Results.{most_bytes, error_of, wrong_words, element_name, read_as, stored, stored_of, return_of, raised_of, break_of, continue_of}
 use Rattle.tcl_eval.specs.Parameters.{Values, parameters, bound}
 use Rattle.tcl_eval.specs.Words.{arg, joined}
 use Rattle.tcl_eval.specs.Going.{Source, unread, read, Inner, on_ok, pay, give, fails, limited, charged, command_end, word_end, with_host, with_frames, with_made, with_def, read_variable, write_variable, proc_end, write_all, decided, by_truth}
@@ -95,7 +96,7 @@ module _ {H : Type 0} where
   fails_alike message m k k' h = give_alike (error_of message) m k k' h
 
   charged_after : (m : ℕ) (k k' : Next H) → After m k k' → After m (charged k) (charged k')
-  charged_after m k k' h code result = pay_alike (length result / bytes_for_one) m (k code result) (k' code result) (h code result)
+  charged_after m k k' h code result = pay_alike (result_cost result) m (k code result) (k' code result) (h code result)
 
   limited_after : (m : ℕ) (k k' : Next H) → After m k k' → After m (limited k) (limited k')
   limited_after m k k' h code result = choice (nat_lt most_bytes (length result)) m (k 1 too_long) (k code result) (k' 1 too_long) (k' code result) (h 1 too_long) (h code result)

@@ -1,5 +1,5 @@
 -- What an expression comes to at once is what the evaluation gives, whatever waits for it.
-use Rattle.std.proofs.Common.{◌≡◌, ℕ, zero, suc, List, [], ◌++◌, length, Bool, true, false, Option, None, Some, cond, refl, sym, ap, ◌∙◌}
+use Rattle.std.proofs.Common.{◌≡◌, ℕ, zero, suc, List, [], Bool, true, false, Option, None, Some, refl, sym, ap, ◌∙◌}
 use Rattle.std.specs.Prelude.{codes}
 use Rattle.txt_core.specs.Names.{Names}
 use Rattle.txt_core.specs.Truth.{truth}
@@ -7,15 +7,14 @@ use Rattle.tcl_parse.specs.Tree.{text, variable, element, bracket, Parts, no_par
 use Rattle.tcl_expr.specs.Trees as trees
 use Rattle.tcl_expr.specs.Trees.{Tree}
 use Rattle.tcl_expr.specs.declared.operator.Op.{Op}
-use Rattle.tcl_frame.specs.Stack.{Stack}
 use Rattle.tcl_eval.specs.State.{State, LeafTable, Given, Rest, Next}
 use Rattle.tcl_eval.specs.Messages.{no_boolean}
 use Rattle.tcl_eval.specs.Results.{ended, error_of, read_as}
 use Rattle.tcl_eval.specs.Going.{decided}
-use Rattle.tcl_eval.specs.Eval.{Inner, give, on_ok, by_truth, nested, run_parts}
+use Rattle.tcl_eval.specs.Eval.{give, on_ok, by_truth, nested}
 use Rattle.tcl_eval.specs.Expressions.{way_of, with_one, with_two, behind_left, run_expression}
-use Rattle.tcl_eval.specs.Kept.{grown, kept_value, judged, run_kept}
-use Rattle.tcl_eval.specs.AtOnce.{on_code, on_value, on_truth, rest_of_word, word_at_once, right_at_once, left_at_once, at_once}
+use Rattle.tcl_eval.specs.Kept.{grown, kept_value, run_kept}
+use Rattle.tcl_eval.specs.AtOnce.{on_code, on_value, on_truth, rest_of_word, right_at_once, left_at_once, at_once}
 use Rattle.tcl_eval.specs.declared.gather.SoFar.{SoFar}
 use Rattle.tcl_eval.specs.declared.gather.SoFar.TheVariants.{Kept}
 use Rattle.tcl_eval.specs.declared.stack.Ended.{Ended}

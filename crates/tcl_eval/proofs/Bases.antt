@@ -13,7 +13,7 @@ use Rattle.tcl_frame.specs.Stack.{Stack}
 use Rattle.tcl_frame.specs.Frames.{links_name, with_top, with_table, read_of, written, removed, linked, has, is_array, pairs_written}
 use Rattle.tcl_varcmd.specs.Answers.{Came, gives, fails, unless, IsAnswer, IfNoMemory}
 use Rattle.tcl_varcmd.specs.Scalars.{stored, set_to, step_error, step_of, added, incr_by, append_to, lappend_to, unset_all, global_all}
-use Rattle.tcl_varcmd.specs.Arrays.{truth_text, pairs_error, array_set, unset_array, array_part, part_named}
+use Rattle.tcl_varcmd.specs.Arrays.{pairs_error, array_set, unset_array, array_part, part_named}
 use Rattle.tcl_varcmd.specs.Errors.{read_error, write_error, remove_error, global_error, array_error, count_error, least_error, sum_error, long_error}
 use Rattle.tcl_varcmd.specs.Commands.{command_named, command_came, bounded, var_came}
 use Rattle.tcl_varcmd.specs.declared.part.Part.{Part}
@@ -21,6 +21,7 @@ use Rattle.tcl_varcmd.specs.declared.part.Part.TheVariants.{Exists, Size, Unset 
 use Rattle.tcl_varcmd.specs.declared.command.Command.{Command}
 use Rattle.tcl_varcmd.specs.declared.command.Command.TheVariants.{Set, Unset, Incr, Append, Lappend, Global, Array, Info}
 use Rattle.txt_core.specs.ErrorTexts.{too_long}
+use Rattle.txt_core.specs.Truth.{truth_text}
 use Rattle.natives.specs.Words.{arg}
 
 -- a command keeps the base scalars of these frames

@@ -6,7 +6,7 @@ use Rattle.std.proofs.lemmas.Option.{get_or_from_slice_get, slice_get_within}
 use Rattle.txt_core.specs.Names.{Names}
 use Rattle.tcl_eval.specs.State.{State, LeafTable, Given, Out, Next}
 use Rattle.tcl_eval.specs.Eval.{Inner, nested, unread, on_ok, by_truth}
-use Rattle.tcl_eval.specs.Expressions.{evaluate}
+use Rattle.tcl_eval.specs.Expressions.{evaluate, test}
 use Rattle.tcl_eval.specs.Branches.{otherwise, choose}
 use Rattle.tcl_eval.specs.Stack.{stack_next}
 use Rattle.tcl_eval.specs.declared.branch.Branches.{Branches}
@@ -56,6 +56,13 @@ module _ {H : Type 0} (ns : Names) (t : LeafTable H) where
       ∙ ap (λ (cs : List (List ℕ × List ℕ)). evaluate inner condition (on_ok (λ value. by_truth value (inner.run (unread body) k) (choose inner cs all.last k) k) k) s b g) (dropped all.clauses at 1 next past)
       ∙ ap (λ (c : List ℕ). evaluate inner c (on_ok (λ value. by_truth value (inner.run (unread body) k) (choose inner (drop (at + 1) all.clauses) all.last k) k) k) s b g) first
       ∙ ap (λ (c : List ℕ). evaluate inner clause.0 (on_ok (λ value. by_truth value (inner.run (unread c) k) (choose inner (drop (at + 1) all.clauses) all.last k) k) k) s b g) second
+      ∙ sym (ap (λ (cs : List (List ℕ × List ℕ)). choose inner cs all.last k s b g) (some_left all.clauses at clause found))
+
+  -- a condition is looked at
+  pub choose_tested : (inner : Inner H) (all : Branches) (clause : List ℕ × List ℕ) (condition : List ℕ) (at : ℕ) (k : Next H) (s : State H) (b : ℕ) (g : Given) (x : Out H) → Some clause ≡ slice_get all.clauses at → condition ≡ clause.0 → x ≡ test inner condition (inner.run (unread clause.1) k) (choose inner (drop (at + 1) all.clauses) all.last k) k s b g → x ≡ choose inner (drop at all.clauses) all.last k s b g
+  choose_tested inner all clause condition at k s b g x found same e =
+      e
+      ∙ ap (λ (c : List ℕ). test inner c (inner.run (unread clause.1) k) (choose inner (drop (at + 1) all.clauses) all.last k) k s b g) same
       ∙ sym (ap (λ (cs : List (List ℕ × List ℕ)). choose inner cs all.last k s b g) (some_left all.clauses at clause found))
 
   -- no condition is left

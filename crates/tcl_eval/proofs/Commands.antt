@@ -1,14 +1,13 @@
 -- Commands that come to a value straight away.
-use Rattle.std.proofs.Common.{◌≡◌, ◌≢◌, ◌≤◌, ◌<◌, ℕ, zero, suc, ◌+◌, List, [], ◌∷◌, ◌++◌, drop, length, Bool, true, false, cond, Option, Some, None, refl, sym, ap, ◌∙◌, arith}
+use Rattle.std.proofs.Common.{◌≡◌, ◌≢◌, ◌≤◌, ℕ, zero, suc, ◌+◌, ◌-◌, List, [], ◌∷◌, ◌++◌, drop, length, Bool, true, false, cond, Option, Some, None, refl, sym, ap, ◌∙◌, arith}
 use Rattle.txt_core.specs.Names.{Names}
-use Rattle.tcl_parse.specs.Tree.{Words, no_words, Commands, no_commands, command as one_command}
-use Rattle.cmd_table.specs.Table.{command_of}
+use Rattle.tcl_parse.specs.Tree.{Words, no_words, Commands}
 use Rattle.cmd_table.specs.declared.command.Cmd.{Cmd}
 use Rattle.natives.specs.Names.{has_name}
 use Rattle.tcl_varcmd.specs.Commands.{begins_var_command, var_came}
 use Rattle.tcl_eval.specs.State.{State, LeafTable, Given, Out, Rest, Next}
 use Rattle.tcl_eval.specs.Eval.{Inner, act, arg, built, built_in, call_native, came_next, give, on_ok, run_command, run_commands, run_words, verb_of}
-use Rattle.tcl_eval.specs.Places.{command_at, commands_from, commands_size, words_from, words_size, HasCommand}
+use Rattle.tcl_eval.specs.Places.{command_at, commands_from, commands_size, words_size, HasCommand}
 use Rattle.tcl_eval.specs.Straight.{IsOwn, behind_command}
 use Rattle.tcl_eval.specs.Verbs.{ValueOf}
 use Rattle.tcl_eval.specs.declared.stack.Ended.{Ended}
@@ -22,6 +21,19 @@ use Rattle.tcl_eval.specs.Engine.{Same, state_of}
 use Rattle.tcl_eval.specs.declared.engine.Engine.{Engine}
 use Rattle.tcl_eval.specs.declared.stack.Frame.{Frame}
 use Rattle.tcl_eval.specs.declared.stack.Frame.TheVariants.{Script}
+use Rattle.std.proofs.lemmas.Bool.{le-ltb}
+use Rattle.tcl_expr.specs.Grammar.{Reads}
+use Rattle.tcl_expr.specs.Outcome as expr_outcome
+use Rattle.tcl_expr.specs.Outcome.{Answer}
+use Rattle.tcl_expr.specs.Reading.{expression_is, expression_of}
+use Rattle.tcl_expr.specs.Trees.{Tree}
+use Rattle.tcl_eval.specs.State.{spent}
+use Rattle.tcl_eval.specs.AtOnce.{at_once}
+use Rattle.tcl_eval.specs.Eval.{command_cost, command_end, joined, wrong_words}
+use Rattle.tcl_eval.specs.Expressions.{evaluate, run_answer, value_end, whole_value}
+use Rattle.tcl_eval.specs.declared.verb.Verb.{Verb}
+use Rattle.tcl_eval.specs.declared.verb.Verb.TheVariants.{Expr}
+use Rattle.tcl_eval.proofs.AtOnce.{expression_gives}
 use Rattle.tcl_eval.proofs.Alike.{Runs, run_words_alike}
 use Rattle.tcl_eval.proofs.Stacks.{pushed}
 use Rattle.tcl_eval.proofs.Steps.{other_code, handed_on}
@@ -98,3 +110,36 @@ module _ {H : Type 0} where
 -- how much is left behind a command
 pub less_left : (cs : Commands) (at : ℕ) → HasCommand true at cs → commands_size (commands_from at cs) ≡ words_size (command_at at cs) + 1 + commands_size (commands_from (at + 1) cs)
 less_left cs at here = ap (λ (c : Commands). commands_size c) here
+
+module _ {H : Type 0} (ns : Names) (t : LeafTable H) where
+  pub whole_gives : (code : ℕ) (result : List ℕ) (k : Next H) (s : State H) (b : ℕ) (g : Given) → give (whole_value code result) k s b g ≡ value_end k code result s b g
+  whole_gives zero result k s b g = refl
+  whole_gives (suc code) result k s b g = refl
+
+  -- the words of an `expr` come to this at once
+  pub expr_gives : (levels : ℕ) (text words : List ℕ) (x : Tree) (value ended : Ended) (k : Next H) (s : State H) (b : ℕ) (g : Given) → Reads text (expr_outcome.tree x) → at_once s.frames x ≡ Some value → ended ≡ whole_value value.code value.result → text ≡ words → give ended k s b g ≡ run_answer (nested ns t levels) words (expression_of words) (value_end k) s b g
+  expr_gives levels text words x value ended k s b g reads found is same =
+      let inner = nested ns t levels in
+      ap (λ (v : Ended). give v k s b g) is
+      ∙ whole_gives value.code value.result k s b g
+      ∙ expression_gives ns t levels s b g x (value_end k) value found
+      ∙ sym (ap (λ (a : Answer). run_answer inner text a (value_end k) s b g) (expression_is text (expr_outcome.tree x) reads))
+      ∙ ap (λ (w : List ℕ). run_answer inner w (expression_of w) (value_end k) s b g) same
+
+  -- an `expr` is paid for, with its evaluation
+  pub expr_paid : (inner : Inner H) (words : List (List ℕ)) (ws : Words) (k : Next H) (s : State H) (b cost : ℕ) (g : Given) (x : Out H) → IsOwn s.commands words → has_name ns (arg words 0) ≡ false → begins_var_command words ≡ false → verb_of (arg words 0) ≡ Expr → 2 ≤ length words → cost ≡ command_cost words + 1 → cost ≤ b → ws ≡ no_words → x ≡ run_answer inner (joined (drop 1 words)) (expression_of (joined (drop 1 words))) (value_end (command_end k)) s (b - cost) g → x ≡ run_words ns t inner ws words k s b g
+  expr_paid inner words ws k s b cost g x own miss none is enough costs le done e =
+      let after = command_end k in
+      let less = b - command_cost words in
+      let pays : command_cost words ≤ b = omega (arith, costs, le) in
+      let one : 1 ≤ less = omega (arith, costs, le) in
+      let left : b - cost ≡ less - 1 = omega (arith, costs, le) in
+      let text = joined (drop 1 words) in
+      e
+      ∙ ap (λ (n : ℕ). run_answer inner text (expression_of text) (value_end after) s n g) left
+      ∙ sym (ap (λ (c : Bool). cond c (spent s) (run_answer inner text (expression_of text) (value_end after) s (less - 1) g)) (le-ltb less 1 one))
+      ∙ sym (ap (λ (c : Bool). (cond c (give (wrong_words words) after) (evaluate inner text (value_end after))) s less g) (le-ltb (length words) 2 enough))
+      ∙ sym (ap (λ (v : Verb). built_in ns t inner v words after s less g) is)
+      ∙ own_act ns t inner words after s less g (built_in ns t inner (verb_of (arg words 0)) words after s less g) own (end_built ns t inner words after s less g (built_in ns t inner (verb_of (arg words 0)) words after s less g) miss none refl)
+      ∙ sym (ap (λ (c : Bool). cond c (spent s) (act ns t inner words after s less g)) (le-ltb b (command_cost words) pays))
+      ∙ sym (ap (λ (w : Words). run_words ns t inner w words k s b g) done)

@@ -58,7 +58,8 @@ use Rattle.natives.specs.Names.{has_name}
 use Rattle.tcl_eval.specs.Natives.{is_in_range, replied, call_native}
 use Rattle.tcl_eval.specs.State.{State, TextEnd, LeafTable, Given, Out, done, spent, too_deep, Rest, Next}
 use Rattle.tcl_eval.specs.Messages.{script_fault, too_long, no_boolean, bad_expression, no_list, bad_value, unknown_command, variable_fault, no_command, command_exists}
-use Rattle.tcl_eval.specs.Results.{most_bytes, most_levels, bytes_for_one, error_of, wrong_words, element_name, returned, read_as, stored, stored_of, return_of, raised_of, break_of, continue_of}
+use Rattle.tcl_eval.specs.Costs.{result_cost}
+use Rattle.tcl_eval.specs.Results.{most_bytes, most_levels, error_of, wrong_words, element_name, returned, read_as, stored, stored_of, return_of, raised_of, break_of, continue_of}
 use Rattle.tcl_eval.specs.Parameters.{Values, parameters, bound}
 use Rattle.tcl_eval.specs.Words.{arg, joined}
 use Rattle.tcl_eval.specs.Going.{Source, unread, read, Inner, on_ok, pay, give, fails, limited, charged, command_end, word_end, with_host, with_frames, with_made, with_def, read_variable, write_variable, proc_end, write_all, decided, by_truth}
@@ -164,7 +165,7 @@ module _ {H : Type 0} (P Q : State H → ℕ → Given → Out H → Type 0) (Sh
   fails_good message k h = give_good (error_of message) k h
 
   charged_good : (k : Next H) → GoodNext k → GoodNext (charged k)
-  charged_good k h code result = pay_good (length result / bytes_for_one) (k code result) (h code result)
+  charged_good k h code result = pay_good (result_cost result) (k code result) (h code result)
 
   limited_good : (k : Next H) → GoodNext k → GoodNext (limited k)
   limited_good k h code result = choice (nat_lt most_bytes (length result)) (k 1 too_long) (k code result) (h 1 too_long) (h code result)

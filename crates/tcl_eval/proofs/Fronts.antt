@@ -7,7 +7,7 @@ use Rattle.outside.specs.declared.question.Question.{Question}
 use Rattle.cmd_table.specs.Commands.{writes, Writes}
 use Rattle.cmd_table.specs.declared.definition.Def.{Def}
 use Rattle.tcl_eval.specs.State.{State, Onward, LeafTable, Given, Out, spent, Rest, Next}
-use Rattle.tcl_eval.specs.Results.{answer_cost}
+use Rattle.tcl_eval.specs.Costs.{answer_cost}
 use Rattle.tcl_eval.specs.Going.{Inner}
 use Rattle.tcl_eval.specs.Eval.{leaf, onward, standing, nested, eval}
 use Rattle.tcl_eval.specs.Stack.{stack_next, step_next}

@@ -1,13 +1,14 @@
 -- What is kept of words under way is enough: a word that is too long is the same error whatever its bytes are, and a command whose
 -- first words cost more than is left ends the run once its words are there.
-use Rattle.std.proofs.Common.{◌≡◌, ◌<◌, ◌≤◌, ℕ, zero, suc, ◌+◌, ◌-◌, ◌/◌, List, [], ◌∷◌, ◌++◌, length, sum_by, Bool, true, false, cond, nat_lt, refl, sym, ap, ◌∙◌, arith, length-append}
+use Rattle.std.proofs.Common.{◌≡◌, ◌<◌, ◌≤◌, ℕ, zero, suc, ◌+◌, ◌-◌, List, [], ◌∷◌, ◌++◌, length, sum_by, Bool, true, false, cond, nat_lt, refl, sym, ap, arith, length-append}
 use Rattle.std.proofs.lemmas.Bool.{lt-ltb, ltb-true}
 use Rattle.std.proofs.lemmas.List.Sums.{sum_by_push}
 use Rattle.txt_core.specs.Names.{Names}
 use Rattle.tcl_parse.specs.Tree.{Part, Parts, no_parts, part, Words, no_words, word}
-use Rattle.tcl_eval.specs.State.{State, LeafTable, Given, Out, spent, Rest, Next}
+use Rattle.tcl_eval.specs.State.{State, LeafTable, Given, spent, Rest, Next}
 use Rattle.tcl_eval.specs.Messages.{too_long}
-use Rattle.tcl_eval.specs.Results.{most_bytes, bytes_for_one, ended, command_cost}
+use Rattle.tcl_eval.specs.Costs.{command_cost}
+use Rattle.tcl_eval.specs.Results.{most_bytes, ended}
 use Rattle.tcl_eval.specs.Going.{Inner, on_ok, give, word_end, command_end}
 use Rattle.tcl_eval.specs.Pieces.{run_part, run_parts}
 use Rattle.tcl_eval.specs.Eval.{act, run_words}

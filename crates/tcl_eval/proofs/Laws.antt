@@ -6,7 +6,7 @@ use Rattle.outside.specs.declared.question.Answer.{Answer}
 use Rattle.tcl_eval.specs.declared.outcome.Work.{Work}
 use Rattle.tcl_eval.specs.declared.outcome.Work.TheVariants as work
 use Rattle.tcl_eval.specs.Words.{arg}
-use Rattle.tcl_eval.specs.Results.{answer_cost}
+use Rattle.tcl_eval.specs.Costs.{answer_cost}
 use Rattle.tcl_eval.specs.Messages.{unknown_command}
 use Rattle.tcl_eval.specs.Going.{Inner, with_host}
 use Rattle.tcl_eval.specs.Eval.{resumed, leaf, onward, eval}

@@ -141,6 +141,12 @@ enters_any (acted.Asks question) fact h = absurd h
 enters_any acted.TooDeep fact h = tt
 enters_any acted.Spent fact h = tt
 
+module _ {H : Type 0} (ns : Names) (t : LeafTable H) where
+  -- the same of what a command came to
+  pub goes_on : (a : Acted) (what : Gone) (fact : Type 0) (k : Next H) (s : State H) (b : ℕ) (g : Given) (x : Out H) → what ≡ gone_of a → Enters a fact → acted_next ns t a None k s b g ≡ x → gone_next ns t what k s b g ≡ x
+  goes_on a what fact k s b g x is h e =
+      ap (λ (y : Gone). gone_next ns t y k s b g) is ∙ gone_same ns t a None k s b g (enters_any a fact h) ∙ e
+
 module _ {H : Type 0} where
   pub gone_nears : (a : Acted) (engine : Engine H) (less most : ℕ) → less ≤ most → Enters a (credit engine < less) → Nears (gone_of a) engine most
   gone_nears (acted.Gives value) engine less most le h = omega (arith, le, h)

@@ -8,7 +8,7 @@ use Rattle.tcl_eval.specs.declared.parameter.Parameter.{Parameter}
 use Rattle.tcl_eval.specs.declared.outcome.Work.{Work}
 use Rattle.tcl_eval.specs.declared.outcome.Work.TheVariants as work
 use Rattle.tcl_eval.specs.Words.{arg}
-use Rattle.tcl_eval.specs.Results.{answer_cost}
+use Rattle.tcl_eval.specs.Costs.{answer_cost}
 use Rattle.tcl_eval.specs.Messages.{unknown_command}
 use Rattle.tcl_eval.specs.Parameters.{parameters}
 use Rattle.tcl_eval.specs.Commands.{proc_of, rename_of}

@@ -2,8 +2,6 @@
 use Rattle.std.proofs.Common.{◌≡◌, ℕ, zero, suc, ◌+◌, ◌<◌, ◌≤◌, List, [], ◌∷◌, ◌++◌, map, length, Option, Some, None, Bool, true, false, refl, sym, ap, ◌∙◌, arith, add-one, nat_lt, subst}
 use Rattle.std.specs.Prelude.{slice_get, unwrap_or, set, drop, bytes_eq}
 use Rattle.std.proofs.lemmas.Slice.Eq.{bytes_eq-Decides}
-use Rattle.std.proofs.lemmas.Option.{unwrap_or-slice_get}
-use Rattle.tcl_eval.specs.Eval.{arg}
 use Rattle.std.proofs.lemmas.Bool.{ltb-true, ltb-false}
 use Rattle.tcl_parse.specs.Tree.{Part, element, Parts, no_parts, part, Words, no_words, word, no_commands, command, parts, words, commands}
 use Rattle.tcl_expr.specs.View.{only_word}
@@ -175,9 +173,6 @@ pub some_at_place : (found : List Piece) (at : ℕ) (path : List ℕ) (whole : P
 some_at_place found at path whole x seen is e look =
     seen_at seen (part_of x) (parts_from at (walk path whole)) (parts_from (at + 1) (walk path whole)) look
     (sym (ap (parts_from at) is) ∙ some_piece found at x e ∙ ap (λ (ps : Parts). part (part_of x) (parts_from (at + 1) ps)) is)
-
-pub no_word_at : (words : List (List ℕ)) (place : ℕ) → None ≡ slice_get words place → [] ≡ arg words place
-no_word_at words place none = ap (λ (o : Option (List ℕ)). unwrap_or o []) none ∙ unwrap_or-slice_get words place []
 
 -- the first word is another one
 pub first_set : (ws : List (List ℕ)) (name : List ℕ) → 0 < length ws → set ws 0 name ≡ name ∷ drop 1 ws

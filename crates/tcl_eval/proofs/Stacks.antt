@@ -13,9 +13,6 @@ module _ {H : Type 0} (ns : Names) (t : LeafTable H) where
   pub pushed : (fs fs' : List Frame) (f : Frame) → fs' ≡ fs ++ f ∷ [] → stack_next ns t fs' ≡ frame_next ns t f (stack_next ns t fs)
   pushed fs fs' f e = ap (λ x. stack_next ns t x) e ∙ above_push fs f done
 
-  pub pushed_two : (fs fs1 fs2 : List Frame) (f1 f2 : Frame) → fs1 ≡ fs ++ f1 ∷ [] → fs2 ≡ fs1 ++ f2 ∷ [] → stack_next ns t fs2 ≡ frame_next ns t f2 (frame_next ns t f1 (stack_next ns t fs))
-  pushed_two fs fs1 fs2 f1 f2 e1 e2 = pushed fs1 fs2 f2 e2 ∙ ap (λ k. frame_next ns t f2 k) (pushed fs fs1 f1 e1)
-
   -- the top frame is given what it waited for
   pub gave : (fs fs1 : List Frame) (f : Frame) (code : ℕ) (result : List ℕ) (s : State H) (b : ℕ) (g : Given) (x y : Out H) → fs ≡ fs1 ++ f ∷ [] → x ≡ frame_next ns t f (stack_next ns t fs1) code result s b g → stack_next ns t fs code result s b g ≡ y → x ≡ y
   gave fs fs1 f code result s b g x y e m inv = m ∙ ap (λ k. k code result s b g) (sym (pushed fs1 fs f e)) ∙ inv

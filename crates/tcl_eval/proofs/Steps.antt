@@ -15,7 +15,7 @@ use Rattle.tcl_eval.specs.declared.stack.Frame.{Frame}
 use Rattle.tcl_eval.specs.declared.stack.Frame.TheVariants.{Script, Word, Index}
 use Rattle.tcl_eval.proofs.Alike.{After, Runs, run_words_alike, run_script_alike}
 use Rattle.tcl_eval.proofs.Kept.{kept_end, next_kept, judged_word}
-use Rattle.tcl_eval.proofs.Stacks.{pushed, pushed_two}
+use Rattle.tcl_eval.proofs.Stacks.{pushed}
 
 module _ {H : Type 0} where
   -- a code that isn't 0 is handed on
@@ -47,26 +47,31 @@ module _ {H : Type 0} (ns : Names) (t : LeafTable H) where
       ap (λ (x : List (List ℕ)). command ns t inner x k s b g) same
       ∙ sym (ap (λ (x : Words). run_words ns t inner x values k s b g) is)
 
-  -- a word begins, for which a frame waits
-  pub word_begins : (inner : Inner H) (run : Runs inner) (fs fs1 : List Frame) (f : Frame) (go : Next H → List ℕ → Rest H) (w p : Parts) (e : List ℕ) (s : State H) (b : ℕ) (g : Given) → fs1 ≡ fs ++ f ∷ [] → ((k : Next H) → frame_next ns t f k ≡ on_ok (go k) k) → p ≡ w → e ≡ [] → run_parts inner p e (judged (stack_next ns t fs1)) s b g ≡ run_parts inner w [] (word_end (go (stack_next ns t fs)) (stack_next ns t fs)) s b g
-  word_begins inner run fs fs1 f go w p e s b g push shape isp ise =
-      let k = on_ok (go (stack_next ns t fs)) (stack_next ns t fs) in
-      ap (λ (x : Next H). run_parts inner p e (judged x) s b g) (pushed ns t fs fs1 f push ∙ shape (stack_next ns t fs))
-      ∙ ap (λ (x : Parts). run_parts inner x e (judged k) s b g) isp
-      ∙ ap (λ (x : List ℕ). run_parts inner w x (judged k) s b g) ise
+  -- pieces begin, for which a frame waits
+  pub pieces_begin : (inner : Inner H) (fs fs1 : List Frame) (f : Frame) (p : Parts) (e : List ℕ) (s : State H) (b : ℕ) (g : Given) → fs1 ≡ fs ++ f ∷ [] → e ≡ [] → run_parts inner p e (judged (stack_next ns t fs1)) s b g ≡ run_parts inner p [] (judged (frame_next ns t f (stack_next ns t fs))) s b g
+  pieces_begin inner fs fs1 f p e s b g push ise =
+      ap (λ (x : Next H). run_parts inner p e (judged x) s b g) (pushed ns t fs fs1 f push)
+      ∙ ap (λ (x : List ℕ). run_parts inner p x (judged (frame_next ns t f (stack_next ns t fs))) s b g) ise
+
+  -- these are the pieces of a word
+  pub word_begins : (inner : Inner H) (run : Runs inner) (fs : List Frame) (f : Frame) (go : Next H → List ℕ → Rest H) (w p : Parts) (s : State H) (b : ℕ) (g : Given) (x : Out H) → ((k : Next H) → frame_next ns t f k ≡ on_ok (go k) k) → p ≡ w → x ≡ run_parts inner p [] (judged (frame_next ns t f (stack_next ns t fs))) s b g → x ≡ run_parts inner w [] (word_end (go (stack_next ns t fs)) (stack_next ns t fs)) s b g
+  word_begins inner run fs f go w p s b g x shape isp e =
+      e
+      ∙ ap (λ (y : Next H). run_parts inner p [] (judged y) s b g) (shape (stack_next ns t fs))
+      ∙ ap (λ (y : Parts). run_parts inner y [] (judged (on_ok (go (stack_next ns t fs)) (stack_next ns t fs))) s b g) isp
       ∙ judged_word inner run w (go (stack_next ns t fs)) (stack_next ns t fs) s b g
 
   -- a command waits for its next word, which begins
-  pub word_step : (inner : Inner H) (run : Runs inner) (fs fs1 : List Frame) (f : Frame) (ws rest : Words) (w p : Parts) (e : List ℕ) (values : List (List ℕ)) (s : State H) (b : ℕ) (g : Given) → fs1 ≡ fs ++ f ∷ [] → ((k : Next H) → frame_next ns t f k ≡ on_ok (λ v. run_words ns t inner rest (values ++ v ∷ []) k) k) → ws ≡ word w rest → p ≡ w → e ≡ [] → run_parts inner p e (judged (stack_next ns t fs1)) s b g ≡ run_words ns t inner ws values (stack_next ns t fs) s b g
-  word_step inner run fs fs1 f ws rest w p e values s b g push shape is isp ise =
-      word_begins inner run fs fs1 f (λ k v. run_words ns t inner rest (values ++ v ∷ []) k) w p e s b g push shape isp ise
-      ∙ sym (ap (λ (x : Words). run_words ns t inner x values (stack_next ns t fs) s b g) is)
+  pub word_step : (inner : Inner H) (run : Runs inner) (fs : List Frame) (f : Frame) (ws rest : Words) (w p : Parts) (values : List (List ℕ)) (s : State H) (b : ℕ) (g : Given) (x : Out H) → ((k : Next H) → frame_next ns t f k ≡ on_ok (λ v. run_words ns t inner rest (values ++ v ∷ []) k) k) → ws ≡ word w rest → p ≡ w → x ≡ run_parts inner p [] (judged (frame_next ns t f (stack_next ns t fs))) s b g → x ≡ run_words ns t inner ws values (stack_next ns t fs) s b g
+  word_step inner run fs f ws rest w p values s b g x shape is isp e =
+      word_begins inner run fs f (λ k v. run_words ns t inner rest (values ++ v ∷ []) k) w p s b g x shape isp e
+      ∙ sym (ap (λ (y : Words). run_words ns t inner y values (stack_next ns t fs) s b g) is)
 
   -- the same of a command that costs more than is left
-  pub costly_step : (inner : Inner H) (run : Runs inner) (fs fs1 : List Frame) (f : Frame) (ws rest : Words) (w p : Parts) (e : List ℕ) (s : State H) (b : ℕ) (g : Given) → fs1 ≡ fs ++ f ∷ [] → ((k : Next H) → frame_next ns t f k ≡ on_ok (λ v. run_costly inner rest k) k) → ws ≡ word w rest → p ≡ w → e ≡ [] → run_parts inner p e (judged (stack_next ns t fs1)) s b g ≡ run_costly inner ws (stack_next ns t fs) s b g
-  costly_step inner run fs fs1 f ws rest w p e s b g push shape is isp ise =
-      word_begins inner run fs fs1 f (λ k v. run_costly inner rest k) w p e s b g push shape isp ise
-      ∙ sym (ap (λ (x : Words). run_costly inner x (stack_next ns t fs) s b g) is)
+  pub costly_step : (inner : Inner H) (run : Runs inner) (fs : List Frame) (f : Frame) (ws rest : Words) (w p : Parts) (s : State H) (b : ℕ) (g : Given) (x : Out H) → ((k : Next H) → frame_next ns t f k ≡ on_ok (λ v. run_costly inner rest k) k) → ws ≡ word w rest → p ≡ w → x ≡ run_parts inner p [] (judged (frame_next ns t f (stack_next ns t fs))) s b g → x ≡ run_costly inner ws (stack_next ns t fs) s b g
+  costly_step inner run fs f ws rest w p s b g x shape is isp e =
+      word_begins inner run fs f (λ k v. run_costly inner rest k) w p s b g x shape isp e
+      ∙ sym (ap (λ (y : Words). run_costly inner y (stack_next ns t fs) s b g) is)
 
   -- a script waits for its next command, which begins
   pub command_step : (inner : Inner H) (fs fs1 : List Frame) (f : Frame) (cs rest : Commands) (ws ws' : Words) (none : List (List ℕ)) (value : Ended) (s : State H) (b : ℕ) (g : Given) → fs1 ≡ fs ++ f ∷ [] → ((k : Next H) → frame_next ns t f k ≡ on_ok (λ v. run_commands ns t inner rest v k) k) → value.code ≡ 0 → cs ≡ one_command ws rest → ws' ≡ ws → none ≡ [] → run_words ns t inner ws' none (stack_next ns t fs1) s b g ≡ on_ok (λ v. run_commands ns t inner cs v (stack_next ns t fs)) (stack_next ns t fs) value.code value.result s b g
@@ -88,13 +93,13 @@ module _ {H : Type 0} (ns : Names) (t : LeafTable H) where
       ∙ sym (ap (λ (n : ℕ). on_ok (λ v. run_commands ns t inner cs v k) k n value.result s b g) z)
 
   -- an index begins, within a word that waits
-  pub index_step : (inner : Inner H) (fs fs1 fs2 : List Frame) (array : List ℕ) (so_far : SoFar) (place place' : Place) (levels : ℕ) (p p' : Parts) (e : List ℕ) (s : State H) (b : ℕ) (g : Given) → fs1 ≡ fs ++ Word place' so_far levels ∷ [] → fs2 ≡ fs1 ++ Index array ∷ [] → place' ≡ place → p ≡ p' → e ≡ [] → run_parts inner p e (judged (stack_next ns t fs2)) s b g ≡ run_parts inner p' [] (judged (frame_next ns t (Index array) (frame_next ns t (Word place so_far levels) (stack_next ns t fs)))) s b g
-  index_step inner fs fs1 fs2 array so_far place place' levels p p' e s b g e1 e2 at isp ise =
-      let waits : Place → Next H = λ x. judged (frame_next ns t (Index array) (frame_next ns t (Word x so_far levels) (stack_next ns t fs))) in
-      ap (λ (x : Next H). run_parts inner p e (judged x) s b g) (pushed_two ns t fs fs1 fs2 (Word place' so_far levels) (Index array) e1 e2)
-      ∙ ap (λ (x : Place). run_parts inner p e (waits x) s b g) at
-      ∙ ap (λ (x : Parts). run_parts inner x e (waits place) s b g) isp
-      ∙ ap (λ (x : List ℕ). run_parts inner p' x (waits place) s b g) ise
+  pub index_step : (inner : Inner H) (fs fs1 : List Frame) (array : List ℕ) (so_far : SoFar) (place place' : Place) (levels : ℕ) (p p' : Parts) (s : State H) (b : ℕ) (g : Given) (x : Out H) → fs1 ≡ fs ++ Word place' so_far levels ∷ [] → place' ≡ place → p ≡ p' → x ≡ run_parts inner p [] (judged (frame_next ns t (Index array) (stack_next ns t fs1))) s b g → x ≡ run_parts inner p' [] (judged (frame_next ns t (Index array) (frame_next ns t (Word place so_far levels) (stack_next ns t fs)))) s b g
+  index_step inner fs fs1 array so_far place place' levels p p' s b g x push at isp e =
+      let waits : Next H → Next H = λ k. judged (frame_next ns t (Index array) k) in
+      e
+      ∙ ap (λ (k : Next H). run_parts inner p [] (waits k) s b g) (pushed ns t fs fs1 (Word place' so_far levels) push)
+      ∙ ap (λ (y : Place). run_parts inner p [] (waits (frame_next ns t (Word y so_far levels) (stack_next ns t fs))) s b g) at
+      ∙ ap (λ (y : Parts). run_parts inner y [] (waits (frame_next ns t (Word place so_far levels) (stack_next ns t fs))) s b g) isp
 
   -- a script begins, above a stack
   pub script_step : (fs fs1 : List Frame) (script : _) (levels less : ℕ) (source : Source) (value : Ended) (s : State H) (b : ℕ) (g : Given) → fs1 ≡ fs ++ Script script 0 less ∷ [] → levels ≡ suc less → value ≡ ended 0 [] → source ≡ read (tree_of script.value) → give value (stack_next ns t fs1) s b g ≡ run_script ns t levels source (stack_next ns t fs) s b g

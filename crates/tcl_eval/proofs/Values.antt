@@ -1,5 +1,5 @@
 -- What comes at once behind a value.
-use Rattle.std.proofs.Common.{◌≡◌, ◌≢◌, ◌≤◌, ℕ, zero, suc, List, length, Bool, Option, Some, cond, refl, sym, ap, ◌∙◌}
+use Rattle.std.proofs.Common.{◌≡◌, ◌≢◌, ◌≤◌, ℕ, zero, suc, List, length, Bool, Option, Some, cond, refl, ap, ◌∙◌}
 use Rattle.std.proofs.lemmas.Bool.{le-ltb}
 use Rattle.tcl_parse.specs.Tree.{variable, no_parts, part}
 use Rattle.tcl_frame.specs.Stack.{Stack}

@@ -1,5 +1,5 @@
 -- What an expression comes to: its parts from left to right, and of `&&`, `||` and `?:` only what is needed.
-use Rattle.std.specs.Prelude.{◌-◌, [], length, drop, nat_lt, if◌then◌else◌, codes, Ok, Err}
+use Rattle.std.specs.Prelude.{zero, suc, ℕ, ◌-◌, [], length, drop, nat_lt, if◌then◌else◌, codes, Ok, Err}
 use Rattle.txt_core.specs.Names.{Bytes, Words}
 use Rattle.tcl_parse.specs.Tree.{parts}
 use Rattle.tcl_expr.specs.Trees as trees
@@ -15,6 +15,7 @@ use Rattle.tcl_eval.specs.declared.operation.Way.{Way}
 use Rattle.tcl_eval.specs.declared.operation.Way.TheVariants.{Both, IfTrue, IfFalse}
 use Rattle.tcl_eval.specs.Words.{joined}
 use Rattle.tcl_eval.specs.Messages.{bad_expression, operator_fault}
+use Rattle.tcl_eval.specs.Costs.{evaluation_cost}
 use Rattle.tcl_eval.specs.Results.{ended, error_of, wrong_words}
 use Rattle.tcl_eval.specs.Going.{Inner, on_ok, pay, give, fails, word_end, by_truth}
 use Rattle.tcl_eval.specs.Pieces.{run_parts}
@@ -39,6 +40,11 @@ way_of And = IfTrue
 way_of Or = IfFalse
 way_of _ = Both
 
+-- what an `expr` comes to whose expression came to this
+abbrev pub whole_value : ℕ → Bytes → Ended
+whole_value zero result = ended code_of.ok (value_of result)
+whole_value (suc code) result = ended (suc code) result
+
 module _ {H : Type 0} where
   -- the left operand has this value; this evaluates the right one and applies the operator
   abbrev pub behind_left : Way → Bytes → Rest H → Next H → Rest H
@@ -62,9 +68,9 @@ module _ {H : Type 0} where
   run_answer inner text (tree x) k = run_expression inner x k
   run_answer inner text (bad_from left) k = fails (bad_expression (length text - left)) k
 
-  -- an evaluation of a text as an expression costs 1, before it is read
+  -- an evaluation of a text as an expression is paid for before it is read
   abbrev pub evaluate : Inner H → Bytes → Next H → Rest H
-  evaluate inner text k = pay 1 (run_answer inner text (expression_of text) k)
+  evaluate inner text k = pay evaluation_cost (run_answer inner text (expression_of text) k)
 
   -- what a command that wants a truth goes on with
   abbrev pub test : Inner H → Bytes → Rest H → Rest H → Next H → Rest H

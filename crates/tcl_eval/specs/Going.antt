@@ -1,5 +1,5 @@
 -- What comes next: a run is written by what comes after each part of it.
-use Rattle.std.specs.Prelude.{Bool, true, false, ℕ, zero, suc, ◌-◌, ◌/◌, [], ◌∷◌, ◌++◌, length, nat_lt, if◌then◌else◌, Option, Some, None}
+use Rattle.std.specs.Prelude.{Bool, true, false, ℕ, zero, suc, ◌-◌, [], ◌∷◌, ◌++◌, length, nat_lt, if◌then◌else◌, Option, Some, None}
 use Rattle.txt_core.specs.Names.{Bytes}
 use Rattle.tcl_parse.specs.Tree.{Commands}
 use Rattle.cmd_table.specs.Commands.{defined}
@@ -11,7 +11,8 @@ use Rattle.tcl_host.specs.Codes as code_of
 use Rattle.tcl_eval.specs.declared.stack.Ended.{Ended}
 use Rattle.tcl_eval.specs.Parameters.{Values}
 use Rattle.tcl_eval.specs.Messages.{too_long, no_boolean}
-use Rattle.tcl_eval.specs.Results.{most_bytes, bytes_for_one, error_of, returned, read_as, stored_of, stored}
+use Rattle.tcl_eval.specs.Costs.{result_cost}
+use Rattle.tcl_eval.specs.Results.{most_bytes, error_of, returned, read_as, stored_of, stored}
 use Rattle.tcl_eval.specs.State.{State, spent, Rest, Next}
 
 -- What is run as a script: a text, or a script that was read within another one.
@@ -49,9 +50,9 @@ module _ {H : Type 0} where
   abbrev pub limited : Next H → Next H
   limited k code result = if nat_lt most_bytes (length result) then k code_of.error too_long else k code result
 
-  -- a result costs 1 for each whole 1,024 bytes, whatever its code
+  -- a result is paid for, whatever its code
   abbrev pub charged : Next H → Next H
-  charged k code result = pay (length result / bytes_for_one) (k code result)
+  charged k code result = pay (result_cost result) (k code result)
 
   -- what comes after a command
   abbrev pub command_end : Next H → Next H

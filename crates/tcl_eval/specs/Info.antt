@@ -5,9 +5,9 @@ use Rattle.cmd_table.specs.Table.{Table, names_of, command_of}
 use Rattle.cmd_table.specs.declared.command.Cmd.{Cmd}
 use Rattle.cmd_table.specs.declared.command.Cmd.TheVariants.{Built, Proc}
 use Rattle.txt_core.specs.Quoting.{quoting}
+pub use Rattle.txt_core.specs.Picking.{picks}
 use Rattle.tcl_eval.specs.declared.parameter.Parameter.{Parameter}
 use Rattle.tcl_eval.specs.declared.stack.Ended.{Ended}
-pub use Rattle.tcl_varcmd.specs.Arrays.{is_picked}
 use Rattle.tcl_host.specs.Codes as code_of
 use Rattle.tcl_eval.specs.Parameters.{parameters}
 use Rattle.tcl_eval.specs.Words.{arg}
@@ -18,7 +18,7 @@ use Rattle.tcl_eval.specs.State.{Rest, Next}
 
 -- `info commands ?glob?`: the names in byte order
 abbrev pub names_picked : Table → Option Bytes → Ended
-names_picked table pattern = ended code_of.ok (quoting (filter (is_picked pattern) (names_of table)))
+names_picked table pattern = ended code_of.ok (quoting (filter (picks pattern) (names_of table)))
 
 -- the names of parameters, or what `proc` says of them
 abbrev pub names_said : Result (List Parameter) Bytes → Ended

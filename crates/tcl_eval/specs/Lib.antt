@@ -2,6 +2,7 @@
 pub mod State
 pub mod Words
 pub mod Messages
+pub mod Costs
 pub mod Results
 pub mod Going
 pub mod Pieces
@@ -29,6 +30,7 @@ pub mod Kept
 pub mod Simple
 pub mod Stack
 pub mod Straight
+pub mod Chosen
 pub mod Turns
 pub mod AtOnce
 pub mod ExprReadings

@@ -10,6 +10,7 @@ use Rattle.tcl_eval.specs.declared.branch.Turning.{Turning}
 use Rattle.tcl_eval.specs.Parameters.{Values}
 use Rattle.tcl_eval.specs.Words.{arg}
 use Rattle.tcl_eval.specs.Messages.{no_list, bad_value}
+use Rattle.tcl_eval.specs.Costs.{turn_cost}
 use Rattle.tcl_eval.specs.Results.{wrong_words}
 use Rattle.tcl_eval.specs.Going.{Inner, unread, on_ok, pay, give, fails, write_all}
 use Rattle.tcl_eval.specs.Expressions.{test}
@@ -38,7 +39,7 @@ module _ {H : Type 0} where
 
   -- the body of a turn, and then what goes on
   abbrev pub turn_body : Inner H → Turning → Rest H → Next H → Rest H
-  turn_body inner turning go k = pay 1 (inner.run (unread turning.body) (in_loop (between inner turning.next go k) k))
+  turn_body inner turning go k = pay turn_cost (inner.run (unread turning.body) (in_loop (between inner turning.next go k) k))
 
   -- at most so many turns, each while the condition holds; a code of the condition is handed on
   abbrev pub turns : Inner H → Turning → ℕ → Next H → Rest H
@@ -67,7 +68,7 @@ module _ {H : Type 0} where
   abbrev pub walk_on : Inner H → Names → Bytes → ℕ → Words → Next H → Rest H
   walk_on inner names body zero values k = k code_of.ok []
   walk_on inner names body (suc n) values k =
-      pay 1 (write_all (assigned names values) (inner.run (unread body) (in_loop (walk_on inner names body n (drop (length names) values) k) k)) k)
+      pay turn_cost (write_all (assigned names values) (inner.run (unread body) (in_loop (walk_on inner names body n (drop (length names) values) k) k)) k)
 
   -- as many turns as it takes for all values
   abbrev pub walk_all : Inner H → Names → Words → Bytes → Next H → Rest H

@@ -1,8 +1,6 @@
--- Limits and costs, and codes with results.
-use Rattle.std.specs.Prelude.{ℕ, zero, suc, ◌+◌, ◌/◌, [], length, sum_by, ◌==◌, nat_lt, if◌then◌else◌, ◌||◌, codes, Option, Some, None}
+-- Limits, and codes with results.
+use Rattle.std.specs.Prelude.{ℕ, zero, suc, [], length, ◌==◌, nat_lt, if◌then◌else◌, ◌||◌, codes, Option, Some, None}
 use Rattle.txt_core.specs.Names.{Bytes, Words}
-use Rattle.outside.specs.declared.question.Answer.{Answer}
-use Rattle.outside.specs.declared.question.Answer.TheVariants.{Said, Failed, Page, NoPage, PageFault}
 use Rattle.tcl_frame.specs.declared.fault.VarFault.{VarFault}
 use Rattle.tcl_frame.specs.Stack.{Stack}
 use Rattle.tcl_frame.specs.Frames.{read_of, read_fault, write_fault, written}
@@ -15,27 +13,11 @@ use Rattle.txt_core.specs.ErrorTexts.{wrong_words as wrong_count}
 use Rattle.tcl_host.specs.Codes as code_of
 use Rattle.tcl_eval.specs.Messages.{too_long, outside_loop, variable_fault}
 
--- ---- limits and costs
+-- ---- limits
 
 -- how deep scripts may stand in one another
 abbrev pub most_levels : ℕ
 most_levels = most_nested
-
--- so many whole bytes cost 1
-abbrev pub bytes_for_one : ℕ
-bytes_for_one = 1024
-
--- a command costs 1, and 1 for each whole 1,024 bytes of all its words, with the name by which it was called
-abbrev pub command_cost : Words → ℕ
-command_cost words = 1 + sum_by length words / bytes_for_one
-
--- an answer costs 1 for each whole 1,024 bytes of its text or page, as it is given
-abbrev pub answer_cost : Answer → ℕ
-answer_cost (Said said) = length said / bytes_for_one
-answer_cost (Failed why) = length why / bytes_for_one
-answer_cost (Page page) = length page / bytes_for_one
-answer_cost NoPage = 0
-answer_cost PageFault = 0
 
 -- ---- codes with results
 

@@ -8,7 +8,7 @@ ghost use Rattle.cmd_table.specs.declared.definition.Def.{Def};
 ghost use Rattle.natives.specs.Names.{name_of, names_of};
 ghost use Rattle.tcl_varcmd.specs.Commands.{begins_var_command, var_came};
 ghost use Rattle.tcl_eval.specs.State.{Onward, Next, Rest};
-ghost use Rattle.tcl_eval.specs.Eval.{Inner, addressed, nested, answer_cost, write_all, call_proc, call_native, do_proc, do_rename, do_eval, do_catch, catch_end, came_next, arg, define, make, set_global, is_for_host, leaf, onward, built_in, built, act, run_script, unread, stored, stored_of, proc_of, give, error_of};
+ghost use Rattle.tcl_eval.specs.Eval.{Inner, addressed, nested, write_all, call_proc, call_native, do_proc, do_rename, do_eval, do_catch, catch_end, came_next, arg, define, make, set_global, is_for_host, leaf, onward, built_in, built, act, run_script, unread, stored, stored_of, proc_of, give, error_of};
 ghost use Rattle.tcl_eval.specs.Engine.{Same, Keeps, Holds, HoldsTable, Counts, IsNoPage, Opens, Enters, Lower, credit, acted_next, AskedBy, after_writes};
 ghost use Rattle.tcl_eval.specs.Verbs.{IsRunning, ValueOf, made_by};
 ghost use Rattle.tcl_host.specs.Answers.{RepliesTo};
@@ -24,12 +24,10 @@ use crate::value::{
     do_break, do_continue, do_error, do_return, done, error, failed, too_long, wrong_words,
 };
 use crate::verb::{Verb, find_verb};
-use crate::words::{
-    BYTES_FOR_ONE, behind_name, copy_word, first_word, joined, share_word, with_name, word_at,
-};
+use crate::words::{behind_name, copy_word, first_word, joined, share_word, with_name};
 use cmd_table::{Cmd, Def, Renamed, Steps};
 use natives::{Fault, Native, Natives};
-use outside::{Answer, Question, Service};
+use outside::{Question, Service};
 use std::alloc::Global;
 use std::sync::ledger::Ledger;
 use tcl_frame::{VarFault, is_element_name};
@@ -40,17 +38,6 @@ use txt_core::{MOST_BYTES, MOST_NESTED, NoMemory, Pairs, Text, Words, write_natu
 
 /// How deep scripts may stand in one another.
 pub const MOST_LEVELS: u32 = MOST_NESTED;
-
-/// What an answer costs.
-pub fn answer_cost(answer: &Answer) -> u128
-    ensures { result ≡ answer_cost answer.now }
-{
-    let bytes = match answer {
-        Answer::Said(text) | Answer::Failed(text) | Answer::Page(text) => text.len(),
-        Answer::NoPage | Answer::PageFault => 0,
-    };
-    bytes as u128 / BYTES_FOR_ONE as u128
-}
 
 /// A question as it is handed out: one for a run inside this one has, behind its words, the depth at
 /// which that stands.
@@ -183,7 +170,7 @@ impl<H: Host> Engine<H> {
         ensures kept { OnErr result (self.new.made ≡ self.old.made) }
     {
         if !is_for_host(&def) {
-            let message = unknown_command(self.alloc, word_at(words, 0))?;
+            let message = unknown_command(self.alloc, words.bytes_at(0))?;
             let refused = error(self.alloc, message)?;
             return Ok(refused);
         }
@@ -247,7 +234,7 @@ impl<H: Host> Engine<H> {
                 Ok(Acted::Gives(value))
             }
             HostReply::NotMine => {
-                let message = unknown_command(self.alloc, word_at(&words, 0))?;
+                let message = unknown_command(self.alloc, words.bytes_at(0))?;
                 Ok(Acted::Gives(error(self.alloc, message)?))
             }
             HostReply::Ask(question) => {
@@ -524,15 +511,7 @@ impl<H: Host> Engine<H> {
             Verb::Continue => do_continue(self.alloc, words)?,
             Verb::Rename => self.do_rename(words, steps)?,
             Verb::Info => self.do_info(words)?,
-            Verb::Eval
-            | Verb::Catch
-            | Verb::Expr
-            | Verb::If
-            | Verb::While
-            | Verb::For
-            | Verb::Foreach
-            | Verb::Switch
-            | Verb::Other => return Ok(None),
+            _ => return Ok(None),
         };
         Ok(Some(value))
     }

@@ -5,6 +5,7 @@ ghost use Rattle.std.specs.Option.{option_copied};
 ghost use Rattle.cmd_table.specs.Commands.{Applies, defined, writes, Writes};
 ghost use Rattle.cmd_table.specs.Table.{command_of, mark_of, table_at, back_at, Keeps as KeepsMarks};
 ghost use Rattle.natives.specs.Names.{names_of};
+ghost use Rattle.txt_core.specs.Limits.{most_nested};
 ghost use Rattle.tcl_frame.specs.Base.{IsAtBase, cleared, kept, unkept};
 ghost use Rattle.tcl_frame.specs.Names.{named, is_element};
 ghost use Rattle.outside.specs.declared.question.Service.{Service};
@@ -93,7 +94,7 @@ impl<H: Host> Engine<H> {
     ) -> Outcome
         requires idle { IsIdle self.old }
         requires least { 1 ≤ depth }
-        requires most { depth ≤ 200 }
+        requires most { depth ≤ most_nested }
         ensures stands { IfRan result
             (Stands (names_of natives.now) H.table result self.new
             (record { work = work; depth = depth; budget = budget; state = state_of self.old })
@@ -205,7 +206,7 @@ impl<H: Host> Engine<H> {
     }
 
     /// How often a text was run as a script that was kept from an earlier time. It takes no memory.
-    /// No clause says when a script is kept: at most 576 are, each of at most 4,096 bytes, from the
+    /// No clause says when a script is kept: at most 640 are, each of at most 4,096 bytes, from the
     /// first start on, of those that were run most recently; where memory wanted, all are let go, and
     /// the count begins anew.
     pub fn hits(&self) -> u64 {

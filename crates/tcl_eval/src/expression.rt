@@ -7,7 +7,7 @@ ghost use Rattle.tcl_expr.specs.View.{tree_of};
 ghost use Rattle.tcl_host.specs.Codes as code_of;
 ghost use Rattle.tcl_eval.specs.Messages.{no_boolean};
 ghost use Rattle.tcl_eval.specs.Eval.{nested, ended, error_of, give};
-ghost use Rattle.tcl_eval.specs.Expressions.{behind_left, run_expression, evaluate, do_expr};
+ghost use Rattle.tcl_eval.specs.Expressions.{behind_left, run_expression, evaluate, do_expr, whole_value};
 ghost use Rattle.tcl_eval.specs.Places.{tree_size};
 ghost use Rattle.tcl_eval.specs.Stack.{frame_next, step_next, frame_weight, stack_weight, step_weight, frame_free, step_free};
 ghost use Rattle.tcl_eval.specs.Engine.{Holds, Same, Stays, Keeps, Opens, Enters, Lower, acted_next, credit};
@@ -15,6 +15,7 @@ ghost use Rattle.tcl_eval.specs.declared.stack.Frame.{Frame};
 ghost use Rattle.tcl_eval.specs.declared.stack.Step.{Step};
 ghost use Rattle.tcl_eval.specs.declared.engine.OpenQuestion.{OpenQuestion};
 
+use crate::cost::EVALUATION_COST;
 use crate::engine::Engine;
 use crate::expr_reading::ExprReading;
 use crate::gather::SoFar;
@@ -26,17 +27,28 @@ use crate::simple_value::simple_value;
 use crate::stack::{Acted, Ended, Frame, Step};
 use crate::value::{done, error, wrong_words};
 use crate::words::{behind_name, joined};
+use std::alloc::Global;
 use std::rc::Rc;
 use tcl_expr::{Expr, Op, expression_value};
 use tcl_host::{Host, OK};
 use tcl_parse::Script;
 use txt_core::{NoMemory, Text, Words, read_truth};
 
-/// What an evaluation of an expression costs.
-pub(crate) const EVALUATION_COST: u128 = 1;
-
 /// How deep parts of an expression may stand in one another that is evaluated at once.
 pub(crate) const MOST_AT_ONCE: u32 = 60;
+
+/// What an `expr` comes to whose expression came to this.
+pub(crate) fn value_ended(alloc: Global, value: Ended) -> Result<Ended, NoMemory>
+    ensures { IfOk result (λ ended. ended ≡ whole_value value.code value.result) }
+{
+    if value.code != OK {
+        return Ok(value);
+    }
+    Ok(Ended {
+        code: OK,
+        result: expression_value(alloc, &value.result)?,
+    })
+}
 
 #[tactic(auto, using(crate::proofs::Stacks::frees_push))]
 impl<H: Host> Engine<H> {
@@ -389,13 +401,7 @@ impl<H: Host> Engine<H> {
             frame_next names H.table Frame.Value k value.code value.result)) }
         ensures light { IfOk result (λ step. step_weight step + step_free step ≡ 0) }
     {
-        if value.code != OK {
-            return Ok(Step::Value(value));
-        }
-        Ok(Step::Value(Ended {
-            code: OK,
-            result: expression_value(self.alloc, &value.result)?,
-        }))
+        Ok(Step::Value(value_ended(self.alloc, value)?))
     }
 
     /// Pays for the evaluation of a text as an expression, which then begins. One that can't be suspended

@@ -2,9 +2,9 @@
 
 ghost use Rattle.std.specs.Prelude.{◌≡◌, IfOk, IfSome};
 
-use crate::latest::{PLACES, place_of};
 use crate::read_expr::ReadExpr;
 use lru::LruCache;
+use natives::Places;
 use std::alloc::Global;
 use std::marker::Model;
 use std::num::NonZeroUsize;
@@ -25,7 +25,7 @@ const LONGEST_KEPT: usize = 4_096;
 #[derive(Drop)]
 pub struct Expressions {
     kept: Option<LruCache<Vec<u8>, Rc<ReadExpr>>>,
-    latest: Vec<Option<Rc<ReadExpr>>>,
+    latest: Places<Rc<ReadExpr>>,
 }
 
 impl Model for Expressions {
@@ -41,7 +41,7 @@ impl Expressions {
     pub fn new(alloc: Global) -> Expressions {
         Expressions {
             kept: None,
-            latest: Vec::new(alloc),
+            latest: Places::new(alloc),
         }
     }
 
@@ -57,7 +57,7 @@ impl Expressions {
         let read = self.read_kept(alloc, text)?;
         if text.len() <= LONGEST_KEPT {
             let again = read.clone()?;
-            self.put_latest(text, again)?;
+            self.latest.put(text.bytes(), again)?;
         }
         Ok(read)
     }
@@ -72,35 +72,10 @@ impl Expressions {
     fn find_latest(&self, text: &Text) -> Result<Option<Rc<ReadExpr>>, NoMemory>
         ensures { IfOk result (λ found. IfSome found (λ read. read.value ≡ text.now)) }
     {
-        let Some(place) = self.latest.get(place_of(text.bytes())) else {
-            return Ok(None);
-        };
-        match place {
+        match self.latest.find(text.bytes()) {
             None => Ok(None),
-            Some(read) => {
-                let found = shared_for(read, text)?;
-                Ok(found)
-            }
+            Some(read) => shared_for(read, text),
         }
-    }
-
-    /// Puts what a text is at its place.
-    fn put_latest(&mut self, text: &Text, read: Rc<ReadExpr>) -> Result<(), NoMemory> {
-        self.make_places()?;
-        if let Some(place) = self.latest.get_mut(place_of(text.bytes())) {
-            *place = Some(read);
-        }
-        Ok(())
-    }
-
-    /// Makes the places, where there are none.
-    fn make_places(&mut self) -> Result<(), NoMemory> {
-        if self.latest.is_empty() {
-            'places: for _place in 0..PLACES {
-                self.latest.push(None)?;
-            }
-        }
-        Ok(())
     }
 
     /// A text with what it is as an expression, by the hash, or else read and kept.

@@ -5,7 +5,7 @@ ghost use Rattle.tcl_eval.specs.Eval.{command_cost};
 ghost use Rattle.tcl_eval.specs.Kept.{grown};
 ghost use Rattle.tcl_eval.specs.declared.gather.SoFar.{SoFar};
 
-use crate::words::BYTES_FOR_ONE;
+use crate::cost::words_cost;
 use std::alloc::Global;
 use std::marker::Model;
 use txt_core::{NoMemory, Text, Words, is_over_limit};
@@ -112,7 +112,7 @@ impl Gathered {
     pub fn cost(&self) -> u128
         ensures { result ≡ command_cost self.now }
     {
-        1 + self.bytes as u128 / BYTES_FOR_ONE as u128
+        words_cost(self.bytes as u128)
     }
 
     /// The values as the words of a command.

@@ -2,36 +2,33 @@
 
 ghost use Rattle.std.specs.Prelude.{◌≡◌, IfOk, filter, map, slice_get};
 ghost use Rattle.std.specs.Option.{option_copied};
+ghost use Rattle.txt_core.specs.Picking.{picks};
 ghost use Rattle.cmd_table.specs.Table.{command_of};
 ghost use Rattle.tcl_eval.specs.Parameters.{parameters};
 ghost use Rattle.tcl_eval.specs.declared.parameter.Parameter.{Parameter};
-ghost use Rattle.tcl_eval.specs.Info.{is_picked, names_said, names_picked, args_said, body_said, part_said, info_said};
+ghost use Rattle.tcl_eval.specs.Info.{names_said, names_picked, args_said, body_said, part_said, info_said};
 
 use crate::engine::Engine;
 use crate::message::no_procedure;
 use crate::parameter::{Parameter, parameters};
 use crate::stack::Ended;
 use crate::value::{error, wrong_words};
-use crate::words::{copy_word, word_at};
+use crate::words::copy_word;
 use cmd_table::Cmd;
 use std::alloc::Global;
 use tcl_host::{Host, OK};
 use tcl_list::quote;
 use txt_core::error_text::unknown_subcommand;
-use txt_core::{NoMemory, Text, Words, glob};
+use txt_core::{NoMemory, Text, Words, picks};
 
 /// Those names that match a pattern, or all where there is none.
 fn picked(alloc: Global, names: &[Text], pattern: Option<&Text>) -> Result<Words, NoMemory>
     ensures { IfOk result (λ found.
-        found ≡ filter (is_picked (option_copied pattern.entry)) names.now) }
+        found ≡ filter (picks (option_copied pattern.entry)) names.now) }
 {
     let mut found = Words::new(alloc);
     for name in names {
-        let is_picked = match pattern {
-            None => true,
-            Some(pattern) => glob(pattern, name),
-        };
-        if is_picked {
+        if picks(pattern, name) {
             found.add(name.copy(alloc)?)?;
         }
     }
@@ -105,7 +102,7 @@ impl<H: Host> Engine<H> {
     fn info_part(&self, words: &Words) -> Result<Ended, NoMemory>
         ensures { IfOk result (λ value. value ≡ part_said self.now.table.table words.now) }
     {
-        let part = word_at(words, 1);
+        let part = words.bytes_at(1);
         if part == b"commands".as_slice() {
             return self.info_commands(words);
         }

@@ -4,6 +4,7 @@
 mod act;
 mod branch;
 mod condition;
+mod cost;
 mod engine;
 mod expr_reading;
 mod expression;

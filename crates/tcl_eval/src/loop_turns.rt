@@ -17,10 +17,11 @@ ghost use Rattle.tcl_eval.specs.Engine.{Holds, Same, Stays};
 ghost use Rattle.tcl_eval.specs.declared.branch.Turning.{Turning};
 
 use crate::branch::Turning;
+use crate::cost::{EVALUATION_COST, TURN_COST};
 use crate::engine::Engine;
 use crate::expr_reading::ExprReading;
-use crate::expression::{EVALUATION_COST, MOST_AT_ONCE};
-use crate::loops::{Flow, TURN_COST, flow_from};
+use crate::expression::MOST_AT_ONCE;
+use crate::loops::{Flow, flow_from};
 use crate::message::{no_boolean, script_fault};
 use crate::read_expr::ReadExpr;
 use crate::simple_value::simple_value;
@@ -219,7 +220,7 @@ impl<H: Host> Engine<H> {
     }
 
     /// Pays for a condition and evaluates it, where nothing is run for it.
-    fn test_straight(&mut self, condition: &ReadExpr) -> Result<Tested, NoMemory>
+    pub(crate) fn test_straight(&mut self, condition: &ReadExpr) -> Result<Tested, NoMemory>
         ensures means { IfOk result (λ tested.
             (names : Names) (levels : ℕ) (second : Rest H)
             → Leads self.new self.old

@@ -15,12 +15,13 @@ ghost use Rattle.tcl_eval.specs.declared.loop_turns.Turn.TheVariants.{Whole};
 ghost use Rattle.tcl_eval.specs.declared.engine.OpenQuestion.{OpenQuestion};
 
 use crate::branch::{Branch, Turning, Walk, place_behind};
+use crate::cost::TURN_COST;
 use crate::engine::Engine;
 use crate::loop_turns::{Tested, Turn};
 use crate::read_expr::read_word;
 use crate::stack::{Acted, Ended, Frame, Gone, Step, gone_from};
 use crate::value::{done, wrong_words};
-use crate::words::{copy_word, word_at};
+use crate::words::copy_word;
 use natives::Natives;
 use std::alloc::Global;
 use std::rc::Rc;
@@ -28,9 +29,6 @@ use tcl_host::{BREAK, CONTINUE, Host, OK};
 use tcl_list::{ListFault, split};
 use txt_core::error_text::{bad_value, no_list};
 use txt_core::{NoMemory, Pairs, Text, Words};
-
-/// What a turn of a loop costs.
-pub(crate) const TURN_COST: u128 = 1;
 
 /// How a loop goes on where a part of it ended.
 pub(crate) enum Flow {
@@ -474,24 +472,23 @@ impl<H: Host> Engine<H> {
         left: usize,
         levels: u32,
         value: Ended,
-    ) -> Result<Acted, NoMemory>
-        ensures means { IfOk result (λ acted.
-            (names : Names) (opened : Option OpenQuestion)
-            → Same names H.table self.new self.old (acted_next names H.table acted opened) (λ k.
+    ) -> Result<Gone, NoMemory>
+        ensures means { IfOk result (λ gone.
+            (names : Names)
+            → Same names H.table self.new self.old (gone_next names H.table gone) (λ k.
             branch_next names H.table (Branch.Each walk at left levels) k value.code
             value.result)) }
-        ensures lower { OnOk result (Lower self.new self.old 1) }
-        ensures opens { IfOk result (λ acted. Opens acted self.new self.old) }
-        ensures enters { IfOk result (λ acted.
-            Enters acted
-            (credit self.new < credit self.old + branch_free (Branch.Each walk at left levels))) }
+        ensures nears { IfOk result (λ gone.
+            Nears gone self.new
+            (credit self.old + branch_free (Branch.Each walk at left levels))) }
+        ensures remains { OnOk result (Remains self.new self.old) }
         ensures holds { Holds self.new self.old }
     {
         match flow_from(self.alloc, value) {
-            Flow::Ends(value) => Ok(Acted::Gives(value)),
+            Flow::Ends(value) => Ok(Gone::Goes(Step::Value(value))),
             Flow::On => {
                 let acted = self.next_values(walk, at, left, levels)?;
-                Ok(acted)
+                Ok(gone_from(acted))
             }
         }
     }
@@ -536,7 +533,7 @@ impl<H: Host> Engine<H> {
             Ok(names) => names,
         };
         if names.len() == 0 {
-            let acted = self.fails(bad_value(self.alloc, word_at(words, 1), b"foreach")?)?;
+            let acted = self.fails(bad_value(self.alloc, words.bytes_at(1), b"foreach")?)?;
             return Ok(acted);
         }
         let values = copy_word(self.alloc, words, 2)?;
@@ -597,27 +594,18 @@ impl<H: Host> Engine<H> {
                 branches,
                 next,
                 levels,
-            } => {
-                let acted = self.give_if(body, branches, next, levels, value)?;
-                Ok(gone_from(acted))
-            }
+            } => self.give_if(body, branches, next, levels, value),
             Branch::Each {
                 walk,
                 at,
                 turns,
                 levels,
-            } => {
-                let acted = self.give_each(walk, at, turns, levels, value)?;
-                Ok(gone_from(acted))
-            }
+            } => self.give_each(walk, at, turns, levels, value),
             Branch::Page {
                 pieces,
                 next,
                 levels,
-            } => {
-                let acted = self.give_page(pieces, next, levels, value)?;
-                Ok(gone_from(acted))
-            }
+            } => self.give_page(pieces, next, levels, value),
         }
     }
 }

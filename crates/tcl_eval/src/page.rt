@@ -5,13 +5,13 @@ ghost use Rattle.txt_core.specs.Names.{Names};
 ghost use Rattle.tcl_eval.specs.Eval.{nested, give};
 ghost use Rattle.tcl_eval.specs.Pages.{words_script, page_end, text_end, run_piece, run_pieces, run_page};
 ghost use Rattle.tcl_eval.specs.Stack.{branch_next, branch_free};
-ghost use Rattle.tcl_eval.specs.Engine.{Same, Keeps, Holds, Opens, Enters, Lower, acted_next, credit};
+ghost use Rattle.tcl_eval.specs.Engine.{Same, Keeps, Holds, Nears, Opens, Enters, Lower, Remains, acted_next, credit, gone_next};
 ghost use Rattle.tcl_eval.specs.declared.branch.Branch.{Branch};
 ghost use Rattle.tcl_eval.specs.declared.engine.OpenQuestion.{OpenQuestion};
 
 use crate::branch::{Branch, place_behind};
 use crate::engine::Engine;
-use crate::stack::{Acted, Ended, Frame};
+use crate::stack::{Acted, Ended, Frame, Gone, gone_from};
 use crate::value::done;
 use adp_parse::{Piece, PieceList, Pieces};
 use std::alloc::Global;
@@ -169,30 +169,29 @@ impl<H: Host> Engine<H> {
         next: usize,
         levels: u32,
         value: Ended,
-    ) -> Result<Acted, NoMemory>
-        ensures means { IfOk result (λ acted.
-            (names : Names) (opened : Option OpenQuestion)
-            → Same names H.table self.new self.old (acted_next names H.table acted opened) (λ k.
+    ) -> Result<Gone, NoMemory>
+        ensures means { IfOk result (λ gone.
+            (names : Names)
+            → Same names H.table self.new self.old (gone_next names H.table gone) (λ k.
             branch_next names H.table (Branch.Page pieces next levels) k value.code value.result)) }
-        ensures lower { OnOk result (self.new.budget ≤ self.old.budget) }
-        ensures opens { IfOk result (λ acted. Opens acted self.new self.old) }
-        ensures enters { IfOk result (λ acted.
-            Enters acted
-            (credit self.new < credit self.old + branch_free (Branch.Page pieces next levels))) }
+        ensures nears { IfOk result (λ gone.
+            Nears gone self.new
+            (credit self.old + branch_free (Branch.Page pieces next levels))) }
+        ensures remains { OnOk result (Remains self.new self.old) }
         ensures holds { Holds self.new self.old }
     {
         if value.code == OK {
             let acted = self.run_pieces(pieces, next, levels)?;
-            return Ok(acted);
+            return Ok(gone_from(acted));
         }
         self.host.leave(value.code);
         if value.code == RETURN || value.code == PAGE_RETURN {
-            return Ok(self.end_page(OK));
+            return Ok(gone_from(self.end_page(OK)));
         }
         if value.code == PAGE_BREAK || value.code == PAGE_ABORT {
-            return Ok(self.end_page(value.code));
+            return Ok(gone_from(self.end_page(value.code)));
         }
         let acted = self.run_pieces(pieces, next, levels)?;
-        Ok(acted)
+        Ok(gone_from(acted))
     }
 }

@@ -6,7 +6,7 @@ ghost use Rattle.txt_core.specs.Quoting.{quoting};
 ghost use Rattle.tcl_eval.specs.Parameters.{parameter, read_all, parameters, bind, bound};
 ghost use Rattle.tcl_eval.specs.ParametersSeen.{ParametersAre, ValuesAre};
 
-use crate::words::{behind_name, copy_word, word_at};
+use crate::words::{behind_name, copy_word};
 use std::alloc::Global;
 use tcl_list::{ListFault, quote, split};
 use txt_core::error_text::{bad_value, no_list, wrong_words};
@@ -124,7 +124,7 @@ pub fn bound(alloc: Global, params: &Text, words: &Words) -> Result<Result<Pairs
         Ok(all) => all,
     };
     match bind(alloc, all.as_slice(), behind_name(words))? {
-        None => Ok(Err(wrong_words(alloc, word_at(words, 0))?)),
+        None => Ok(Err(wrong_words(alloc, words.bytes_at(0))?)),
         Some(values) => Ok(Ok(values)),
     }
 }

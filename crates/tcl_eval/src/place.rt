@@ -78,13 +78,7 @@ pub fn only_pieces(script: &Script) -> &[Piece]
 pub fn first_piece(alloc: Global, script: Rc<Script>) -> Place
     ensures { place_parts result ≡ parts (only_word (script_of script.value)) }
 {
-    Place {
-        script,
-        command: 0,
-        word: 0,
-        path: Vec::new(alloc),
-        next: 0,
-    }
+    Place::at_word(alloc, script, 0, 0)
 }
 
 /// The pieces of the word at a place of a command, if it has one there.
@@ -155,6 +149,19 @@ fn follow<'a>(pieces: &'a [Piece], path: &[usize]) -> &'a [Piece]
 }
 
 impl Place {
+    /// The first piece of a word of a command.
+    pub fn at_word(alloc: Global, script: Rc<Script>, command: usize, word: usize) -> Place
+        ensures { place_parts result ≡ word_parts command word (tree_of script.value) }
+    {
+        Place {
+            script,
+            command,
+            word,
+            path: Vec::new(alloc),
+            next: 0,
+        }
+    }
+
     /// What the piece is that stands here, if any.
     pub fn piece(&self) -> Option<Seen<'_>>
         ensures found { MatchOption result (place_parts self.now ≡ no_parts) (λ seen.

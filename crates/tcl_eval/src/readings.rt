@@ -9,7 +9,7 @@ ghost use Rattle.tcl_eval.specs.declared.engine.OpenQuestion.{OpenQuestion};
 
 use crate::engine::Engine;
 use crate::expression_cache::Expressions;
-use crate::latest::Latest;
+use crate::latest::{Latest, find_latest, put_latest};
 use crate::message::script_fault;
 use crate::read_expr::ReadExpr;
 use crate::stack::{Acted, Frame};
@@ -84,7 +84,7 @@ impl Readings {
     fn read_kept(&mut self, alloc: Global, text: &Text) -> Result<Reading, NoMemory>
         ensures { IfOk result (λ read. IsReading text.now read) }
     {
-        let found = self.latest.find(text)?;
+        let found = find_latest(&self.latest, text)?;
         if let Some(reading) = found {
             self.found = self.found.saturating_add(1);
             return Ok(reading);
@@ -108,7 +108,7 @@ impl Readings {
             Reading::Fault { .. } => Ok(()),
             Reading::Script(_) => {
                 let again = reading.share()?;
-                self.latest.put(alloc, text, again)
+                put_latest(alloc, &mut self.latest, text, again)
             }
         }
     }

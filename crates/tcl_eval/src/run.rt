@@ -1,6 +1,7 @@
 //! A run, from one text that is run to the next.
 
 ghost use Rattle.std.specs.Prelude.{◌≡◌, ◌<◌, ◌≤◌, [], ◌∷◌, IfOk, OnOk, OnErr, IsSome, None};
+ghost use Rattle.txt_core.specs.Limits.{most_nested};
 ghost use Rattle.natives.specs.Names.{names_of};
 ghost use Rattle.outside.specs.declared.question.Answer.{Answer};
 ghost use Rattle.outside.specs.declared.question.Question.{Question};
@@ -11,11 +12,11 @@ ghost use Rattle.tcl_eval.specs.Laws.{state_in, IsFront};
 ghost use Rattle.tcl_eval.specs.State.{Given};
 ghost use Rattle.tcl_eval.specs.declared.outcome.Outcome.TheVariants.{Asks};
 
-use crate::act::{MOST_LEVELS, answer_cost};
+use crate::act::MOST_LEVELS;
+use crate::cost::{answer_cost, command_cost};
 use crate::engine::Engine;
 use crate::outcome::{Outcome, Work};
 use crate::stack::{Acted, AtRest, Frame, Gone, Ready, Step};
-use crate::words::command_cost;
 use cmd_table::Steps;
 use natives::Natives;
 use outside::Answer;
@@ -147,7 +148,7 @@ impl<H: Host> Engine<H> {
         steps: &mut Steps<L>,
     ) -> Result<Acted, NoMemory>
         requires least { 1 ≤ depth }
-        requires most { depth ≤ 200 }
+        requires most { depth ≤ most_nested }
         ensures means { IfOk result (λ acted.
             Same (names_of natives.now) H.table self.new self.old
             (acted_next (names_of natives.now) H.table acted self.new.question)
@@ -185,7 +186,7 @@ impl<H: Host> Engine<H> {
     ) -> Result<Outcome, NoMemory>
         requires idle { IsIdle self.old }
         requires least { 1 ≤ depth }
-        requires most { depth ≤ 200 }
+        requires most { depth ≤ most_nested }
         ensures stands { IfOk result (λ outcome.
             Stands (names_of natives.now) H.table outcome self.new
             (record

@@ -4,11 +4,12 @@ ghost use Rattle.std.specs.Prelude.{◌≡◌, ◌<◌, ◌≤◌, ◌+◌, ◌^
 ghost use Rattle.txt_core.specs.Names.{Names};
 ghost use Rattle.natives.specs.Names.{names_of};
 ghost use Rattle.tcl_eval.specs.Eval.{give, read_as, read_variable, command_end, proc_end, catch_end, run_parts, run_words, run_script, nested, read};
+ghost use Rattle.tcl_eval.specs.State.{Next, Rest};
 ghost use Rattle.tcl_eval.specs.Kept.{judged, run_kept, run_costly};
 ghost use Rattle.tcl_eval.specs.Places.{tree_of, command_at, commands_from, words_from, place_parts, inside, behind, parts_size, words_size, commands_size};
 ghost use Rattle.tcl_eval.specs.Stack.{frame_next, step_next, settled_next, frame_weight, stack_weight, step_weight, frame_free, stack_free, step_free, settled_free};
 ghost use Rattle.tcl_eval.specs.Straight.{IsWithin, behind_command, stand_next, stand_size};
-ghost use Rattle.tcl_eval.specs.Engine.{Holds, Same, Pays, Stays, Remains, Emptied};
+ghost use Rattle.tcl_eval.specs.Engine.{Holds, Keeps, Same, Pays, Stays, Remains, Emptied};
 ghost use Rattle.tcl_eval.specs.declared.stack.Frame.{Frame};
 
 use crate::engine::Engine;
@@ -44,6 +45,29 @@ impl<H: Host> Engine<H> {
         variable_value(self.alloc, &self.frames, name)
     }
 
+    /// Goes on with the pieces from a place on, for whose value this frame waits.
+    fn enter_pieces(&mut self, place: Place, levels: u32, waits: Frame) -> Result<Step, NoMemory>
+        requires { frame_free waits ≡ 0 }
+        ensures means { IfOk result (λ step.
+            (names : Names)
+            → Same names H.table self.new self.old (step_next names H.table step) (λ k.
+            run_parts (nested names H.table levels) (place_parts place) []
+            (judged (frame_next names H.table waits k)))) }
+        ensures weighs { IfOk result (λ step.
+            stack_weight self.new.stack.items + step_weight step
+            ≡ stack_weight self.old.stack.items
+            + (frame_weight waits + parts_size (place_parts place) + 1)) }
+        ensures keeps { IfOk result (λ step. Stays step self.new self.old) }
+        ensures holds { Holds self.new self.old }
+    {
+        self.stack.push(waits)?;
+        Ok(Step::Pieces {
+            place,
+            so_far: SoFar::Kept(Text::empty(self.alloc)),
+            levels,
+        })
+    }
+
     /// Goes on with the index of an element of an array.
     #[inline(never)]
     fn enter_index(
@@ -76,12 +100,7 @@ impl<H: Host> Engine<H> {
             so_far,
             levels,
         })?;
-        self.stack.push(Frame::Index { array })?;
-        Ok(Step::Pieces {
-            place: index,
-            so_far: SoFar::Kept(Text::empty(self.alloc)),
-            levels,
-        })
+        self.enter_pieces(index, levels, Frame::Index { array })
     }
 
     /// Goes on with a bracket.
@@ -140,15 +159,7 @@ impl<H: Host> Engine<H> {
         ensures holds { Holds self.new self.old }
     {
         let value = self.read(name)?;
-        if value.code != OK {
-            return Ok(Step::Value(value));
-        }
-        let so_far = so_far.with(value.result.bytes())?;
-        Ok(Step::Pieces {
-            place,
-            so_far,
-            levels,
-        })
+        self.give_piece(place, so_far, levels, value)
     }
 
     /// Goes on with the next piece of a word.
@@ -246,24 +257,15 @@ impl<H: Host> Engine<H> {
                 levels,
             }));
         }
-        let place = Place {
-            script: script.clone()?,
-            command: at,
-            word,
-            path: Vec::new(self.alloc),
-            next: 0,
-        };
-        self.stack.push(Frame::Command {
+        let again = script.clone()?;
+        let place = Place::at_word(self.alloc, again, at, word);
+        let waits = Frame::Command {
             script,
             at,
             values,
             levels,
-        })?;
-        Ok(Step::Pieces {
-            place,
-            so_far: SoFar::Kept(Text::empty(self.alloc)),
-            levels,
-        })
+        };
+        self.enter_pieces(place, levels, waits)
     }
 
     /// Gives a command the value of its next word.
@@ -322,24 +324,15 @@ impl<H: Host> Engine<H> {
         if !has_word(&script, at, word) {
             return Ok(Step::Stop(Ready::Spent));
         }
-        let place = Place {
-            script: script.clone()?,
-            command: at,
-            word,
-            path: Vec::new(self.alloc),
-            next: 0,
-        };
-        self.stack.push(Frame::Costly {
+        let again = script.clone()?;
+        let place = Place::at_word(self.alloc, again, at, word);
+        let waits = Frame::Costly {
             script,
             at,
             next: word + 1,
             levels,
-        })?;
-        Ok(Step::Pieces {
-            place,
-            so_far: SoFar::Kept(Text::empty(self.alloc)),
-            levels,
-        })
+        };
+        self.enter_pieces(place, levels, waits)
     }
 
     /// Gives a command whose first words cost too much that its next word is there. Its value isn't kept.
@@ -451,6 +444,36 @@ impl<H: Host> Engine<H> {
         }
     }
 
+    /// Puts on the stack what follows the command at a place of a script.
+    fn push_following(
+        &mut self,
+        script: &Rc<Script>,
+        at: usize,
+        levels: u32,
+    ) -> Result<(), NoMemory>
+        requires { at < 2 ^ 63 }
+        ensures means { OnOk result
+            ((names : Names) (way : Next H → Rest H)
+            → Same names H.table self.new self.old way (λ k.
+            way
+            (behind_command names H.table (nested names H.table levels)
+            (tree_of script.now.value) at k))) }
+        ensures weighs { OnOk result
+            (stack_weight self.new.stack.items
+            ≡ stack_weight self.old.stack.items
+            + (commands_size (commands_from (at + 1) (tree_of script.now.value)) + 1)) }
+        ensures keeps { OnOk result (Keeps self.new self.old) }
+        ensures holds { Holds self.new self.old }
+    {
+        let again = script.clone()?;
+        self.stack.push(Frame::Script {
+            script: again,
+            next: at + 1,
+            levels,
+        })?;
+        Ok(())
+    }
+
     /// Goes on with the command at a place of a script, behind the values of its first words.
     fn enter_command(
         &mut self,
@@ -478,12 +501,7 @@ impl<H: Host> Engine<H> {
         if !has_command(&script, at + 1) {
             return self.enter_word(script, at, values, levels);
         }
-        let again = script.clone()?;
-        self.stack.push(Frame::Script {
-            script: again,
-            next: at + 1,
-            levels,
-        })?;
+        self.push_following(&script, at, levels)?;
         self.enter_word(script, at, values, levels)
     }
 
@@ -512,12 +530,7 @@ impl<H: Host> Engine<H> {
         ensures keeps { IfOk result (λ step. Stays step self.new self.old) }
         ensures holds { Holds self.new self.old }
     {
-        let again = script.clone()?;
-        self.stack.push(Frame::Script {
-            script: again,
-            next: at + 1,
-            levels,
-        })?;
+        self.push_following(&script, at, levels)?;
         self.next_costly(script, at, word, levels)
     }
 

@@ -1,27 +1,36 @@
 //! Commands that come to a value straight away, for which nothing is put on the stack.
 
-ghost use Rattle.std.specs.Prelude.{◌≡◌, ◌≤◌, ◌^◌, ◌+◌, ℕ, [], length, IfOk, IfSome, OnOk, IsTrue, true};
-ghost use Rattle.natives.specs.Names.{names_of};
+ghost use Rattle.std.specs.Prelude.{◌≡◌, ◌≤◌, ◌^◌, ◌+◌, ◌-◌, ℕ, [], drop, false, length, IfOk, IfSome, OnOk, IsTrue, true};
+ghost use Rattle.natives.specs.Names.{has_name, names_of};
+ghost use Rattle.tcl_expr.specs.Reading.{expression_of};
+ghost use Rattle.tcl_eval.specs.Expressions.{run_answer, value_end};
+ghost use Rattle.tcl_eval.specs.declared.verb.Verb.{Verb};
 ghost use Rattle.tcl_parse.specs.Tree.{Words, no_words};
 ghost use Rattle.tcl_varcmd.specs.Commands.{begins_var_command, var_came};
 ghost use Rattle.txt_core.specs.Names.{Names};
-ghost use Rattle.tcl_eval.specs.State.{Next};
-ghost use Rattle.tcl_eval.specs.Eval.{Inner, act, arg, built, built_in, came_next, command_end, give, nested, on_ok, run_commands, run_words, verb_of};
+ghost use Rattle.tcl_eval.specs.State.{Given, Next};
+ghost use Rattle.tcl_eval.specs.Eval.{Inner, act, arg, built, built_in, came_next, joined, command_end, give, nested, on_ok, run_commands, run_words, verb_of};
 ghost use Rattle.tcl_eval.specs.Places.{tree_of, command_at, commands_from, commands_size, words_from, words_size};
 ghost use Rattle.tcl_eval.specs.Straight.{Alike, Does, IsOwn, IsWithin, Straightly, paid_next, tried_next, tried_size, stand_next, stand_size};
-ghost use Rattle.tcl_eval.specs.Engine.{Holds};
+ghost use Rattle.tcl_eval.specs.Engine.{Holds, state_of};
 ghost use Rattle.tcl_eval.specs.Verbs.{ValueOf};
 
+use crate::cost::{EVALUATION_COST, result_cost};
 use crate::engine::Engine;
+use crate::expr_reading::ExprReading;
+use crate::expression::{MOST_AT_ONCE, value_ended};
 use crate::gather::Gathered;
 use crate::place::{has_command, has_word, words_of};
+use crate::read_expr::ReadExpr;
 use crate::simple::Simple;
+use crate::simple_value::simple_value;
 use crate::stack::Ended;
 use crate::value::{do_break, do_continue, do_error, do_return, failed, too_long};
 use crate::verb::{Verb, find_verb};
-use crate::words::{BYTES_FOR_ONE, begins_with, first_word, word_at};
+use crate::words::{begins_with, behind_name, first_word, joined};
 use cmd_table::Cmd;
 use natives::{Fault, Natives};
+use std::alloc::Global;
 use tcl_host::{Host, OK};
 use tcl_parse::Script;
 use tcl_varcmd::{is_var_command, var_command};
@@ -53,26 +62,12 @@ pub enum Stand {
     Costly { at: usize, word: usize },
 }
 
-/// Whether words begin with the name of a built-in that runs a text. It saves looking for that.
-fn runs_text(words: &Words) -> bool {
-    match find_verb(word_at(words, 0)) {
-        Verb::Eval
-        | Verb::Catch
-        | Verb::Expr
-        | Verb::If
-        | Verb::While
-        | Verb::For
-        | Verb::Foreach
-        | Verb::Switch => true,
-        Verb::Proc
-        | Verb::Return
-        | Verb::Error
-        | Verb::Break
-        | Verb::Continue
-        | Verb::Rename
-        | Verb::Info
-        | Verb::Other => false,
-    }
+/// Whether words begin with the name of a native.
+fn is_native(alloc: Global, natives: &Natives, words: &Words) -> bool
+    ensures { result ≡ has_name (names_of natives.now) (arg words.now 0) }
+{
+    let empty = Text::empty(alloc);
+    natives.find(first_word(words, &empty)).is_some()
 }
 
 #[tactic(auto, using(crate::proofs::Stacks::frees_push))]
@@ -86,6 +81,21 @@ impl<H: Host> Engine<H> {
             Some(Cmd::Built(own)) => begins_with(words, own),
             Some(Cmd::Proc { .. }) | None => false,
         }
+    }
+
+    /// Whether words call a built-in of the language by its own name: no native, and no command on variables.
+    fn is_language(&self, natives: &Natives, words: &Words) -> bool
+        ensures own { IsTrue result → IsOwn self.now.table.table words.now }
+        ensures native { IsTrue result → has_name (names_of natives.now) (arg words.now 0) ≡ false }
+        ensures variable { IsTrue result → begins_var_command words.now ≡ false }
+    {
+        if is_native(self.alloc, natives, words) {
+            return false;
+        }
+        if is_var_command(words) {
+            return false;
+        }
+        self.is_own(words)
     }
 
     /// Does a command on variables.
@@ -105,14 +115,12 @@ impl<H: Host> Engine<H> {
     }
 
     /// What a built-in comes to that ends what is under way; `None` for another one.
-    fn end_value(&self, words: &Words) -> Result<Option<Ended>, NoMemory>
+    fn end_value(&self, verb: Verb, words: &Words) -> Result<Option<Ended>, NoMemory>
         ensures means { IfOk result (λ value. IfSome value (λ ended.
             (names : Names) (inner : Inner H) (k : Next H)
-            → give ended k ≡ built_in names H.table inner (verb_of (arg words.now 0)) words.now k)) }
+            → give ended k ≡ built_in names H.table inner verb words.now k)) }
     {
-        let empty = Text::empty(self.alloc);
-        let name = first_word(words, &empty);
-        let value = match find_verb(name.bytes()) {
+        let value = match verb {
             Verb::Return => do_return(self.alloc, words)?,
             Verb::Error => do_error(self.alloc, words)?,
             Verb::Break => do_break(self.alloc, words)?,
@@ -123,7 +131,13 @@ impl<H: Host> Engine<H> {
     }
 
     /// Does a built-in, whose own name is the first word, where it comes to a value straight away.
-    fn built_value(&mut self, natives: &Natives, words: &Words) -> Result<Option<Ended>, NoMemory>
+    fn built_value(
+        &mut self,
+        natives: &Natives,
+        verb: Verb,
+        words: &Words,
+    ) -> Result<Option<Ended>, NoMemory>
+        requires { verb ≡ verb_of (arg words.now 0) }
         ensures means { IfOk result (λ value.
             ValueOf value
             (λ ended. (inner : Inner H)
@@ -141,8 +155,16 @@ impl<H: Host> Engine<H> {
             let value = self.write_variables(words)?;
             return Ok(Some(value));
         }
-        let value = self.end_value(words)?;
+        let value = self.end_value(verb, words)?;
         Ok(value)
+    }
+
+    /// Notes that the name of a command is looked up, which changes nothing that a run can tell.
+    fn note_name(&mut self, words: &Words)
+        ensures { self.new ≡ self.old }
+    {
+        let empty = Text::empty(self.alloc);
+        self.table.note(first_word(words, &empty));
     }
 
     /// What a command comes to for which nothing is put on the stack; `None` for another one, of which
@@ -150,8 +172,10 @@ impl<H: Host> Engine<H> {
     fn straight_value(
         &mut self,
         natives: &Natives,
+        verb: Verb,
         words: &Words,
     ) -> Result<Option<Ended>, NoMemory>
+        requires { verb ≡ verb_of (arg words.now 0) }
         ensures means { IfOk result (λ value.
             ValueOf value
             (λ ended. (inner : Inner H)
@@ -160,13 +184,13 @@ impl<H: Host> Engine<H> {
         ensures rest { OnOk result (self.new ≡ record self.old { frames = self.new.frames }) }
         ensures holds { Holds self.new self.old }
     {
-        if runs_text(words) {
+        if verb.runs_text() {
             return Ok(None);
         }
         if !self.is_own(words) {
             return Ok(None);
         }
-        let value = self.built_value(natives, words)?;
+        let value = self.built_value(natives, verb, words)?;
         Ok(value)
     }
 
@@ -181,19 +205,118 @@ impl<H: Host> Engine<H> {
         if value.result.len() > MOST_BYTES {
             return Ok(Some(too_long(self.alloc)?));
         }
-        if !self.pay(value.result.len() as u128 / BYTES_FOR_ONE as u128) {
+        if !self.pay(result_cost(&value.result)) {
             return Ok(None);
         }
         Ok(Some(value))
+    }
+
+    /// Pays for a command of this cost, which came to this value.
+    fn pay_tried(&mut self, cost: u64, value: Ended) -> Result<Tried, NoMemory>
+        requires { cost ≤ self.old.budget }
+        ensures means { IfOk result (λ tried.
+            (names : Names) (inner : Inner H) (words : Words) (k : Next H) (given : Given)
+            → tried_next names H.table inner words tried k (state_of self.new) self.new.budget given
+            ≡ command_end k value.code value.result (state_of self.old) (self.old.budget - cost)
+            given) }
+        ensures size { IfOk result (λ tried. (words : Words) → tried_size words tried ≡ 0) }
+        ensures straight { OnOk result (Straightly self.new self.old) }
+        ensures holds { Holds self.new self.old }
+    {
+        self.budget -= cost;
+        match self.pay_result(value)? {
+            None => Ok(Tried::Spent),
+            Some(value) => Ok(Tried::Gives(value)),
+        }
+    }
+
+    /// What an `expr` of a text that was read comes to, where nothing is run for it; `None` where something
+    /// may be run, or where the text is no expression.
+    fn read_value(&self, read: &ReadExpr) -> Result<Option<Ended>, NoMemory>
+        ensures means { IfOk result (λ found.
+            IfSome found (λ ended. (names : Names) (levels : ℕ)
+            → Does self.now self.now ended (λ k.
+            run_answer (nested names H.table levels) read.now (expression_of read.now)
+            (value_end k)))) }
+    {
+        match read.reading() {
+            ExprReading::Bad { .. } => Ok(None),
+            ExprReading::Good(expr) => {
+                match simple_value(self.alloc, &self.frames, expr, MOST_AT_ONCE)? {
+                    None => Ok(None),
+                    Some(value) => {
+                        let ended = value_ended(self.alloc, value)?;
+                        Ok(Some(ended))
+                    }
+                }
+            }
+        }
+    }
+
+    /// What an `expr` of these words comes to behind its cost, where nothing is run for it; `None` where
+    /// something may be run, or where the words are no expression.
+    fn expr_value(&mut self, words: &Words) -> Result<Option<Ended>, NoMemory>
+        ensures means { IfOk result (λ found.
+            IfSome found (λ ended. (names : Names) (levels : ℕ)
+            → Does self.new self.old ended (λ k.
+            run_answer (nested names H.table levels) (joined (drop 1 words.now))
+            (expression_of (joined (drop 1 words.now))) (value_end k)))) }
+        ensures same { OnOk result (self.new ≡ self.old) }
+        ensures holds { Holds self.new self.old }
+    {
+        let text = joined(self.alloc, behind_name(words))?;
+        let read = self.readings.read_expression(self.alloc, &text)?;
+        let found = self.read_value(&read)?;
+        Ok(found)
+    }
+
+    /// Does an `expr` whose words are all there, and pays for it, where nothing is run for it and so much
+    /// is left of the budget.
+    fn try_expr(&mut self, natives: &Natives, values: Gathered) -> Result<Tried, NoMemory>
+        requires { verb_of (arg values 0) ≡ Verb.Expr }
+        ensures means { IfOk result (λ tried.
+            (levels : ℕ) (words : Words) → words_from (length values) words ≡ no_words
+            → Alike self.new self.old
+            (tried_next (names_of natives.now) H.table
+            (nested (names_of natives.now) H.table levels) words tried)
+            (run_words (names_of natives.now) H.table
+            (nested (names_of natives.now) H.table levels) (words_from (length values) words)
+            values)) }
+        ensures size { IfOk result (λ tried.
+            (words : Words)
+            → tried_size words tried ≤ words_size (words_from (length values) words)) }
+        ensures straight { OnOk result (Straightly self.new self.old) }
+        ensures holds { Holds self.new self.old }
+    {
+        if values.len() < 2 {
+            return Ok(Tried::Left(values));
+        }
+        let cost = values.cost().saturating_add(EVALUATION_COST);
+        if (self.budget as u128) < cost {
+            return Ok(Tried::Left(values));
+        }
+        if !self.is_language(natives, values.words()) {
+            return Ok(Tried::Left(values));
+        }
+        match self.expr_value(values.words())? {
+            None => Ok(Tried::Left(values)),
+            Some(value) => {
+                let tried = self.pay_tried(cost as u64, value)?;
+                Ok(tried)
+            }
+        }
     }
 
     /// Does a command whose words are all there, and pays for it, where it comes to a value straight
     /// away and so much is left of the budget.
     fn try_command(&mut self, natives: &Natives, values: Gathered) -> Result<Tried, NoMemory>
         ensures means { IfOk result (λ tried.
-            (inner : Inner H) (words : Words) → words_from (length values) words ≡ no_words
-            → Alike self.new self.old (tried_next (names_of natives.now) H.table inner words tried)
-            (run_words (names_of natives.now) H.table inner (words_from (length values) words)
+            (levels : ℕ) (words : Words) → words_from (length values) words ≡ no_words
+            → Alike self.new self.old
+            (tried_next (names_of natives.now) H.table
+            (nested (names_of natives.now) H.table levels) words tried)
+            (run_words (names_of natives.now) H.table
+            (nested (names_of natives.now) H.table levels) (words_from (length values) words)
             values)) }
         ensures size { IfOk result (λ tried.
             (words : Words)
@@ -205,14 +328,17 @@ impl<H: Host> Engine<H> {
         if (self.budget as u128) < cost {
             return Ok(Tried::Left(values));
         }
-        match self.straight_value(natives, values.words())? {
+        self.note_name(values.words());
+        let verb = find_verb(values.words().bytes_at(0));
+        if verb == Verb::Expr {
+            let tried = self.try_expr(natives, values)?;
+            return Ok(tried);
+        }
+        match self.straight_value(natives, verb, values.words())? {
             None => Ok(Tried::Left(values)),
             Some(value) => {
-                self.budget -= cost as u64;
-                match self.pay_result(value)? {
-                    None => Ok(Tried::Spent),
-                    Some(value) => Ok(Tried::Gives(value)),
-                }
+                let tried = self.pay_tried(cost as u64, value)?;
+                Ok(tried)
             }
         }
     }

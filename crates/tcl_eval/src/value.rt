@@ -9,7 +9,7 @@ ghost use Rattle.tcl_eval.specs.Eval.{ended, error_of, wrong_words, return_of, r
 
 use crate::gather::SoFar;
 use crate::stack::Ended;
-use crate::words::{copy_word, word_at};
+use crate::words::copy_word;
 use std::alloc::Global;
 use tcl_host::{BREAK, CONTINUE, ERROR, OK, RETURN};
 use txt_core::{MOST_BYTES, NoMemory, Text, Words, error_text};
@@ -90,7 +90,7 @@ pub fn error(alloc: Global, message: Text) -> Result<Ended, NoMemory>
 pub fn wrong_words(alloc: Global, words: &Words) -> Result<Ended, NoMemory>
     ensures { IfOk result (λ value. value ≡ wrong_words words.now) }
 {
-    error(alloc, error_text::wrong_words(alloc, word_at(words, 0))?)
+    error(alloc, error_text::wrong_words(alloc, words.bytes_at(0))?)
 }
 
 /// `return ?value?`.

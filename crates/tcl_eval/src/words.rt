@@ -1,23 +1,10 @@
 //! The words of commands.
 
 ghost use Rattle.std.specs.Prelude.{◌≡◌, ◌∷◌, ◌<◌, IfOk, IsTrue, drop, []};
-ghost use Rattle.tcl_eval.specs.Eval.{command_cost, arg, joined};
+ghost use Rattle.tcl_eval.specs.Eval.{arg, joined};
 
 use std::alloc::Global;
 use txt_core::{NoMemory, Text, Words};
-
-/// So many whole bytes cost 1.
-pub const BYTES_FOR_ONE: u64 = 1024;
-
-/// The word at a place; the empty text where there is none.
-pub fn word_at(words: &Words, place: usize) -> &[u8]
-    ensures { result.now ≡ arg words.now place }
-{
-    match words.get(place) {
-        Some(word) => word.bytes(),
-        None => &[],
-    }
-}
 
 /// The first word; where there is none, the empty text that is handed in.
 pub fn first_word<'a>(words: &'a Words, empty: &'a Text) -> &'a Text
@@ -46,17 +33,6 @@ pub fn share_word(alloc: Global, words: &Words, place: usize) -> Result<Text, No
 {
     let mut word = copy_word(alloc, words, place)?;
     word.share(alloc)
-}
-
-/// What a command costs.
-pub fn command_cost(words: &Words) -> u128
-    ensures { result ≡ command_cost words.now }
-{
-    let mut bytes = 0u128;
-    for word in words.as_slice() {
-        bytes += word.len() as u128;
-    }
-    1 + bytes / (BYTES_FOR_ONE as u128)
 }
 
 /// The words behind the first one.

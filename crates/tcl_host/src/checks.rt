@@ -10,16 +10,6 @@ use crate::refusal::{Refusal, refuse};
 use std::alloc::Global;
 use txt_core::{NoMemory, Text, Words, error_text};
 
-/// The word at a place, counted from the command's name at 0; the empty text where there is none.
-pub fn arg(words: &Words, place: usize) -> &[u8]
-    ensures { result.now ≡ arg words.now place }
-{
-    match words.get(place) {
-        Some(word) => word.bytes(),
-        None => &[],
-    }
-}
-
 /// Whether so many words, with the command's name among them, are from the least to the most.
 pub fn is_counted(words: &Words, least: usize, most: usize) -> bool
     ensures { result ≡ is_counted least most words.now }
@@ -37,7 +27,7 @@ pub fn require_words(alloc: Global, right: bool, words: &Words) -> Result<(), Re
     ensures { Passes result right (wrong_words (arg words.now 0)) }
 {
     if !right {
-        return Err(refuse(error_text::wrong_words(alloc, arg(words, 0))));
+        return Err(refuse(error_text::wrong_words(alloc, words.bytes_at(0))));
     }
     Ok(())
 }
@@ -47,7 +37,7 @@ pub fn require_words(alloc: Global, right: bool, words: &Words) -> Result<(), Re
 pub fn no_subcommand(alloc: Global, words: &Words) -> Result<Text, NoMemory>
     ensures { IfOk result (λ text. text ≡ unknown_subcommand (arg words.now 1) (arg words.now 0)) }
 {
-    error_text::unknown_subcommand(alloc, arg(words, 1), arg(words, 0))
+    error_text::unknown_subcommand(alloc, words.bytes_at(1), words.bytes_at(0))
 }
 
 /// The text of the error of a word, at this place, that the command can't take. Its only error is
@@ -55,7 +45,7 @@ pub fn no_subcommand(alloc: Global, words: &Words) -> Result<Text, NoMemory>
 pub fn unfit(alloc: Global, words: &Words, place: usize) -> Result<Text, NoMemory>
     ensures { IfOk result (λ text. text ≡ unfit words.now place) }
 {
-    error_text::bad_value(alloc, arg(words, place), arg(words, 0))
+    error_text::bad_value(alloc, words.bytes_at(place), words.bytes_at(0))
 }
 
 /// Goes on where the command can take the word at a place.

@@ -12,7 +12,7 @@ mod paths;
 mod refusal;
 mod reply;
 
-pub use checks::{arg, is_counted, no_subcommand, require_fit, require_words, unfit};
+pub use checks::{is_counted, no_subcommand, require_fit, require_words, unfit};
 pub use code::{
     BREAK, CONTINUE, ERROR, OK, PAGE_ABORT, PAGE_BREAK, PAGE_RETURN, RETURN, codes_have_their_names,
 };

@@ -1,8 +1,8 @@
-use Rattle.std.proofs.Common.{◌≡◌, ◌∙◌, Bool, false, sym, ap, refl}
-use Rattle.natives.specs.Names.{names_of, has_name}
-use Rattle.tcl_eval.specs.Eval.{arg, built, built_in, give, verb_of}
-use Rattle.tcl_eval.specs.Straight.{Does}
+use Rattle.std.proofs.Common.{◌∙◌, sym, ap, refl}
+use Rattle.natives.specs.Names.{names_of}
+use Rattle.tcl_eval.specs.Eval.{built_in}
 use Rattle.tcl_eval.specs.Engine.{state_of}
+use Rattle.tcl_eval.specs.declared.verb.Verb.{Verb}
 use Rattle.tcl_eval.proofs.Commands.{some_value, variable_built, end_built}
 use Rattle.tcl_eval.proofs.engine.Engine.built_value.Goals as goal
 
@@ -19,5 +19,5 @@ returns-clause-means g c =
     let e = c.args.self.now in
     let no = rw c.first_word.ensures at (sym c.in_default.ensures.there) in
     some_value c.in_ok-value-3.value _ _ _
-    (λ v means inner k b gv. end_built ns t inner c.args.words.now k (state_of e) b gv _ no (sym c.if-is_var_command.ensures) (ap (λ way. way (state_of e) b gv) (means ns inner k)))
+    (λ v means inner k b gv. end_built ns t inner c.args.words.now k (state_of e) b gv _ no (sym c.if-is_var_command.ensures) (ap (λ way. way (state_of e) b gv) (means ns inner k) ∙ ap (λ (verb : Verb). built_in ns t inner verb c.args.words.now k (state_of e) b gv) c.requires))
     refl c.in_ok-value-3.ensures.means

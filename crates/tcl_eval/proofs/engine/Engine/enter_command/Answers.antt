@@ -1,14 +1,11 @@
-use Rattle.std.proofs.Common.{◌∙◌, ap, arith}
+use Rattle.std.proofs.Common.{◌∙◌, arith, length}
 use Rattle.std.proofs.lemmas.Result.{IfOk-weaker}
-use Rattle.tcl_parse.specs.declared.tree.Script.{Script}
 use Rattle.tcl_eval.specs.Eval.{nested, run_words}
-use Rattle.tcl_eval.specs.Places.{tree_of, commands_from, command_at, commands_size, words_from}
-use Rattle.std.specs.Prelude.{length, ◌+◌}
+use Rattle.tcl_eval.specs.Places.{tree_of, command_at, words_from}
 use Rattle.tcl_eval.specs.Stack.{stack_next}
 use Rattle.tcl_eval.specs.Engine.{state_of}
 use Rattle.tcl_eval.proofs.Alike.{run_script_alike}
-use Rattle.tcl_eval.proofs.Stacks.{weighed, freed}
-use Rattle.tcl_eval.proofs.Commands.{last_behind, waits_behind}
+use Rattle.tcl_eval.proofs.Commands.{last_behind}
 use Rattle.tcl_eval.proofs.engine.Engine.enter_command.Goals as goal
 
 pub returns-then-not-has_command-clause-means : goal.returns-then-not-has_command-clause-means
@@ -25,20 +22,19 @@ returns-then-not-has_command-clause-means g c =
 pub returns-clause-means : goal.returns-clause-means
 returns-clause-means g c =
     let t = g.H.Host.table in
-    let e = c.args.self.now in
     let tree = tree_of c.args.script.value in
+    let behind = c.in_ok-push_following.ensures.means in
     IfOk-weaker c.enter_word-2.result _ _
     (λ step means ns gv. means ns gv
-    ∙ waits_behind ns t e.stack.items c.push.new.self.items c.args.script.value c.in_ok-again.again c.args.at c.args.levels (λ k. run_words ns t (nested ns t c.args.levels) (words_from (length c.args.values) (command_at c.args.at tree)) c.args.values k) (state_of e) e.budget gv c.in_ok-push.ensures.items c.in_ok-again.ensures.cases)
+    ∙ behind ns (λ k. run_words ns t (nested ns t c.args.levels) (words_from (length c.args.values) (command_at c.args.at tree)) c.args.values k) gv)
     c.enter_word-2.ensures.means
 
 pub returns-clause-falls : goal.returns-clause-falls
 returns-clause-falls g c =
-    let e = weighed _ _ _ c.in_ok-push.ensures.items in
-    let same = ap (λ (s : Script). commands_size (commands_from (c.args.at + 1) (tree_of s))) c.in_ok-again.ensures.cases in
-    IfOk-weaker c.enter_word-2.result _ _ (λ step falls. omega (arith, e, same, falls)) c.enter_word-2.ensures.falls
+    let more = c.in_ok-push_following.ensures.weighs in
+    IfOk-weaker c.enter_word-2.result _ _ (λ step falls. omega (arith, more, falls)) c.enter_word-2.ensures.falls
 
 pub returns-clause-keeps : goal.returns-clause-keeps
 returns-clause-keeps g c =
-    let e = freed _ _ _ c.in_ok-push.ensures.items in
-    IfOk-weaker c.enter_word-2.result _ _ (λ step kept. (kept.0, kept.1, omega (arith, e, kept.2))) c.enter_word-2.ensures.keeps
+    let kept = c.in_ok-push_following.ensures.keeps in
+    IfOk-weaker c.enter_word-2.result _ _ (λ step stays. (omega (arith, kept.0, stays.0), stays.1 ∙ kept.1, omega (arith, kept.2, stays.2))) c.enter_word-2.ensures.keeps

@@ -1,4 +1,4 @@
-use Rattle.std.proofs.Common.{◌≡◌, ◌∙◌, ℕ, List, length, ap}
+use Rattle.std.proofs.Common.{◌∙◌, ℕ, List, length, ap}
 use Rattle.natives.specs.Names.{names_of}
 use Rattle.tcl_eval.specs.Eval.{nested, run_words}
 use Rattle.tcl_eval.specs.Kept.{run_costly}
@@ -42,6 +42,6 @@ returns-in_ok-tried-in-Stands-clause-means g c = λ levels k gv.
     let all = command_at c.args.at (tree_of c.args.script.now) in
     let before = rw (c.in-Stands.is, c.words_of.ensures) at c.in_ok-value.ensures.means in
     let none = rw c.len-in-Stands.ensures at c.if-has_word.ensures.there in
-    c.in_ok-tried-in-Stands.ensures.means (nested ns t levels) all none k gv
+    c.in_ok-tried-in-Stands.ensures.means levels all none k gv
     ∙ before ns levels k gv
     ∙ ap (λ (x : List (List ℕ)). run_words ns t (nested ns t levels) (words_from (length x) all) x k (state_of e) e.budget gv) c.new-values.ensures

@@ -1,5 +1,5 @@
 use Rattle.std.proofs.Common.{◌≡◌, ◌≤◌, ◌*◌, ◌-◌, ◌^◌, take, sum_by, length}
-use Rattle.tcl_eval.proofs.words.command_cost.Given as goal
+use Rattle.tcl_eval.proofs.cost.command_cost.Given as goal
 
 abbrev pub invariant-loop-word : goal.invariant-loop-word
 invariant-loop-word l = record {
