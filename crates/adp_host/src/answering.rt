@@ -10,14 +10,14 @@ use crate::leaving::leaves_with;
 use crate::output::{ns_adp_append, ns_adp_puts};
 use crate::verb::{Verb, find_verb};
 use outside::Answer;
-use tcl_host::{HostReply, PAGE_ABORT, PAGE_BREAK, PAGE_RETURN, Refusal, arg, ended};
+use tcl_host::{HostReply, PAGE_ABORT, PAGE_BREAK, PAGE_RETURN, Refusal, ended};
 use txt_core::Words;
 
 /// Does a command.
 pub fn dispatch(host: &mut AdpHost, words: &Words) -> Result<HostReply, Refusal>
     ensures { Comes result host.new (page_call words.now host.old) }
 {
-    let Some(verb) = find_verb(arg(words, 0)) else {
+    let Some(verb) = find_verb(words.bytes_at(0)) else {
         return Ok(HostReply::NotMine);
     };
     match verb {
@@ -36,7 +36,7 @@ pub fn dispatch(host: &mut AdpHost, words: &Words) -> Result<HostReply, Refusal>
 pub fn answer(host: &mut AdpHost, words: &Words, given: &Answer) -> Result<HostReply, Refusal>
     ensures { ComesTo result host.new (page_answer words.now given.now host.old) }
 {
-    if arg(words, 0) != b"ns_adp_include".as_slice() {
+    if words.bytes_at(0) != b"ns_adp_include".as_slice() {
         return Ok(HostReply::NotMine);
     }
     page_answered(host, words, given)

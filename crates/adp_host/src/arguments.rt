@@ -8,7 +8,7 @@ ghost use Rattle.adp_host.specs.Arguments.{argument, argument_text, ns_adp_argc,
 use crate::checks::{integer, page_arguments};
 use crate::host::AdpHost;
 use std::alloc::Global;
-use tcl_host::{Refusal, arg, is_counted, require_words};
+use tcl_host::{Refusal, is_counted, require_words};
 use tcl_list::quote;
 use txt_core::{Text, Words, write_natural};
 
@@ -23,16 +23,13 @@ pub fn ns_adp_argc(host: &AdpHost, words: &Words) -> Result<Text, Refusal>
 }
 
 /// The argument at a place; empty where there is none.
-fn argument(args: &[Text], place: i64) -> &[u8]
+fn argument(args: &Words, place: i64) -> &[u8]
     ensures { result.now ≡ argument args.now place }
 {
     if place < 0 {
         return &[];
     }
-    match args.get(place as usize) {
-        Some(found) => found.bytes(),
-        None => &[],
-    }
+    args.bytes_at(place as usize)
 }
 
 /// All arguments as a list, or the one at the place that the second word is.
@@ -43,8 +40,8 @@ fn argument_text(alloc: Global, args: &Words, words: &Words) -> Result<Text, Ref
     if words.len() == 1 {
         return Ok(quote(alloc, args)?);
     }
-    let place = integer(alloc, arg(words, 1))?;
-    Ok(Text::new(alloc, argument(args.as_slice(), place))?)
+    let place = integer(alloc, words.bytes_at(1))?;
+    Ok(Text::new(alloc, argument(args, place))?)
 }
 
 /// `ns_adp_argv ?PLACE?` gives the list of the page's arguments, or the one at a place.

@@ -9,9 +9,7 @@ use crate::checks::{behind_name, require_page};
 use crate::host::AdpHost;
 use adp_parse::pieces;
 use outside::{Answer, Question, Service};
-use tcl_host::{
-    HostReply, Refusal, arg, is_page_path, page_path, refuse, require_fit, require_words,
-};
+use tcl_host::{HostReply, Refusal, is_page_path, page_path, refuse, require_fit, require_words};
 use txt_core::{NoMemory, Text, Words, error_text, is_too_long};
 
 /// `ns_adp_include FILE WORD..` asks for the page.
@@ -19,7 +17,7 @@ pub fn ns_adp_include(host: &mut AdpHost, words: &Words) -> Result<HostReply, Re
     ensures { Comes result host.new (ns_adp_include words.now host.old) }
 {
     let alloc = host.alloc;
-    let written = arg(words, 1);
+    let written = words.bytes_at(1);
     require_words(alloc, words.len() >= 2, words)?;
     require_page(host)?;
     require_fit(alloc, is_page_path(written), words, 1)?;
@@ -52,7 +50,7 @@ pub fn page_answered(
     ensures { ComesTo result host.new (page_answered words.now answer.now host.old) }
 {
     let alloc = host.alloc;
-    let path = page_path(alloc, arg(words, 1))?;
+    let path = page_path(alloc, words.bytes_at(1))?;
     match answer {
         Answer::Page(page) => {
             if is_too_long(page) {

@@ -8,7 +8,7 @@ ghost use Rattle.adp_host.specs.Output.{output_too_long, overfills, put_out, put
 use crate::checks::{behind_name, require_page};
 use crate::host::AdpHost;
 use std::alloc::Global;
-use tcl_host::{Refusal, arg, is_counted, refuse, require_fit, require_words};
+use tcl_host::{Refusal, is_counted, refuse, require_fit, require_words};
 use txt_core::{NoMemory, Text, Words};
 
 /// How many bytes the output may have.
@@ -60,7 +60,7 @@ pub fn ns_adp_append(host: &mut AdpHost, words: &Words) -> Result<Text, Refusal>
 fn is_plain_or_option(words: &Words) -> bool
     ensures { result ≡ is_plain_or_option words.now }
 {
-    words.len() == 2 || arg(words, 1) == b"-nonewline".as_slice()
+    words.len() == 2 || words.bytes_at(1) == b"-nonewline".as_slice()
 }
 
 /// The text that is put out: the last word, and a newline where no option stands before it.
@@ -68,9 +68,9 @@ fn line(alloc: Global, words: &Words) -> Result<Text, NoMemory>
     ensures { IfOk result (λ text. text ≡ line words.now) }
 {
     if words.len() != 2 {
-        return Text::new(alloc, arg(words, 2));
+        return Text::new(alloc, words.bytes_at(2));
     }
-    let mut line = Text::new(alloc, arg(words, 1))?;
+    let mut line = Text::new(alloc, words.bytes_at(1))?;
     line.append(b"\n")?;
     Ok(line)
 }

@@ -6,8 +6,9 @@ use Rattle.std.proofs.Math.ListN.{drop_of_length-le}
 use Rattle.std.proofs.lemmas.List.{take_all}
 use Rattle.std.specs.Option.{IfSome}
 use Rattle.std.specs.List.{position_or_len, before_first}
+use Rattle.txt_core.specs.Texts.{is_newline}
 use Rattle.memchr.specs.Find.{IsFirstByte, is_byte}
-use Rattle.chan_core.specs.Lines.{is_newline, line_of, behind_line, IsLine}
+use Rattle.chan_core.specs.Lines.{line_of, behind_line, IsLine}
 
 not_true : (b : Bool) → (b ≡ true → ⊥) → b ≡ false
 not_true b fails = ⊎_elim (λ (is : b ≡ true). absurd (fails is)) (λ (is : b ≡ false). is) (cases_Bool b)

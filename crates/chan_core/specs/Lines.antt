@@ -1,11 +1,8 @@
 -- Lines at the front of a text.
-use Rattle.std.specs.Prelude.{ℕ, Bool, [], ◌∷◌, ◌++◌, ◌==◌, ◌≡◌, ◌≢◌, ◌<◌, ◌⊎◌, Option, Some, None, length, slice_index}
+use Rattle.std.specs.Prelude.{ℕ, [], ◌∷◌, ◌++◌, ◌≡◌, ◌≢◌, ◌<◌, ◌⊎◌, Option, Some, None, length, slice_index}
 use Rattle.std.specs.List.{before_first, after_first}
 use Rattle.txt_core.specs.Names.{Bytes}
-
--- a newline
-abbrev pub is_newline : ℕ → Bool
-is_newline b = b == 10
+use Rattle.txt_core.specs.Texts.{is_newline}
 
 -- the line at the front of a text: what stands before its first newline, or all where it has none; the empty text has no line
 abbrev pub line_of : Bytes → Option Bytes

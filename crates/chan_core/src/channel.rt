@@ -2,7 +2,8 @@
 
 ghost use Rattle.std.specs.Prelude.{◌≡◌, ◌≤◌, IfOk, OnOk, OnErr, drop, take, length};
 ghost use Rattle.std.specs.List.{before_first};
-ghost use Rattle.chan_core.specs.Lines.{line_of, behind_line, is_newline};
+ghost use Rattle.txt_core.specs.Texts.{is_newline};
+ghost use Rattle.chan_core.specs.Lines.{line_of, behind_line};
 
 use memchr::memchr;
 use std::alloc::Global;

@@ -4,7 +4,7 @@ use Rattle.std.specs.Prelude.{ℕ, ℤ, pos, negsuc, [], ◌∷◌, Bool, not, �
 use Rattle.std.specs.List.{list_all, list_any}
 use Rattle.txt_core.specs.Names.{Bytes, Words}
 use Rattle.txt_core.specs.ErrorTexts.{response_given}
-use Rattle.http_req.specs.Targets.{is_filled}
+use Rattle.txt_core.specs.Texts.{is_filled}
 use Rattle.http_resp.specs.Replies.{plain_reply}
 use Rattle.http_resp.specs.declared.response.Response.{Response}
 use Rattle.tcl_host.specs.Leaf.{Leaf}

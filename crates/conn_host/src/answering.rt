@@ -11,14 +11,14 @@ use crate::responding::{ns_return, ns_returnnotfound, ns_returnredirect};
 use crate::setting::ns_set;
 use crate::verb::{Verb, find_verb};
 use outside::Answer;
-use tcl_host::{HostReply, Refusal, arg, ended};
+use tcl_host::{HostReply, Refusal, ended};
 use txt_core::Words;
 
 /// Does a command.
 pub fn dispatch(host: &mut ConnHost, words: &Words) -> Result<HostReply, Refusal>
     ensures { Comes result host.new (conn_call words.now host.old) }
 {
-    let Some(verb) = find_verb(arg(words, 0)) else {
+    let Some(verb) = find_verb(words.bytes_at(0)) else {
         return Ok(HostReply::NotMine);
     };
     match verb {
@@ -44,7 +44,7 @@ pub fn dispatch(host: &mut ConnHost, words: &Words) -> Result<HostReply, Refusal
 pub fn answer(host: &mut ConnHost, words: &Words, answer: &Answer) -> Result<HostReply, Refusal>
     ensures { Comes result host.new (conn_answer words.now answer.now host.old) }
 {
-    if arg(words, 0) != b"open".as_slice() {
+    if words.bytes_at(0) != b"open".as_slice() {
         return Ok(HostReply::NotMine);
     }
     ended(page_answered(host, words, answer))

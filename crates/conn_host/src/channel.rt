@@ -12,8 +12,8 @@ use crate::id::{channel_at, channel_id};
 use chan_core::{ChanFault, Chans};
 use natives::word_at;
 use outside::{Answer, Question, Service};
-use tcl_host::{HostReply, Refusal, arg, done, is_page_path, refuse, require_fit};
-use txt_core::{NoMemory, Text, Words, error_text, is_too_long, write_int};
+use tcl_host::{HostReply, Refusal, done, is_page_path, refuse, require_fit};
+use txt_core::{NoMemory, Text, Words, error_text, is_too_long, truth_text, write_int};
 
 /// The length of the line where there is none.
 const NO_LINE: i64 = -1;
@@ -37,7 +37,7 @@ pub fn open(host: &mut ConnHost, words: &Words) -> Result<HostReply, Refusal>
 {
     let alloc = host.alloc;
     require_count(alloc, 2, 2, words)?;
-    require_fit(alloc, is_page_path(arg(words, 1)), words, 1)?;
+    require_fit(alloc, is_page_path(words.bytes_at(1)), words, 1)?;
     let mut asked = Words::new(alloc);
     asked.add(word_at(words, 1).copy(alloc)?)?;
     Ok(HostReply::Ask(Question {
@@ -63,7 +63,7 @@ pub fn page_answered(host: &mut ConnHost, words: &Words, answer: &Answer) -> Res
     ensures { EndsWith result host.new (page_answered words.now answer.now host.old) }
 {
     let alloc = host.alloc;
-    let path = arg(words, 1);
+    let path = words.bytes_at(1);
     match answer {
         Answer::Page(page) => {
             if is_too_long(page) {
@@ -141,7 +141,7 @@ pub fn eof(host: &mut ConnHost, words: &Words) -> Result<Text, Refusal>
     require_count(alloc, 2, 2, words)?;
     let channel = channel_at(host, words, 1)?;
     let at_end = kept(host.channels.eof(channel))?;
-    Ok(Text::new(alloc, if at_end { b"1" } else { b"0" })?)
+    Ok(truth_text(alloc, at_end)?)
 }
 
 /// `close ID` closes the channel.

@@ -8,7 +8,7 @@ ghost use Rattle.tcl_host.specs.Checks.{is_counted};
 ghost use Rattle.conn_host.specs.Checks.{integer, count};
 
 use std::alloc::Global;
-use tcl_host::{Refusal, arg, is_counted, no_subcommand, refuse, require_words, unfit};
+use tcl_host::{Refusal, is_counted, no_subcommand, refuse, require_words, unfit};
 use txt_core::{Words, error_text, read_int_bytes};
 
 /// Goes on where the number of words is in this range.
@@ -31,7 +31,7 @@ pub fn unknown_subcommand(alloc: Global, words: &Words) -> Refusal
 pub fn integer(alloc: Global, words: &Words, place: usize) -> Result<i64, Refusal>
     ensures { Finds result (integer words.now place) }
 {
-    let word = arg(words, place);
+    let word = words.bytes_at(place);
     match read_int_bytes(word) {
         Some(number) => Ok(number),
         None => Err(refuse(error_text::no_integer(alloc, word))),

@@ -11,7 +11,7 @@ use crate::host::ConnHost;
 use http_resp::fixdate;
 use percent_encoding::{AsciiSet, NON_ALPHANUMERIC, ascii_set, percent_decode, percent_encode};
 use std::alloc::Global;
-use tcl_host::{Refusal, arg, require_fit};
+use tcl_host::{Refusal, require_fit};
 use txt_core::{LAST_MOMENT, NoMemory, Text, Words, write_natural};
 
 /// The bytes that are escaped: all but letters, digits and `-_.~`.
@@ -59,7 +59,7 @@ pub fn ns_urlencode(host: &mut ConnHost, words: &Words) -> Result<Text, Refusal>
     ensures { EndsWith result host.new (ns_urlencode words.now host.old) }
 {
     require_count(host.alloc, 2, 2, words)?;
-    Ok(encoded(host.alloc, arg(words, 1))?)
+    Ok(encoded(host.alloc, words.bytes_at(1))?)
 }
 
 /// `ns_urldecode TEXT`.
@@ -68,7 +68,7 @@ pub fn ns_urldecode(host: &mut ConnHost, words: &Words) -> Result<Text, Refusal>
     ensures { EndsWith result host.new (ns_urldecode words.now host.old) }
 {
     require_count(host.alloc, 2, 2, words)?;
-    Ok(decoded(host.alloc, arg(words, 1))?)
+    Ok(decoded(host.alloc, words.bytes_at(1))?)
 }
 
 /// `ns_time` gives the moment of the run.

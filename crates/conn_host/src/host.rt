@@ -3,6 +3,7 @@
 ghost use Rattle.std.specs.Prelude.{◌≡◌, ◌≢◌, ◌++◌, ◌∷◌, [], None, Err, IfOk, IfErr, OnOk, Ok};
 ghost use Rattle.ns_sets.specs.Sets.{fields_of};
 ghost use Rattle.conn_host.specs.Conns.{unnamed};
+ghost use Rattle.conn_host.specs.Forms.{form_of};
 
 use crate::answering::{answer, dispatch};
 use crate::form::form_of;
@@ -78,6 +79,19 @@ fn add_freed(alloc: Global, sets: &mut Sets) -> Result<(), NoMemory>
     Ok(())
 }
 
+/// The sets with which a run on a request begins.
+fn sets_of(alloc: Global, request: &Request) -> Result<Sets, NoMemory>
+    ensures { IfOk result (λ sets.
+        sets
+        ≡ unnamed request.now.fields ∷ unnamed [] ∷ unnamed (form_of request.now) ∷ []) }
+{
+    let mut sets = Sets::new(alloc);
+    add_set(alloc, &mut sets, &request.fields)?;
+    sets.create(Text::empty(alloc))?;
+    add_set(alloc, &mut sets, &form_of(alloc, request)?)?;
+    Ok(sets)
+}
+
 /// Puts copies of the fields of a set at the end of a list; none where no such set stands.
 fn add_fields(sets: &Sets, set: u64, fields: &mut Pairs) -> Result<(), NoMemory>
     ensures { OnOk result (fields.new ≡ fields.old ++ fields_of sets.now set) }
@@ -92,7 +106,7 @@ fn add_fields(sets: &Sets, set: u64, fields: &mut Pairs) -> Result<(), NoMemory>
 }
 
 impl ConnHost {
-    ghost use Rattle.std.specs.Prelude.{◌≡◌, ◌++◌, IfOk, OnOk};
+    ghost use Rattle.std.specs.Prelude.{◌≡◌, ◌++◌, [], None, IfOk, OnOk, OnErr};
     ghost use Rattle.std.specs.Option.{option_copied};
     ghost use Rattle.tcl_host.specs.Answers.{Replies};
     ghost use Rattle.conn_host.specs.Conns.{serving, without_connection, no_run, output_fields};
@@ -103,10 +117,7 @@ impl ConnHost {
     pub fn new(alloc: Global, request: Request, moment: u64) -> Result<ConnHost, NoMemory>
         ensures { IfOk result (λ host. host ≡ serving request moment) }
     {
-        let mut sets = Sets::new(alloc);
-        add_set(alloc, &mut sets, &request.fields)?;
-        add_set(alloc, &mut sets, &Pairs::new(alloc))?;
-        add_set(alloc, &mut sets, &form_of(alloc, &request)?)?;
+        let sets = sets_of(alloc, &request)?;
         Ok(ConnHost {
             alloc,
             request: Some(request),
@@ -115,6 +126,20 @@ impl ConnHost {
             response: None,
             moment,
         })
+    }
+
+    /// Begins a run on a request where the host stands, as `new` does; what was before is left. Its only
+    /// error is want of memory, and nothing is changed then.
+    pub fn serve(&mut self, request: Request, moment: u64) -> Result<(), NoMemory>
+        ensures ok { OnOk result (self.new ≡ serving request moment) }
+        ensures err { OnErr result (self.new ≡ self.old) }
+    {
+        let sets = sets_of(self.alloc, &request)?;
+        self.request = Some(request);
+        self.sets = sets;
+        self.let_go();
+        self.moment = moment;
+        Ok(())
     }
 
     /// The host at the beginning of a run without a connection: the sets 0 to 2 are as if they had been
@@ -183,6 +208,14 @@ impl ConnHost {
         add_fields(&self.sets, OUTPUT_SET, fields)
     }
 
+    /// Lets go of the channels and of the response.
+    fn let_go(&mut self)
+        ensures { self.new ≡ record self.old { channels = []; response = None } }
+    {
+        self.channels.clear();
+        self.response = None;
+    }
+
     /// Leaves the run: no request, no set, no channel and no response, and the numbers of sets and
     /// channels begin anew. It takes no memory.
     pub fn clear(&mut self)
@@ -190,8 +223,7 @@ impl ConnHost {
     {
         self.request = None;
         self.sets.clear();
-        self.channels.clear();
-        self.response = None;
+        self.let_go();
         self.moment = 0;
     }
 }

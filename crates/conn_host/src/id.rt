@@ -10,7 +10,7 @@ ghost use Rattle.conn_host.specs.Ids.{id_of, set_id, channel_id, written_so, num
 use crate::error::{no_channel, no_set};
 use crate::host::ConnHost;
 use std::alloc::Global;
-use tcl_host::{Refusal, arg, refuse};
+use tcl_host::{Refusal, refuse};
 use txt_core::{NoMemory, Text, Words, read_int_bytes, write_int, write_natural};
 
 const SET: u8 = b's';
@@ -68,7 +68,7 @@ pub fn set_at(host: &ConnHost, words: &Words, place: usize) -> Result<u64, Refus
     ensures finds { Finds result (set_at words.now place host.now) }
     ensures stands { IfOk result (λ number. set_of host.now.sets number ≢ None) }
 {
-    let id = arg(words, place);
+    let id = words.bytes_at(place);
     if let Some(number) = number_of(host.alloc, SET, id)? {
         if host.sets.size(number).is_ok() {
             return Ok(number);
@@ -82,7 +82,7 @@ pub fn channel_at(host: &ConnHost, words: &Words, place: usize) -> Result<u64, R
     ensures finds { Finds result (channel_at words.now place host.now) }
     ensures open { IfOk result (λ number. channel host.now.channels number ≢ None) }
 {
-    let id = arg(words, place);
+    let id = words.bytes_at(place);
     if let Some(number) = number_of(host.alloc, CHANNEL, id)? {
         if host.channels.eof(number).is_ok() {
             return Ok(number);

@@ -19,7 +19,7 @@ use crate::responding::require_connection;
 use http_req::Request;
 use natives::word_at;
 use std::alloc::Global;
-use tcl_host::{Refusal, arg, refuse, require_words};
+use tcl_host::{Refusal, refuse, require_words};
 use tcl_list::quote;
 use txt_core::{NoMemory, Text, Words, error_text, is_over_limit, write_natural};
 
@@ -131,7 +131,7 @@ pub fn ns_conn(host: &mut ConnHost, words: &Words) -> Result<Text, Refusal>
 {
     let alloc = host.alloc;
     require_count(alloc, 2, 4, words)?;
-    let Some(verb) = find_conn_verb(arg(words, 1)) else {
+    let Some(verb) = find_conn_verb(words.bytes_at(1)) else {
         return Err(unknown_subcommand(alloc, words));
     };
     require_words(alloc, verb.takes(words.len()), words)?;
@@ -162,7 +162,7 @@ fn query_value(host: &ConnHost, words: &Words) -> Result<Text, NoMemory>
     if is_in_form(host, key) {
         kept(host.sets.iget(FORM_SET, key))
     } else {
-        Text::new(host.alloc, arg(words, 2))
+        Text::new(host.alloc, words.bytes_at(2))
     }
 }
 

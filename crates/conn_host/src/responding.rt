@@ -13,7 +13,7 @@ use crate::checks::{integer, require_count};
 use crate::host::ConnHost;
 use http_resp::{Response, plain};
 use std::alloc::Global;
-use tcl_host::{Refusal, arg, refuse, require_fit};
+use tcl_host::{Refusal, refuse, require_fit};
 use txt_core::{NoMemory, Pairs, Text, Words, error_text};
 
 /// The statuses of responses.
@@ -108,8 +108,8 @@ fn typed(host: &ConnHost, status: u16, words: &Words) -> Result<Response, NoMemo
     Ok(Response {
         status,
         fields: host.output_fields()?,
-        kind: Text::new(host.alloc, arg(words, 2))?,
-        body: Text::new(host.alloc, arg(words, 3))?,
+        kind: Text::new(host.alloc, words.bytes_at(2))?,
+        body: Text::new(host.alloc, words.bytes_at(3))?,
     })
 }
 
@@ -122,7 +122,7 @@ pub fn ns_return(host: &mut ConnHost, words: &Words) -> Result<Text, Refusal>
     require_count(alloc, 4, 4, words)?;
     require_connection(host)?;
     let status = status(alloc, words)?;
-    require_fit(alloc, is_kind(arg(words, 2)), words, 2)?;
+    require_fit(alloc, is_kind(words.bytes_at(2)), words, 2)?;
     let response = typed(host, status, words)?;
     respond(host, response)
 }
@@ -158,7 +158,7 @@ pub fn ns_returnredirect(host: &mut ConnHost, words: &Words) -> Result<Text, Ref
     let alloc = host.alloc;
     require_count(alloc, 2, 2, words)?;
     require_connection(host)?;
-    let url = arg(words, 1);
+    let url = words.bytes_at(1);
     require_fit(alloc, is_url(url), words, 1)?;
     let response = redirection(host, url)?;
     respond(host, response)

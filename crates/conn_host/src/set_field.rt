@@ -10,7 +10,7 @@ use crate::checks::integer;
 use crate::error::no_field;
 use crate::host::{ConnHost, kept};
 use crate::id::set_at;
-use tcl_host::{Refusal, arg, refuse};
+use tcl_host::{Refusal, refuse};
 use txt_core::{Text, Words};
 
 /// The place of a field of the set of this number that the fourth word is.
@@ -22,7 +22,7 @@ fn field_at(host: &ConnHost, words: &Words, set: u64) -> Result<u64, Refusal>
     let place = integer(host.alloc, words, 3)?;
     let count = host.sets.size(set).unwrap_or(0);
     if place < 0 || place as u64 >= count {
-        return Err(refuse(no_field(host.alloc, place, arg(words, 2))));
+        return Err(refuse(no_field(host.alloc, place, words.bytes_at(2))));
     }
     Ok(place as u64)
 }

@@ -11,14 +11,14 @@ use crate::id::{set_at, set_id};
 use crate::set_field::{set_delete, set_key, set_value};
 use crate::set_verb::{SetVerb, find_set_verb};
 use natives::word_at;
-use tcl_host::{Refusal, arg, require_words};
+use tcl_host::{Refusal, require_words};
 use txt_core::{Text, Words, write_int, write_natural};
 
 /// `create ?NAME?`.
 fn set_create(host: &mut ConnHost, words: &Words) -> Result<Text, Refusal>
     ensures { EndsWith result host.new (set_create words.now host.old) }
 {
-    let name = Text::new(host.alloc, arg(words, 2))?;
+    let name = Text::new(host.alloc, words.bytes_at(2))?;
     let set = host.sets.create(name)?;
     Ok(set_id(host.alloc, set)?)
 }
@@ -216,7 +216,7 @@ pub fn ns_set(host: &mut ConnHost, words: &Words) -> Result<Text, Refusal>
     ensures { EndsWith result host.new (ns_set words.now host.old) }
 {
     require_count(host.alloc, 2, 5, words)?;
-    let Some(verb) = find_set_verb(arg(words, 1)) else {
+    let Some(verb) = find_set_verb(words.bytes_at(1)) else {
         return Err(unknown_subcommand(host.alloc, words));
     };
     require_words(host.alloc, verb.takes(words.len()), words)?;

@@ -6,6 +6,7 @@ use Rattle.std.specs.Char.{digit_value}
 use Rattle.std.specs.Prelude.{nat_lt, nat_le, ◌&&◌, ◌==◌, if◌then◌else◌}
 use Rattle.std.proofs.lemmas.Bool.Decides.{nat_tests}
 use Rattle.std.proofs.lemmas.List.{take-append-le, drop-append-le, drop_all}
+use Rattle.txt_core.specs.Texts.{is_newline}
 use Rattle.http_req.specs.declared.chunk_line.LineSpot.{LineSpot}
 use Rattle.http_req.specs.declared.chunk_line.LineSpot.TheVariants as spot
 use Rattle.http_req.specs.declared.chunk_line.LineStep.{LineStep}
@@ -18,7 +19,7 @@ use Rattle.http_req.specs.declared.trailer.TrailerStep.{TrailerStep}
 use Rattle.http_req.specs.declared.trailer.TrailerStep.TheVariants as move
 use Rattle.http_req.specs.declared.trailer.Trailer.{Trailer}
 use Rattle.http_req.specs.declared.trailer.Trailer.TheVariants as trailer
-use Rattle.http_req.specs.ChunkLines.{is_return, is_feed, is_blank, is_text_byte, behind_size, line_step, line_on, line_from, chunk_line}
+use Rattle.http_req.specs.ChunkLines.{is_return, is_blank, is_text_byte, behind_size, line_step, line_on, line_from, chunk_line}
 use Rattle.http_req.specs.Trailers.{trailer_step, trailer_on, trailer_from}
 use Rattle.http_req.specs.declared.chunk.DataEnd.{DataEnd}
 use Rattle.http_req.specs.declared.chunk.DataEnd.TheVariants.{Ended as ended, Missing as missing, Wrong as wrong}
@@ -410,7 +411,7 @@ digit_step spot.Extension at b v e = absurd (go (is_return b) (nat_lt at 1022 &&
     go true f e = cc
     go false true e = cc
     go false false e = cc
-digit_step spot.Return at b v e = absurd (go (is_feed b) e)
+digit_step spot.Return at b v e = absurd (go (is_newline b) e)
   where
     go : (r : Bool) → (if r then step.End else step.Bad) ≡ step.Digit v → ⊥
     go true e = cc
@@ -461,4 +462,4 @@ never_size s at b spot.Size e = λ is. no s e
     no spot.Size e = first (nat_lt at 15 && nat_lt (digit_value b) 16) (at == 0) e
     no spot.Blanks e = behind_size_no_size at b e
     no spot.Extension e = second (is_return b) (nat_lt at 1022 && is_text_byte b) e
-    no spot.Return e = third (is_feed b) e
+    no spot.Return e = third (is_newline b) e

@@ -3,6 +3,7 @@
 use Rattle.std.specs.Prelude.{◌≡◌, ◌==◌, ℕ, ◌+◌, ◌*◌, ◌≤◌, Bool, ◌&&◌, ◌||◌, [], ◌∷◌, ◌++◌, nat_lt, nat_le, if◌then◌else◌, ⊤}
 use Rattle.std.specs.Char.{digit_value}
 use Rattle.txt_core.specs.Names.{Bytes}
+use Rattle.txt_core.specs.Texts.{is_newline}
 use Rattle.http_req.specs.declared.chunk_line.LineSpot.{LineSpot}
 use Rattle.http_req.specs.declared.chunk_line.LineSpot.TheVariants as spot
 use Rattle.http_req.specs.declared.chunk_line.LineStep.{LineStep}
@@ -14,9 +15,6 @@ use Rattle.http_req.specs.Limits.{size_digit_limit, line_room}
 -- CR, LF and the blanks of a line
 abbrev pub is_return : ℕ → Bool
 is_return byte = byte == 13
-
-abbrev pub is_feed : ℕ → Bool
-is_feed byte = byte == 10
 
 abbrev pub is_blank : ℕ → Bool
 is_blank byte = byte == 32 || byte == 9
@@ -50,7 +48,7 @@ line_step spot.Size at byte =
     else behind_size at byte
 line_step spot.Blanks at byte = behind_size at byte
 line_step spot.Extension at byte = behind_semicolon at byte
-line_step spot.Return at byte = if is_feed byte then step.End else step.Bad
+line_step spot.Return at byte = if is_newline byte then step.End else step.Bad
 
 -- the line behind a byte, from the spots to which it may lead and the size so far
 abbrev pub line_on : LineStep → ℕ → ℕ → (LineSpot → ℕ → ChunkLine) → ChunkLine

@@ -2,6 +2,7 @@
 -- bytes, and CR LF. The last line is a chunk line of size 0. The body is the bytes of the chunks, in order.
 use Rattle.std.specs.Prelude.{◌≡◌, ◌==◌, ℕ, ◌+◌, ◌-◌, ◌<◌, [], ◌∷◌, ◌++◌, length, take, drop, ◌&&◌, nat_lt, if◌then◌else◌}
 use Rattle.txt_core.specs.Names.{Bytes}
+use Rattle.txt_core.specs.Texts.{is_newline}
 use Rattle.http_req.specs.declared.chunk_line.ChunkLine.{ChunkLine}
 use Rattle.http_req.specs.declared.chunk_line.ChunkLine.TheVariants as line
 use Rattle.http_req.specs.declared.chunk.DataEnd.{DataEnd}
@@ -11,7 +12,7 @@ use Rattle.http_req.specs.declared.chunk.Chunk.TheVariants as found
 use Rattle.http_req.specs.declared.trailer.TrailerSpot.TheVariants as spot
 use Rattle.http_req.specs.declared.trailer.Trailer.{Trailer}
 use Rattle.http_req.specs.declared.trailer.Trailer.TheVariants as trailer
-use Rattle.http_req.specs.ChunkLines.{is_return, is_feed, chunk_line}
+use Rattle.http_req.specs.ChunkLines.{is_return, chunk_line}
 use Rattle.http_req.specs.Limits.{body_limit}
 use Rattle.http_req.specs.Statuses.{bad_request, content_too_large, fields_too_large}
 use Rattle.http_req.specs.Trailers.{trailer_from}
@@ -20,7 +21,7 @@ use Rattle.http_req.specs.Trailers.{trailer_from}
 abbrev pub data_end : Bytes → DataEnd
 data_end [] = end.Missing
 data_end (a ∷ []) = if is_return a then end.Missing else end.Wrong
-data_end (a ∷ b ∷ rest) = if is_return a && is_feed b then end.Ended else end.Wrong
+data_end (a ∷ b ∷ rest) = if is_return a && is_newline b then end.Ended else end.Wrong
 
 -- What stands at the front of a text: a chunk, whose line and data take so many bytes; the last line, which takes so many
 -- bytes; what is refused with a status; or less than a chunk.

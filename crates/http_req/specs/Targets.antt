@@ -4,7 +4,8 @@ use Rattle.std.specs.List.{list_any, starts_with, position_or_len, before_first,
 use Rattle.std.specs.Str.{bytes_eq}
 use Rattle.percent_encoding.specs.Percent.{percent_decode}
 use Rattle.txt_core.specs.Names.{Bytes, Words}
-pub use Rattle.txt_core.specs.Paths.{is_slash, is_filled}
+pub use Rattle.txt_core.specs.Paths.{is_slash}
+pub use Rattle.txt_core.specs.Texts.{is_filled}
 
 abbrev pub is_question : ℕ → Bool
 is_question byte = byte == 63

@@ -2,13 +2,14 @@
 -- at most 16,384 bytes in all.
 use Rattle.std.specs.Prelude.{ℕ, ◌+◌, [], ◌∷◌, nat_lt, if◌then◌else◌}
 use Rattle.txt_core.specs.Names.{Bytes}
+use Rattle.txt_core.specs.Texts.{is_newline}
 use Rattle.http_req.specs.declared.trailer.TrailerSpot.{TrailerSpot}
 use Rattle.http_req.specs.declared.trailer.TrailerSpot.TheVariants as spot
 use Rattle.http_req.specs.declared.trailer.TrailerStep.{TrailerStep}
 use Rattle.http_req.specs.declared.trailer.TrailerStep.TheVariants as step
 use Rattle.http_req.specs.declared.trailer.Trailer.{Trailer}
 use Rattle.http_req.specs.declared.trailer.Trailer.TheVariants as trailer
-use Rattle.http_req.specs.ChunkLines.{is_return, is_feed, is_text_byte}
+use Rattle.http_req.specs.ChunkLines.{is_return, is_text_byte}
 use Rattle.http_req.specs.Limits.{trailer_limit}
 
 -- in a line stands text, or the CR of its end, which leads to this spot
@@ -22,8 +23,8 @@ in_line at_return byte =
 abbrev pub trailer_step : TrailerSpot → ℕ → TrailerStep
 trailer_step spot.Begin byte = in_line spot.Last byte
 trailer_step spot.Inside byte = in_line spot.Return byte
-trailer_step spot.Return byte = if is_feed byte then step.Go spot.Begin else step.Bad
-trailer_step spot.Last byte = if is_feed byte then step.End else step.Bad
+trailer_step spot.Return byte = if is_newline byte then step.Go spot.Begin else step.Bad
+trailer_step spot.Last byte = if is_newline byte then step.End else step.Bad
 
 -- the trailer behind a byte, from the spots to which it may lead
 abbrev pub trailer_on : TrailerStep → ℕ → (TrailerSpot → Trailer) → Trailer

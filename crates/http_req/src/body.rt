@@ -57,6 +57,7 @@ pub(crate) fn read_body<S: Source>(
 }
 
 /// Reads a body of as many bytes as Content-Length says, or none.
+#[inline(never)]
 fn read_by_length<S: Source>(
     alloc: Global,
     source: &mut S,
@@ -80,6 +81,7 @@ fn read_by_length<S: Source>(
 }
 
 /// Reads a body that comes in chunks.
+#[inline(never)]
 fn read_in_chunks<S: Source>(
     alloc: Global,
     source: &mut S,

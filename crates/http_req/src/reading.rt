@@ -29,6 +29,7 @@ use txt_core::{NoMemory, Pairs, Text};
 /// What is answered depends on the bytes alone, and not on the pieces in which they come. After a
 /// request the bytes that it took are gone, and what was read past them is carried on; a further
 /// call begins there. After `Refused`, `ReadFault` and `NoMemory` the carry isn't used again.
+#[inline(never)]
 pub fn read_request<S: Source>(alloc: Global, source: &mut S, carry: &mut Carry, peer: &Text) -> Got
     ensures answers { Answers (left_of carry.old (S.rest source.old)) peer.now result
         (left_of carry.new (S.rest source.new)) }

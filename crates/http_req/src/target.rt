@@ -7,6 +7,7 @@ ghost use Rattle.http_req.specs.Targets.{path_of, query_of, segments_of, is_targ
 
 use percent_encoding::percent_decode;
 use std::alloc::Global;
+use std::borrow::CowSlice;
 use txt_core::{NoMemory, Text, Words};
 
 const SCHEME: &[u8] = b"http://";
@@ -86,9 +87,10 @@ pub(crate) fn segments(alloc: Global, target: &[u8]) -> Result<Words, NoMemory>
 fn decoded(alloc: Global, part: &[u8]) -> Result<Text, NoMemory>
     ensures { IfOk result (λ segment. segment ≡ percent_decode part.now) }
 {
-    let mut bytes = Vec::new(alloc);
-    percent_decode(part).append_to(&mut bytes)?;
-    Ok(Text::from_vec(bytes))
+    match percent_decode(part).into_cow(alloc)? {
+        CowSlice::Borrowed(bytes) => Text::new(alloc, bytes),
+        CowSlice::Owned(bytes) => Ok(Text::from_vec(bytes)),
+    }
 }
 
 /// Whether the segment could lead out of the folder in which it is looked up.

@@ -6,30 +6,31 @@ ghost use Rattle.http_header.specs.Token.{is_value_byte};
 ghost use Rattle.http_resp.specs.OutputFields.{field_line, is_sent, own_names, output_lines};
 
 use http_header::{HeaderName, HeaderNameError};
-use std::alloc::Global;
-use txt_core::{NoMemory, Pairs, Text};
+use std::alloc::{AllocError, Global};
+use txt_core::{NoMemory, Pairs};
 
 /// The control byte above the printable ones.
 const DELETE: u8 = 127;
 
 /// Appends a field line.
 #[tactic(auto, unfolding(crate::specs::OutputFields::field_line))]
-pub fn push_field(text: &mut Text, name: &[u8], value: &[u8]) -> Result<(), NoMemory>
-    ensures { OnOk result (text.new ≡ text.old ++ field_line name.now value.now) }
+pub fn push_field(text: &mut Vec<u8>, name: &[u8], value: &[u8]) -> Result<(), AllocError>
+    ensures { OnOk result (text.new.items ≡ text.old.items ++ field_line name.now value.now) }
 {
-    text.append(name)?;
-    text.append(b": ")?;
-    text.append(value)?;
-    text.append(b"\r\n")
+    text.extend_from_slice(name)?;
+    text.extend_from_slice(b": ")?;
+    text.extend_from_slice(value)?;
+    text.extend_from_slice(b"\r\n")
 }
 
 /// Appends a field line that begins with these bytes: a name, a colon and a space.
-pub fn push_line(text: &mut Text, start: &[u8], value: &[u8]) -> Result<(), NoMemory>
-    ensures { OnOk result (text.new ≡ text.old ++ start.now ++ value.now ++ codes "\r\n") }
+pub fn push_line(text: &mut Vec<u8>, start: &[u8], value: &[u8]) -> Result<(), AllocError>
+    ensures { OnOk result
+        (text.new.items ≡ text.old.items ++ start.now ++ value.now ++ codes "\r\n") }
 {
-    text.append(start)?;
-    text.append(value)?;
-    text.append(b"\r\n")
+    text.extend_from_slice(start)?;
+    text.extend_from_slice(value)?;
+    text.extend_from_slice(b"\r\n")
 }
 
 /// Whether a field, whose name is in lower case, is one that the server writes itself, or never.
@@ -71,8 +72,8 @@ fn is_sent(alloc: Global, name: &[u8], value: &[u8]) -> Result<bool, NoMemory>
 
 /// Appends the lines of the output fields that are sent, in order.
 #[tactic(auto, unfolding(crate::specs::OutputFields::output_lines))]
-pub fn push_output_fields(alloc: Global, text: &mut Text, fields: &Pairs) -> Result<(), NoMemory>
-    ensures { OnOk result (text.new ≡ text.old ++ output_lines fields.now) }
+pub fn push_output_fields(alloc: Global, text: &mut Vec<u8>, fields: &Pairs) -> Result<(), NoMemory>
+    ensures { OnOk result (text.new.items ≡ text.old.items ++ output_lines fields.now) }
 {
     for (name, value) in fields.as_slice() {
         if is_sent(alloc, name.bytes(), value.bytes())? {

@@ -9,7 +9,7 @@ use crate::date::fixdate;
 use crate::fields::{push_line, push_output_fields};
 use crate::response::Response;
 use itoa::Buffer;
-use std::alloc::Global;
+use std::alloc::{AllocError, Global};
 use txt_core::{NoMemory, Text};
 
 /// 204, whose responses have no content (RFC 9110, section 15.3.5).
@@ -50,32 +50,32 @@ fn known_status(status: u16) -> Option<&'static [u8]>
 }
 
 /// Appends a status code that has no reason phrase of its own.
-fn push_unknown(text: &mut Text, status: u16) -> Result<(), NoMemory>
+fn push_unknown(text: &mut Vec<u8>, status: u16) -> Result<(), AllocError>
     requires { reason status ≡ codes "Unknown" }
-    ensures { OnOk result (text.new ≡ text.old ++ status_text status) }
+    ensures { OnOk result (text.new.items ≡ text.old.items ++ status_text status) }
 {
-    text.append(Buffer::new().format(status).as_bytes())?;
-    text.append(b" Unknown")
+    text.extend_from_slice(Buffer::new().format(status).as_bytes())?;
+    text.extend_from_slice(b" Unknown")
 }
 
 /// Appends a status code and its reason phrase.
-pub fn push_status(text: &mut Text, status: u16) -> Result<(), NoMemory>
-    ensures { OnOk result (text.new ≡ text.old ++ status_text status) }
+pub fn push_status(text: &mut Vec<u8>, status: u16) -> Result<(), AllocError>
+    ensures { OnOk result (text.new.items ≡ text.old.items ++ status_text status) }
 {
     match known_status(status) {
-        Some(known) => text.append(known),
+        Some(known) => text.extend_from_slice(known),
         None => push_unknown(text, status),
     }
 }
 
 /// Appends the status line.
 #[tactic(auto, unfolding(crate::specs::StatusLine::status_line))]
-fn push_status_line(text: &mut Text, status: u16) -> Result<(), NoMemory>
-    ensures { OnOk result (text.new ≡ text.old ++ status_line status) }
+fn push_status_line(text: &mut Vec<u8>, status: u16) -> Result<(), AllocError>
+    ensures { OnOk result (text.new.items ≡ text.old.items ++ status_line status) }
 {
-    text.append(b"HTTP/1.1 ")?;
+    text.extend_from_slice(b"HTTP/1.1 ")?;
     push_status(text, status)?;
-    text.append(b"\r\n")
+    text.extend_from_slice(b"\r\n")
 }
 
 /// Whether a response of this status may have content.
@@ -86,8 +86,8 @@ fn has_content(status: u16) -> bool
 }
 
 /// Appends the fields that say what the content is, where there may be any.
-fn push_content_fields(text: &mut Text, response: &Response) -> Result<(), NoMemory>
-    ensures { OnOk result (text.new ≡ text.old ++ content_lines response.now) }
+fn push_content_fields(text: &mut Vec<u8>, response: &Response) -> Result<(), AllocError>
+    ensures { OnOk result (text.new.items ≡ text.old.items ++ content_lines response.now) }
 {
     if !has_content(response.status) {
         return Ok(());
@@ -115,26 +115,27 @@ fn connection_line(close: bool) -> &'static [u8]
 
 /// Appends the field that names the server.
 #[tactic(auto, unfolding(crate::specs::OutputFields::field_line))]
-fn push_server_field(text: &mut Text) -> Result<(), NoMemory>
+fn push_server_field(text: &mut Vec<u8>) -> Result<(), AllocError>
     ensures { OnOk result
-        (text.new ≡ text.old ++ field_line (codes "Server") (codes "AOLserver-profile/1")) }
+        (text.new.items
+        ≡ text.old.items ++ field_line (codes "Server") (codes "AOLserver-profile/1")) }
 {
-    text.append(b"Server: AOLserver-profile/1\r\n")
+    text.extend_from_slice(b"Server: AOLserver-profile/1\r\n")
 }
 
 /// The head of a response, with its empty line. There is room behind it for the body.
-fn head(alloc: Global, response: &Response, moment: u64, close: bool) -> Result<Text, NoMemory>
-    ensures { IfOk result (λ text. text ≡ head_bytes response.now moment close) }
+fn head(alloc: Global, response: &Response, moment: u64, close: bool) -> Result<Vec<u8>, NoMemory>
+    ensures { IfOk result (λ text. text.items ≡ head_bytes response.now moment close) }
 {
     let room = HEAD_ROOM.saturating_add(response.body.len());
-    let mut text = Text::from_vec(Vec::with_capacity(alloc, room)?);
+    let mut text = Vec::with_capacity(alloc, room)?;
     push_status_line(&mut text, response.status)?;
     push_line(&mut text, b"Date: ", &fixdate(moment))?;
     push_server_field(&mut text)?;
     push_output_fields(alloc, &mut text, &response.fields)?;
     push_content_fields(&mut text, response)?;
-    text.append(connection_line(close))?;
-    text.append(b"\r\n")?;
+    text.extend_from_slice(connection_line(close))?;
+    text.extend_from_slice(b"\r\n")?;
     Ok(text)
 }
 
@@ -155,8 +156,8 @@ pub fn response_bytes(
 {
     let mut text = head(alloc, response, moment, close)?;
     if head_only || !has_content(response.status) {
-        return Ok(text);
+        return Ok(Text::from_vec(text));
     }
-    text.append(response.body.bytes())?;
-    Ok(text)
+    text.extend_from_slice(response.body.bytes())?;
+    Ok(Text::from_vec(text))
 }

@@ -39,6 +39,7 @@ const DATE_END: usize = 69;
 
 /// The reply of plain text with this status and this line as its body. Its only error is want of
 /// memory.
+#[inline(never)]
 pub fn text_reply(alloc: Global, status: u16, line: &[u8]) -> Result<Response, NoMemory>
     ensures { IfOk result (λ response. response ≡ text_reply status line.now) }
 {
@@ -53,12 +54,13 @@ pub fn text_reply(alloc: Global, status: u16, line: &[u8]) -> Result<Response, N
 }
 
 /// The plain reply of a status: the code and its reason phrase as a line of plain text.
+#[inline(never)]
 pub fn plain(alloc: Global, status: u16) -> Result<Response, NoMemory>
     ensures { IfOk result (λ response. response ≡ plain_reply status) }
 {
-    let mut line = Text::empty(alloc);
+    let mut line = Vec::new(alloc);
     push_status(&mut line, status)?;
-    text_reply(alloc, status, line.bytes())
+    text_reply(alloc, status, line.as_slice())
 }
 
 /// Writes the reply for want of memory: 503, `out of memory` and `Connection: close`. It takes no

@@ -4,8 +4,9 @@ use Rattle.std.proofs.lemmas.Iterator.Splits.{YieldsList-from_slice_split}
 use Rattle.std.specs.Prelude.{filter}
 use Rattle.std.specs.List.{slice_split}
 use Rattle.std.specs.Slice.Iter.{split_rest, split_done, split_callee}
+use Rattle.txt_core.specs.Texts.{is_filled}
 use Rattle.percent_encoding.specs.Percent.{percent_decode}
-use Rattle.http_req.specs.Targets.{is_filled, is_slash, segments_of}
+use Rattle.http_req.specs.Targets.{is_slash, segments_of}
 use Rattle.http_req.proofs.target.segments.Goals as goal
 
 pub returns : goal.returns

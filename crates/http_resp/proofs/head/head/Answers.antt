@@ -6,5 +6,5 @@ use Rattle.http_resp.proofs.head.head.Goals as goal
 pub returns : goal.returns
 unfolding head_bytes
 returns c =
-    appended _ _ _ _ _ _ _ _ _ _ _ _ _ _ _ (c.from_vec-text.ensures ∙ c.in_ok-with_capacity.ensures.items) c.in_ok-push_status_line.ensures
-    (dated _ _ _ _ c.in_ok-push_line.ensures c.fixdate.ensures) c.in_ok-push_server_field.ensures c.in_ok-push_output_fields.ensures c.in_ok-push_content_fields.ensures (c.in_ok-append.ensures.ok ∙ ap (λ line. c.push_content_fields.new.text ++ line) c.connection_line.ensures) c.in_ok-append-2.ensures.ok
+    appended _ _ _ _ _ _ _ _ _ _ _ _ _ _ _ c.in_ok-text.ensures.items c.in_ok-push_status_line.ensures
+    (dated _ _ _ _ c.in_ok-push_line.ensures c.fixdate.ensures) c.in_ok-push_server_field.ensures c.in_ok-push_output_fields.ensures c.in_ok-push_content_fields.ensures (c.in_ok-extend_from_slice.ensures.items ∙ ap (λ line. c.push_content_fields.new.text.items ++ line) c.connection_line.ensures) c.in_ok-extend_from_slice-2.ensures.items
