@@ -4,5 +4,4 @@ pub mod Maps
 pub mod Pairs
 pub mod Results
 pub mod Standing
-pub mod Undoing
 pub mod Writing

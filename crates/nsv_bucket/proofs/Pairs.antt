@@ -1,7 +1,8 @@
 -- Lists of fewer than two elements.
 use Rattle.std.proofs.Common.{◌≡◌, ℕ, ◌<◌, false, List, [], ◌∷◌, length, refl, arith}
 use Rattle.nsv_bucket.specs.Arrays.{Array}
-use Rattle.nsv_bucket.specs.Lists.{has_long_value, with_pairs}
+use Rattle.txt_core.specs.Keyed.{with_pairs}
+use Rattle.nsv_bucket.specs.Lists.{has_long_value}
 
 pub long_end : (xs : List (List ℕ)) → length xs < 2 → has_long_value xs ≡ false
 long_end [] h = refl

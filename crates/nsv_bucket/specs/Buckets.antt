@@ -4,9 +4,10 @@ use Rattle.std.specs.FinMap as map
 use Rattle.std.specs.Option.{unwrap_or}
 use Rattle.txt_core.specs.Names.{Bytes, Words}
 use Rattle.txt_core.specs.Limits.{bucket_count}
+use Rattle.txt_core.specs.Words.{arg}
 use Rattle.nsv_bucket.specs.declared.reply.NsvReply.{NsvReply}
 use Rattle.nsv_bucket.specs.Arrays.{Arrays}
-use Rattle.nsv_bucket.specs.Questions.{word_at, is_bucket_number}
+use Rattle.nsv_bucket.specs.Questions.{is_bucket_number, first_digit}
 use Rattle.nsv_bucket.specs.Steps.{array_step}
 
 -- the number of the bucket in which the array of this name lies: the sum of the name's bytes modulo 8
@@ -15,16 +16,16 @@ bucket_of name = sum name % bucket_count
 
 -- the bucket that a word names: the digit that it is; bucket 0 where it is the number of none
 abbrev pub bucket_named : Bytes → ℕ
-bucket_named word = if is_bucket_number word then slice_index word 0 - 48 else 0
+bucket_named word = if is_bucket_number word then slice_index word 0 - first_digit else 0
 
 -- The bucket to which words are put. Those of `nsv_names` name it by their second word. Those of `nsv_array` are about
 -- the array that is their third word, and all others about the array that is their second; a word that is absent counts
 -- as the empty name.
 abbrev pub bucket_asked : Words → ℕ
 bucket_asked words =
-    if bytes_eq (word_at words 0) (codes "nsv_names") then bucket_named (word_at words 1)
-    else if bytes_eq (word_at words 0) (codes "nsv_array") then bucket_of (word_at words 2)
-    else bucket_of (word_at words 1)
+    if bytes_eq (arg words 0) (codes "nsv_names") then bucket_named (arg words 1)
+    else if bytes_eq (arg words 0) (codes "nsv_array") then bucket_of (arg words 2)
+    else bucket_of (arg words 1)
 
 -- all shared arrays: those of each bucket, in order
 abbrev pub AllArrays : Type 0

@@ -4,7 +4,7 @@ use Rattle.std.specs.FinMap as map
 use Rattle.std.specs.Option.{option_or}
 use Rattle.txt_core.specs.Names.{Bytes, Words}
 use Rattle.nsv_bucket.specs.Arrays.{Array, Arrays, value_of, with_value, without_key}
-use Rattle.nsv_bucket.specs.Lists.{with_pairs}
+use Rattle.txt_core.specs.Keyed.{with_pairs}
 
 -- A value that is written is found at its key in its array. Each other key of that array has the value that it had, and
 -- each other array is as it was.

@@ -11,4 +11,3 @@ pub mod Buckets
 pub mod Laws
 -- What only proofs use.
 pub mod Bases
-pub mod Undoing

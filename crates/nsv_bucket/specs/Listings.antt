@@ -1,13 +1,8 @@
 -- The names, and the keys with their values, that a pattern picks, in byte order.
-use Rattle.std.specs.Prelude.{List, [], ◌∷◌, Bool, true, Option, None, Some, map}
+use Rattle.std.specs.Prelude.{List, [], ◌∷◌, Option, map}
 use Rattle.std.specs.List.{filter, flat_map}
 use Rattle.txt_core.specs.Names.{Bytes, Words, Names, Pairs}
-use Rattle.txt_core.specs.PatternLaws.{matches}
-
--- whether a pattern matches the text; where there is no pattern, every text is picked
-abbrev pub picks : Option Bytes → Bytes → Bool
-picks None text = true
-picks (Some pattern) text = matches pattern text
+use Rattle.txt_core.specs.Picking.{picks}
 
 -- the keys that are picked, in the order of the entries
 abbrev pub names_in : {X : Type 0} → Option Bytes → List (Bytes × X) → Names

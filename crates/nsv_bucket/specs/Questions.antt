@@ -1,57 +1,24 @@
 -- Which words are a question on shared arrays, and which one.
-use Rattle.std.specs.Prelude.{ℕ, [], length, slice_index, slice_get, Bool, ◌&&◌, ◌==◌, nat_le, if◌then◌else◌, Option, None, Some, codes, bytes_eq}
-use Rattle.std.specs.Option.{unwrap_or}
+use Rattle.std.specs.Prelude.{ℕ, ◌+◌, ◌-◌, length, slice_index, Bool, true, ◌&&◌, ◌==◌, nat_le, if◌then◌else◌, Option, None, Some, codes, bytes_eq, is_none}
 use Rattle.txt_core.specs.Names.{Bytes, Words}
+use Rattle.txt_core.specs.Limits.{bucket_count}
+use Rattle.txt_core.specs.Words.{arg}
 use Rattle.nsv_bucket.specs.declared.question.ArrayQuestion.{ArrayQuestion}
 use Rattle.nsv_bucket.specs.declared.question.ArrayQuestion.TheVariants.{Set, Get, Exists, Incr, Append, Lappend, Unset, Names, ArraySet, ArrayReset, ArrayGet, ArrayNames, ArraySize, ArrayExists}
 
--- the word at a place, counted from 0; the empty text where there is none
-abbrev pub word_at : Words → ℕ → Bytes
-word_at words at = unwrap_or (slice_get words at) []
+-- the digit of the first bucket, 0
+abbrev pub first_digit : ℕ
+first_digit = 48
 
--- the words have this name and from `least` to `most` words, the name among them
-abbrev pub asks : Words → Bytes → ℕ → ℕ → Bool
-asks words name least most = bytes_eq (word_at words 0) name && (nat_le least (length words) && nat_le (length words) most)
+-- the digit of the last bucket
+abbrev pub last_digit : ℕ
+last_digit = first_digit + (bucket_count - 1)
 
--- the same of a subcommand of `nsv_array`
-abbrev pub asks_array : Words → Bytes → ℕ → ℕ → Bool
-asks_array words name least most = asks words (codes "nsv_array") least most && bytes_eq (word_at words 1) name
-
--- the number of a bucket: one of the digits 0 to 7
+-- the number of a bucket: one of their digits
 abbrev pub is_bucket_number : Bytes → Bool
-is_bucket_number word = (length word == 1) && (nat_le 48 (slice_index word 0) && nat_le (slice_index word 0) 55)
+is_bucket_number word = (length word == 1) && (nat_le first_digit (slice_index word 0) && nat_le (slice_index word 0) last_digit)
 
--- on one array of `nsv_array`
-abbrev pub array_question_of : Words → Option ArrayQuestion
-array_question_of words =
-    if asks_array words (codes "set") 4 4 then Some ArraySet
-    else if asks_array words (codes "reset") 4 4 then Some ArrayReset
-    else if asks_array words (codes "get") 3 4 then Some ArrayGet
-    else if asks_array words (codes "names") 3 4 then Some ArrayNames
-    else if asks_array words (codes "size") 3 3 then Some ArraySize
-    else if asks_array words (codes "exists") 3 3 then Some ArrayExists
-    else None
-
--- one that may have more words than any other
-abbrev pub adding_question_of : Words → Option ArrayQuestion
-adding_question_of words =
-    if bytes_eq (word_at words 0) (codes "nsv_append") && nat_le 4 (length words) then Some Append
-    else if bytes_eq (word_at words 0) (codes "nsv_lappend") && nat_le 4 (length words) then Some Lappend
-    else array_question_of words
-
--- The question that the words are; none where they have another name, a number of words that its entry doesn't
--- allow, or a subcommand that `nsv_array` lacks. `nsv_names` has the number of the bucket as its second word.
-abbrev pub question_of : Words → Option ArrayQuestion
-question_of words =
-    if asks words (codes "nsv_set") 4 4 then Some Set
-    else if asks words (codes "nsv_get") 3 3 then Some Get
-    else if asks words (codes "nsv_exists") 3 3 then Some Exists
-    else if asks words (codes "nsv_incr") 3 4 then Some Incr
-    else if asks words (codes "nsv_unset") 2 3 then Some Unset
-    else if asks words (codes "nsv_names") 2 3 && is_bucket_number (word_at words 1) then Some Names
-    else adding_question_of words
-
--- how many words a question has at least
+-- the fewest words that a question has, the command's name and the subcommand's among them
 abbrev pub least_words : ArrayQuestion → ℕ
 least_words Set = 4
 least_words Get = 3
@@ -67,3 +34,81 @@ least_words ArrayGet = 3
 least_words ArrayNames = 3
 least_words ArraySize = 3
 least_words ArrayExists = 3
+
+-- the most words that a question has; none where there is no such number
+abbrev pub most_words : ArrayQuestion → Option ℕ
+most_words Set = Some 4
+most_words Get = Some 3
+most_words Exists = Some 3
+most_words Incr = Some 4
+most_words Append = None
+most_words Lappend = None
+most_words Unset = Some 3
+most_words Names = Some 3
+most_words ArraySet = Some 4
+most_words ArrayReset = Some 4
+most_words ArrayGet = Some 4
+most_words ArrayNames = Some 4
+most_words ArraySize = Some 3
+most_words ArrayExists = Some 3
+
+-- a number is at most another one, where there is one
+abbrev pub is_at_most : ℕ → Option ℕ → Bool
+is_at_most count None = true
+is_at_most count (Some most) = nat_le count most
+
+-- a question takes so many words
+abbrev pub takes : ArrayQuestion → ℕ → Bool
+takes question count = nat_le (least_words question) count && is_at_most count (most_words question)
+
+-- the words have this name, and a number that the question takes
+abbrev pub asks : Words → Bytes → ArrayQuestion → Bool
+asks words name question = bytes_eq (arg words 0) name && takes question (length words)
+
+-- the question that a subcommand of `nsv_array` is
+abbrev pub subcommand_named : Bytes → Option ArrayQuestion
+subcommand_named name =
+    if bytes_eq name (codes "set") then Some ArraySet
+    else if bytes_eq name (codes "reset") then Some ArrayReset
+    else if bytes_eq name (codes "get") then Some ArrayGet
+    else if bytes_eq name (codes "names") then Some ArrayNames
+    else if bytes_eq name (codes "size") then Some ArraySize
+    else if bytes_eq name (codes "exists") then Some ArrayExists
+    else None
+
+-- a subcommand's question, where the words have a number that it takes
+abbrev pub where_counted : Words → Option ArrayQuestion → Option ArrayQuestion
+where_counted words None = None
+where_counted words (Some question) = if takes question (length words) then Some question else None
+
+-- the words are of `nsv_array`
+abbrev pub is_of_array : Words → Bool
+is_of_array words = bytes_eq (arg words 0) (codes "nsv_array")
+
+-- on one array of `nsv_array`
+abbrev pub array_question_of : Words → Option ArrayQuestion
+array_question_of words = if is_of_array words then where_counted words (subcommand_named (arg words 1)) else None
+
+-- The words are those of `nsv_array`, in a number that one of its subcommands takes, but without a subcommand. `get` takes
+-- each number that one of them takes.
+abbrev pub lacks_subcommand : Words → Bool
+lacks_subcommand words = is_of_array words && takes ArrayGet (length words) && is_none (subcommand_named (arg words 1))
+
+-- one that may have more words than any other
+abbrev pub adding_question_of : Words → Option ArrayQuestion
+adding_question_of words =
+    if asks words (codes "nsv_append") Append then Some Append
+    else if asks words (codes "nsv_lappend") Lappend then Some Lappend
+    else array_question_of words
+
+-- The question that the words are; none where they have another name, a number of words that its entry doesn't
+-- allow, or a subcommand that `nsv_array` lacks. `nsv_names` has the number of the bucket as its second word.
+abbrev pub question_of : Words → Option ArrayQuestion
+question_of words =
+    if asks words (codes "nsv_set") Set then Some Set
+    else if asks words (codes "nsv_get") Get then Some Get
+    else if asks words (codes "nsv_exists") Exists then Some Exists
+    else if asks words (codes "nsv_incr") Incr then Some Incr
+    else if asks words (codes "nsv_unset") Unset then Some Unset
+    else if asks words (codes "nsv_names") Names && is_bucket_number (arg words 1) then Some Names
+    else adding_question_of words

@@ -39,9 +39,9 @@ abbrev pub array_step : Arrays → Words → Outcome
 array_step arrays words = step_by (question_of words) arrays words
 
 -- the words take the first arrays to this reply and the second arrays; for want of memory the arrays are as they were
-abbrev pub Steps : Arrays → Words → NsvReply → Arrays → Type 0
-Steps before words reply after = ((reply ≡ (array_step before words).0) × (after ≡ (array_step before words).1)) ⊎ ((reply ≡ NoMemory) × (after ≡ before))
+abbrev pub ArraySteps : Arrays → Words → NsvReply → Arrays → Type 0
+ArraySteps before words reply after = ((reply ≡ (array_step before words).0) × (after ≡ (array_step before words).1)) ⊎ ((reply ≡ NoMemory) × (after ≡ before))
 
 -- words have one reply and one map of arrays after it, but for want of memory
 abbrev pub StepsAreDetermined : Type 0
-StepsAreDetermined = (before one other : Arrays) (words : Words) (r s : NsvReply) → Steps before words r one → Steps before words s other → (r ≡ NoMemory → ⊥) → (s ≡ NoMemory → ⊥) → (r ≡ s) × (one ≡ other)
+StepsAreDetermined = (before one other : Arrays) (words : Words) (r s : NsvReply) → ArraySteps before words r one → ArraySteps before words s other → (r ≡ NoMemory → ⊥) → (s ≡ NoMemory → ⊥) → (r ≡ s) × (one ≡ other)

@@ -8,9 +8,9 @@ use Rattle.txt_core.specs.Names.{Bytes, Words}
 use Rattle.txt_core.specs.Limits.{is_long}
 use Rattle.txt_core.specs.ErrorTexts.{no_integer, overflow}
 use Rattle.txt_core.specs.Number.{number, fits}
+use Rattle.txt_core.specs.Words.{arg}
 use Rattle.nsv_bucket.specs.declared.reply.NsvReply.TheVariants.{Said}
 use Rattle.nsv_bucket.specs.Arrays.{Arrays, array_of, text_at, value_of, with_value, without_key}
-use Rattle.nsv_bucket.specs.Questions.{word_at}
 use Rattle.nsv_bucket.specs.Replies.{Outcome, too_long, refused}
 use Rattle.nsv_bucket.specs.Reads.{at_array, at_key}
 
@@ -24,7 +24,7 @@ grown arrays name key more = stored arrays name key (text_at (array_of arrays na
 
 -- `nsv_set ARRAY KEY VALUE` gives the value
 abbrev pub set_step : Arrays → Words → Outcome
-set_step arrays words = stored arrays (word_at words 1) (word_at words 2) (word_at words 3)
+set_step arrays words = stored arrays (arg words 1) (arg words 2) (arg words 3)
 
 -- the sum, where it is a number of 64 bits with a sign
 abbrev pub sum_of : ℤ → ℤ → Option ℤ
@@ -38,14 +38,14 @@ at_number arrays text next = option_map_or next (number text) (refused arrays (n
 -- sum. The old value is looked at before the number.
 abbrev pub incr_step : Arrays → Words → Outcome
 incr_step arrays words =
-    at_number arrays (unwrap_or (value_of arrays (word_at words 1) (word_at words 2)) (codes "0")) (λ old.
+    at_number arrays (unwrap_or (value_of arrays (arg words 1) (arg words 2)) (codes "0")) (λ old.
     at_number arrays (unwrap_or (slice_get words 3) (codes "1")) (λ more.
-    option_map_or (λ sum. stored arrays (word_at words 1) (word_at words 2) (signed_decimal sum)) (sum_of old more) (refused arrays overflow)))
+    option_map_or (λ sum. stored arrays (arg words 1) (arg words 2) (signed_decimal sum)) (sum_of old more) (refused arrays overflow)))
 
 -- `nsv_append ARRAY KEY VALUE VALUE*` puts the values behind the value, or behind the empty text where the key is
 -- absent, and gives the new value
 abbrev pub append_step : Arrays → Words → Outcome
-append_step arrays words = grown arrays (word_at words 1) (word_at words 2) (concat (drop 3 words))
+append_step arrays words = grown arrays (arg words 1) (arg words 2) (concat (drop 3 words))
 
 -- `nsv_unset ARRAY KEY` removes the key, and gives the empty text
 abbrev pub unset_key : Arrays → Bytes → Bytes → Outcome
@@ -57,4 +57,4 @@ unset_array arrays name = at_array arrays name (λ _. (Said [], map.remove array
 
 -- `nsv_unset ARRAY ?KEY?`
 abbrev pub unset_step : Arrays → Words → Outcome
-unset_step arrays words = option_map_or (unset_key arrays (word_at words 1)) (slice_get words 2) (unset_array arrays (word_at words 1))
+unset_step arrays words = option_map_or (unset_key arrays (arg words 1)) (slice_get words 2) (unset_array arrays (arg words 1))

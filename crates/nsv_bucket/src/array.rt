@@ -6,7 +6,7 @@ ghost use Rattle.std.specs.Option.{option_copied};
 ghost use Rattle.txt_core.specs.Knowing.{Holds};
 ghost use Rattle.nsv_bucket.specs.Arrays.{text_at};
 ghost use Rattle.nsv_bucket.specs.Listings.{names_in, pairs_in};
-ghost use Rattle.nsv_bucket.specs.Undoing.{given_back};
+ghost use Rattle.txt_core.specs.Keyed.{given_back};
 
 use crate::listing::{names, pairs};
 use std::alloc::Global;

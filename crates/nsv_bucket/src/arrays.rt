@@ -5,7 +5,7 @@ ghost use Rattle.std.specs.FinMap as map;
 ghost use Rattle.std.specs.Option.{option_copied};
 ghost use Rattle.txt_core.specs.Knowing.{Holds};
 ghost use Rattle.nsv_bucket.specs.Arrays.{seen, array_of, text_at, value_of, with_value, without_key};
-ghost use Rattle.nsv_bucket.specs.Lists.{with_pairs};
+ghost use Rattle.txt_core.specs.Keyed.{with_pairs};
 
 use crate::array::{NsvArray, twice};
 use std::alloc::Global;

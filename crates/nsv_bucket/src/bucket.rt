@@ -4,7 +4,7 @@ ghost use Rattle.std.specs.Prelude.{◌≡◌, IfOk, OnOk, OnErr};
 ghost use Rattle.std.specs.FinMap as map;
 ghost use Rattle.std.specs.Option.{option_copied};
 ghost use Rattle.nsv_bucket.specs.Arrays.{value_of};
-ghost use Rattle.nsv_bucket.specs.Steps.{array_step, Steps};
+ghost use Rattle.nsv_bucket.specs.Steps.{array_step, ArraySteps};
 
 use crate::arrays::{Arrays, value};
 use crate::question::read_question;
@@ -68,7 +68,7 @@ impl Bucket {
 
     /// The same, with a reply of its own for want of memory.
     fn answer(&mut self, words: &Words) -> NsvReply
-        ensures { Steps self.old words.now result self.new }
+        ensures { ArraySteps self.old words.now result self.new }
     {
         match self.ask(words) {
             Ok(reply) => reply,
@@ -79,7 +79,7 @@ impl Bucket {
 
 impl Obj for Bucket {
     ghost use Rattle.std.specs.FinMap as map;
-    ghost use Rattle.nsv_bucket.specs.Steps.{Steps};
+    ghost use Rattle.nsv_bucket.specs.Steps.{ArraySteps};
 
     type Call = Words;
 
@@ -89,7 +89,7 @@ impl Obj for Bucket {
 
     ghost reaches = { λ s t. Unit {0} };
 
-    ghost step = { Steps };
+    ghost step = { ArraySteps };
 
     ghost sample = { map.empty };
 

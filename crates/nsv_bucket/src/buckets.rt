@@ -6,7 +6,7 @@ ghost use Rattle.nsv_bucket.specs.Steps.{array_step};
 ghost use Rattle.nsv_bucket.specs.Buckets.{bucket_of, bucket_named, bucket_asked, arrays_of, no_arrays, buckets_step};
 
 use crate::bucket::Bucket;
-use crate::question::{bytes_at, is_bucket, is_word};
+use crate::question::{FIRST_BUCKET, is_bucket, is_word};
 use crate::reply::NsvReply;
 use std::alloc::Global;
 use std::marker::Model;
@@ -37,7 +37,11 @@ fn bucket_named(word: &[u8]) -> u8
     ensures named { result ≡ bucket_named word.now }
     ensures below { result < bucket_count }
 {
-    if is_bucket(word) { word[0] - b'0' } else { 0 }
+    if is_bucket(word) {
+        word[0] - FIRST_BUCKET
+    } else {
+        0
+    }
 }
 
 /// The number of the bucket to which words are put: that of the array that they are about, or the one
@@ -48,11 +52,11 @@ pub fn bucket_asked(words: &Words) -> u8
     ensures below { result < bucket_count }
 {
     if is_word(words, 0, b"nsv_names") {
-        bucket_named(bytes_at(words, 1))
+        bucket_named(words.bytes_at(1))
     } else if is_word(words, 0, b"nsv_array") {
-        bucket_of_bytes(bytes_at(words, 2))
+        bucket_of_bytes(words.bytes_at(2))
     } else {
-        bucket_of_bytes(bytes_at(words, 1))
+        bucket_of_bytes(words.bytes_at(1))
     }
 }
 

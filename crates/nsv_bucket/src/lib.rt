@@ -24,5 +24,5 @@ mod writes;
 pub use bucket::Bucket;
 pub use buckets::{Buckets, bucket_asked, bucket_of};
 pub use law::{each_key_by_itself, steps_are_determined};
-pub use question::is_question;
+pub use question::{is_question, lacks_subcommand};
 pub use reply::NsvReply;

@@ -4,21 +4,11 @@ ghost use Rattle.std.specs.Prelude.{◌≡◌, IfOk};
 ghost use Rattle.std.specs.Option.{option_copied};
 ghost use Rattle.std.specs.FinMap as fin;
 ghost use Rattle.nsv_bucket.specs.Arrays.{text_cmp};
-ghost use Rattle.nsv_bucket.specs.Listings.{picks, names_in, pairs_in};
+ghost use Rattle.nsv_bucket.specs.Listings.{names_in, pairs_in};
 
 use std::alloc::Global;
 use std::collections::BTreeMap;
-use txt_core::{NoMemory, Text, Words, glob};
-
-/// Whether the pattern matches the text; without a pattern, every text is picked.
-fn is_picked(pattern: Option<&Text>, text: &Text) -> bool
-    ensures { result ≡ picks (option_copied pattern.entry) text.now }
-{
-    match pattern {
-        None => true,
-        Some(pattern) => glob(pattern, text),
-    }
-}
+use txt_core::{NoMemory, Text, Words, picks};
 
 /// The keys that the pattern picks, in byte order.
 pub(crate) fn names<V>(
@@ -33,7 +23,7 @@ pub(crate) fn names<V>(
 {
     let mut found = Words::new(alloc);
     for (key, _) in map {
-        if is_picked(pattern, key) {
+        if picks(pattern, key) {
             found.add(key.copy(alloc)?)?;
         }
     }
@@ -53,7 +43,7 @@ pub(crate) fn pairs(
 {
     let mut found = Words::new(alloc);
     for (key, value) in map {
-        if is_picked(pattern, key) {
+        if picks(pattern, key) {
             found.add(key.copy(alloc)?)?;
             found.add(value.copy(alloc)?)?;
         }

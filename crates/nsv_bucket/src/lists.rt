@@ -4,19 +4,19 @@ ghost use Rattle.std.specs.Prelude.{◌≡◌, ◌≤◌, length, IfOk, OnOk, On
 ghost use Rattle.std.specs.FinMap as map;
 ghost use Rattle.txt_core.specs.Lists.{elements};
 ghost use Rattle.txt_core.specs.Listing.{listing};
-ghost use Rattle.nsv_bucket.specs.Questions.{word_at};
 ghost use Rattle.nsv_bucket.specs.Arrays.{seen};
 ghost use Rattle.nsv_bucket.specs.Bases.{base_of};
-ghost use Rattle.nsv_bucket.specs.Lists.{with_pairs, paired, array_set_step, array_reset_step, is_even, has_long_value};
+ghost use Rattle.txt_core.specs.Keyed.{with_pairs};
+ghost use Rattle.txt_core.specs.Words.{arg};
+ghost use Rattle.nsv_bucket.specs.Lists.{paired, array_set_step, array_reset_step, is_even, has_long_value};
 
 use crate::arrays::{Arrays, place_pairs, put_pairs};
-use crate::journal::first_pair;
 use crate::message::{bad_pairs, refuse, refuse_long};
 use crate::question::word;
 use crate::reply::NsvReply;
 use std::alloc::Global;
 use tcl_list::{ListFault, split};
-use txt_core::{NoMemory, Text, Words, error_text, is_too_long};
+use txt_core::{NoMemory, Text, Words, error_text, first_pair, is_too_long};
 
 /// Whether a list is one of pairs.
 fn even(list: &[Text]) -> bool
@@ -73,12 +73,12 @@ fn pair(alloc: Global, arrays: &mut Arrays, words: &Words, base: Base) -> Result
     requires { 4 ≤ length words.now }
     ensures reply { IfOk result (λ reply.
         reply
-        ≡ (paired (seen arrays.old) words.now (base_of (seen arrays.old) (word_at words.now 2) base)
-        (listing (word_at words.now 3))).0) }
+        ≡ (paired (seen arrays.old) words.now (base_of (seen arrays.old) (arg words.now 2) base)
+        (listing (arg words.now 3))).0) }
     ensures ok { OnOk result
         (seen arrays.new
-        ≡ (paired (seen arrays.old) words.now (base_of (seen arrays.old) (word_at words.now 2) base)
-        (listing (word_at words.now 3))).1) }
+        ≡ (paired (seen arrays.old) words.now (base_of (seen arrays.old) (arg words.now 2) base)
+        (listing (arg words.now 3))).1) }
     ensures err { OnErr result (seen arrays.new ≡ seen arrays.old) }
 {
     match split(alloc, word(words, 3)) {
@@ -99,11 +99,11 @@ fn pair_elements(
     requires { 4 ≤ length words.now }
     ensures reply { IfOk result (λ reply.
         reply
-        ≡ (paired (seen arrays.old) words.now (base_of (seen arrays.old) (word_at words.now 2) base)
+        ≡ (paired (seen arrays.old) words.now (base_of (seen arrays.old) (arg words.now 2) base)
         (elements pairs.now)).0) }
     ensures ok { OnOk result
         (seen arrays.new
-        ≡ (paired (seen arrays.old) words.now (base_of (seen arrays.old) (word_at words.now 2) base)
+        ≡ (paired (seen arrays.old) words.now (base_of (seen arrays.old) (arg words.now 2) base)
         (elements pairs.now)).1) }
     ensures err { OnErr result (seen arrays.new ≡ seen arrays.old) }
 {

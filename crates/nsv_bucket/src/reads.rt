@@ -3,7 +3,7 @@
 ghost use Rattle.std.specs.Prelude.{◌≡◌, ◌≤◌, length, IfOk};
 ghost use Rattle.std.specs.FinMap as map;
 ghost use Rattle.nsv_bucket.specs.Arrays.{seen, array_of};
-ghost use Rattle.nsv_bucket.specs.Reads.{digit_for, get_step, exists_step, names_step, array_get_step, array_names_step, array_size_step, array_exists_step};
+ghost use Rattle.nsv_bucket.specs.Reads.{get_step, exists_step, names_step, array_get_step, array_names_step, array_size_step, array_exists_step};
 
 use crate::arrays::{Arrays, array_named, has_array, value};
 use crate::listing::names;
@@ -12,18 +12,7 @@ use crate::question::word;
 use crate::reply::NsvReply;
 use std::alloc::Global;
 use tcl_list::quote;
-use txt_core::{NoMemory, Text, Words, write_natural};
-
-/// 1 or 0.
-fn digit(alloc: Global, holds: bool) -> Result<Text, NoMemory>
-    ensures { IfOk result (λ text. text ≡ digit_for holds) }
-{
-    if holds {
-        Text::new(alloc, b"1")
-    } else {
-        Text::new(alloc, b"0")
-    }
-}
+use txt_core::{NoMemory, Text, Words, truth_text, write_natural};
 
 /// Answers `nsv_get`: the value.
 pub(crate) fn get(alloc: Global, arrays: &Arrays, words: &Words) -> Result<NsvReply, NoMemory>
@@ -47,7 +36,7 @@ pub(crate) fn exists(alloc: Global, arrays: &Arrays, words: &Words) -> Result<Ns
     ensures { IfOk result (λ reply. reply ≡ (exists_step (seen arrays.now) words.now).0) }
 {
     let standing = value(arrays, word(words, 1), word(words, 2));
-    answer(alloc, digit(alloc, standing.is_some())?)
+    answer(alloc, truth_text(alloc, standing.is_some())?)
 }
 
 /// Answers `nsv_names`: the list of the names.
@@ -127,5 +116,5 @@ pub(crate) fn array_exists(
     ensures { IfOk result (λ reply. reply ≡ (array_exists_step (seen arrays.now) words.now).0) }
 {
     let stands = has_array(arrays, word(words, 2));
-    answer(alloc, digit(alloc, stands)?)
+    answer(alloc, truth_text(alloc, stands)?)
 }

@@ -1,11 +1,10 @@
 //! The questions that write or remove keys.
 
-ghost use Rattle.std.specs.Prelude.{◌≡◌, ◌≤◌, ◌+◌, ◌++◌, length, slice_get, nat_lt, IfOk, IfSome, OnOk, OnErr, codes};
+ghost use Rattle.std.specs.Prelude.{◌≡◌, ◌≤◌, ◌++◌, length, slice_get, IfOk, IfSome, OnOk, OnErr, codes};
 ghost use Rattle.std.specs.List.{concat};
 ghost use Rattle.std.specs.Option.{unwrap_or};
 ghost use Rattle.txt_core.specs.Knowing.{Holds, IsWrittenList};
-ghost use Rattle.txt_core.specs.Limits.{most_bytes};
-ghost use Rattle.nsv_bucket.specs.Questions.{word_at};
+ghost use Rattle.txt_core.specs.Words.{arg};
 ghost use Rattle.nsv_bucket.specs.Arrays.{seen, array_of, text_at, value_of};
 ghost use Rattle.nsv_bucket.specs.Writes.{stored, grown, set_step, sum_of, incr_step, append_step, unset_key, unset_array, unset_step};
 ghost use Rattle.nsv_bucket.specs.Lists.{lappend_step};
@@ -17,7 +16,7 @@ use crate::reply::NsvReply;
 use std::alloc::Global;
 use tcl_list::{ListFault, append_elements, elements_behind};
 use txt_core::{
-    Known, NoMemory, Text, Words, error_text, is_over_limit, is_too_long, read_int, write_int,
+    Known, NoMemory, Text, Words, error_text, is_too_long, is_too_long_behind, read_int, write_int,
 };
 
 /// Stores a value and gives it; one that is too long is refused.
@@ -58,7 +57,7 @@ fn standing(alloc: Global, arrays: &Arrays, words: &Words, absent: &[u8]) -> Res
     requires { 3 ≤ length words.now }
     ensures { IfOk result (λ text.
         text
-        ≡ unwrap_or (value_of (seen arrays.now) (word_at words.now 1) (word_at words.now 2))
+        ≡ unwrap_or (value_of (seen arrays.now) (arg words.now 1) (arg words.now 2))
         absent.now) }
 {
     match value(arrays, word(words, 1), word(words, 2)) {
@@ -119,13 +118,6 @@ fn length_of(arrays: &Arrays, name: &Text, key: &Text) -> usize
     }
 }
 
-/// Whether so many bytes, with a text behind them, are over the limit of a value.
-fn are_too_many(front: usize, text: &Text) -> bool
-    ensures { result ≡ nat_lt most_bytes (front + length text.now) }
-{
-    is_over_limit(front.saturating_add(text.len()))
-}
-
 /// Puts a text behind the value of a key, or behind the empty text where the key is absent, and gives
 /// the new value; one that is too long is refused. The condition is that what is known of it is true.
 fn grow(
@@ -144,7 +136,7 @@ fn grow(
     ensures err { OnErr result (seen arrays.new ≡ seen arrays.old) }
 {
     let front = length_of(arrays, name, key);
-    if are_too_many(front, more) {
+    if is_too_long_behind(front, more) {
         return refuse_long(alloc);
     }
     let said = append_value(alloc, arrays, name, key, more.bytes(), known)?;

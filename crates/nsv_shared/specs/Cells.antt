@@ -2,7 +2,8 @@
 use Rattle.std.specs.Prelude.{◌≡◌, ℕ, ◌≤◌, List}
 use Rattle.txt_core.specs.Names.{Words}
 use Rattle.turn_cell.specs.Cells.{pass_view, IsOf}
-use Rattle.turn_cell.specs.Passes.{WHOLE, joined, less_one, part_of}
+use Rattle.txt_core.specs.Shares.{WHOLE}
+use Rattle.turn_cell.specs.Passes.{joined, less_one, part_of}
 use Rattle.turn_cell.specs.Steps.{IsInOrder}
 use Rattle.nsv_bucket.specs.declared.reply.NsvReply.{NsvReply}
 use Rattle.nsv_bucket.specs.Arrays.{Arrays}

@@ -8,7 +8,7 @@ use Rattle.std.proofs.lemmas.List.{length-map}
 use Rattle.std.proofs.lemmas.Map.Keys.{IsDistinct-from_apart, IsDistinct-cons}
 use Rattle.std.proofs.lemmas.Map.Made.{length-le_from_is_member}
 use Rattle.sched_core.specs.declared.plan.Plan.{Plan}
-use Rattle.sched_core.specs.Entries.{Entry, State, due_of, id_of, AreInOrder}
+use Rattle.sched_core.specs.Entries.{Entry, State, due_of, id_of, AreInOrder, most_entries}
 use Rattle.sched_core.specs.Due.{IsMoved, IsAfterDue}
 use Rattle.sched_core.specs.Allowed.{Allowed, HaveOwnIds}
 use Rattle.sched_core.proofs.Keys.{Apart, apart}
@@ -89,7 +89,7 @@ allowed_due now next stopped again es fs le a s after =
       given = λ e i. let r = came_from now es fs after e i in let g = a.given r.0 r.1 in let same = r.2 in omega arith;
     }
 
-pub allowed_add : (next : ℕ) (stopped : Bool) (es fs : List Entry) (x : Entry) → Allowed (record { next = next; entries = es; stopped = stopped }) → AreInOrder fs → length fs ≤ 10000
+pub allowed_add : (next : ℕ) (stopped : Bool) (es fs : List Entry) (x : Entry) → Allowed (record { next = next; entries = es; stopped = stopped }) → AreInOrder fs → length fs ≤ most_entries
     → id_of x ≡ next → (1 ≤ x.1.seconds) × (x.1.seconds ≤ 31536000) × (due_of x ≤ 253433836799) → ((e : Entry) → Contains fs e ↔ (Contains es e ⊎ (e ≡ x)))
     → Allowed (record { next = next + 1; entries = fs; stopped = stopped })
 allowed_add next stopped es fs x a s few id good both = record {

@@ -15,6 +15,14 @@ Entry = (ℕ × ℕ) × Plan
 abbrev pub most_seconds : ℕ
 most_seconds = 31536000
 
+-- how many entries a schedule has at most
+abbrev pub most_entries : ℕ
+most_entries = 10000
+
+-- the id that is never given: the last number of 64 bits
+abbrev pub last_id : ℕ
+last_id = 18446744073709551615
+
 -- the moment at which an entry is due
 abbrev pub due_of : Entry → Moment
 due_of e = e.0.0

@@ -6,7 +6,7 @@ use Rattle.sched_core.specs.declared.call.SchedCall.{SchedCall}
 use Rattle.sched_core.specs.declared.call.SchedCall.TheVariants.{Add, Cancel, Due, Stop}
 use Rattle.sched_core.specs.declared.call.SchedReply.{SchedReply}
 use Rattle.sched_core.specs.declared.call.SchedReply.TheVariants as replies
-use Rattle.sched_core.specs.Entries.{Entry, State, id_of, most_seconds}
+use Rattle.sched_core.specs.Entries.{Entry, State, id_of, most_seconds, most_entries, last_id}
 use Rattle.sched_core.specs.Due.{is_due, listed, IsAfterDue}
 use Rattle.sched_core.specs.Allowed.{Allowed}
 
@@ -18,9 +18,9 @@ seconds_of seconds = min (max seconds 1) most_seconds
 abbrev pub entry_of : ℕ → Moment → ℕ → Bool → Bytes → Entry
 entry_of id moment seconds once script = ((moment_of moment + seconds_of seconds, id), record { seconds = seconds_of seconds; once = once; script = script })
 
--- 10,000 entries, or no id left: the id 2^64 - 1 is never given
+-- as many entries as there may be, or no id left
 abbrev pub IsFull : State → Type 0
-IsFull s = (length s.entries ≡ 10000) ⊎ (s.next ≡ 18446744073709551615)
+IsFull s = (length s.entries ≡ most_entries) ⊎ (s.next ≡ last_id)
 
 -- `Add` gives the next id and puts the entry in. It is refused exactly where the schedule is full
 abbrev pub Adds : State → (ℕ → Entry) → SchedReply → State → Type 0
@@ -48,12 +48,12 @@ Stops s replies.Stopped t = (t.next ≡ s.next) × (t.entries ≡ s.entries) × 
 Stops s _ t = ⊥
 
 -- the call takes the first state to this reply and the second state
-abbrev pub Steps : State → SchedCall → SchedReply → State → Type 0
-Steps s (Add moment seconds once script) reply t = Adds s (λ id. entry_of id moment seconds once script) reply t
-Steps s (Cancel id) reply t = Cancels s id reply t
-Steps s (Due now) reply t = Runs s (moment_of now) reply t
-Steps s Stop reply t = Stops s reply t
+abbrev pub ScheduleSteps : State → SchedCall → SchedReply → State → Type 0
+ScheduleSteps s (Add moment seconds once script) reply t = Adds s (λ id. entry_of id moment seconds once script) reply t
+ScheduleSteps s (Cancel id) reply t = Cancels s id reply t
+ScheduleSteps s (Due now) reply t = Runs s (moment_of now) reply t
+ScheduleSteps s Stop reply t = Stops s reply t
 
 -- a call on an allowed state has one reply and one state after it, but for want of memory
 abbrev pub StepsAreDetermined : Type 0
-StepsAreDetermined = (s t u : State) (call : SchedCall) (reply other : SchedReply) → Allowed s → Allowed t → Allowed u → Steps s call reply t → Steps s call other u → reply ≢ replies.NoMemory → other ≢ replies.NoMemory → (reply ≡ other) × (t ≡ u)
+StepsAreDetermined = (s t u : State) (call : SchedCall) (reply other : SchedReply) → Allowed s → Allowed t → Allowed u → ScheduleSteps s call reply t → ScheduleSteps s call other u → reply ≢ replies.NoMemory → other ≢ replies.NoMemory → (reply ≡ other) × (t ≡ u)

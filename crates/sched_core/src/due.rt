@@ -12,7 +12,7 @@ use crate::call::{DueList, DueScript};
 use crate::plan::{Key, Plan, Plans};
 use std::alloc::Global;
 use std::collections::BTreeMap;
-use txt_core::{NoMemory, Text};
+use txt_core::NoMemory;
 
 /// The least moment after `now` that is `due` and a whole number of times `seconds`.
 fn next_moment(due: u64, seconds: u64, now: u64) -> u64
@@ -32,7 +32,7 @@ fn due_scripts(alloc: Global, plans: &Plans, now: u64) -> Result<DueList, NoMemo
 {
     let mut list = DueList::new(alloc);
     for (key, plan) in plans.range(..(now + 1, 0)) {
-        let script = Text::new(alloc, plan.script.bytes())?;
+        let script = plan.script.copy(alloc)?;
         list.add(DueScript { id: key.1, script })?;
     }
     Ok(list)
@@ -51,7 +51,7 @@ fn moved(alloc: Global, plans: &Plans, now: u64) -> Result<Plans, NoMemory>
     for (key, plan) in plans.range(..(now + 1, 0)) {
         if !plan.once {
             let moment = next_moment(key.0, plan.seconds, now);
-            let script = Text::new(alloc, plan.script.bytes())?;
+            let script = plan.script.copy(alloc)?;
             let next = Plan {
                 seconds: plan.seconds,
                 once: false,

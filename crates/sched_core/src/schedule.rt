@@ -116,7 +116,7 @@ fn key_of(plans: &Plans, id: u64) -> Option<Key>
 
 impl Obj for Schedule {
     ghost use Rattle.std.specs.Prelude.{[], false};
-    ghost use Rattle.sched_core.specs.Steps.{Steps};
+    ghost use Rattle.sched_core.specs.Steps.{ScheduleSteps};
     ghost use Rattle.sched_core.specs.Sample.{empty_allowed};
 
     type Call = SchedCall;
@@ -127,7 +127,7 @@ impl Obj for Schedule {
 
     ghost reaches = { λ s t. Unit {0} };
 
-    ghost step = { Steps };
+    ghost step = { ScheduleSteps };
 
     ghost sample = { record { next = 0; entries = []; stopped = false } };
 

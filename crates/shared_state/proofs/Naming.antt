@@ -1,6 +1,7 @@
 -- Passes that know the same names.
 use Rattle.std.proofs.Common.{◌≡◌, ℕ, Bool, true, false, cond, nat_lt, List, sym, subst}
-use Rattle.turn_cell.specs.Passes.{WHOLE, fresh, joined, less_one, part_of}
+use Rattle.txt_core.specs.Shares.{WHOLE}
+use Rattle.turn_cell.specs.Passes.{fresh, joined, less_one, part_of}
 use Rattle.blueprint.specs.States as blueprints
 use Rattle.shared_state.specs.Cells.{HaveSameNames}
 use Rattle.shared_state.specs.Views.{BlueView}

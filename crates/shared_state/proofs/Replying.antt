@@ -12,9 +12,10 @@ use Rattle.nsv_bucket.specs.declared.reply.NsvReply.TheVariants.{Said, Failed}
 use Rattle.nsv_bucket.specs.declared.question.ArrayQuestion.{ArrayQuestion}
 use Rattle.nsv_bucket.specs.declared.question.ArrayQuestion.TheVariants.{Set, Get, Exists, Incr, Append, Lappend, Unset, Names, ArraySet, ArrayReset, ArrayGet, ArrayNames, ArraySize, ArrayExists}
 use Rattle.nsv_bucket.specs.Arrays.{Array, Arrays, array_of, value_of, text_at}
-use Rattle.nsv_bucket.specs.Questions.{word_at, question_of}
+use Rattle.nsv_bucket.specs.Questions.{question_of}
 use Rattle.txt_core.specs.Limits.{is_long}
 use Rattle.txt_core.specs.ErrorTexts.{no_integer, no_list}
+use Rattle.txt_core.specs.Words.{arg}
 use Rattle.nsv_bucket.specs.Replies.{Outcome, too_long, refusal, result_of, refused, answered, no_array, no_key, bad_pairs}
 use Rattle.nsv_bucket.specs.Reads.{at_array, at_key}
 use Rattle.nsv_bucket.specs.Writes.{stored, at_number, incr_step, unset_key, unset_array, sum_of}
@@ -70,7 +71,7 @@ lappended_answers arrays words (elements standing) = stored_answers arrays _ _ _
 paired_answers : (arrays : Arrays) (words : List (List ℕ)) (array : Array) (l : Listing) → Answers (paired arrays words array l)
 paired_answers arrays words array (bad_at place) = refused_answers arrays (no_list place)
 paired_answers arrays words array (elements pairs) =
-    by_case (is_even pairs) _ _ (by_case (has_long_value pairs) (too_long arrays) _ refl refl) (refused_answers arrays (bad_pairs (word_at words 3)))
+    by_case (is_even pairs) _ _ (by_case (has_long_value pairs) (too_long arrays) _ refl refl) (refused_answers arrays (bad_pairs (arg words 3)))
 
 question_answers : (q : ArrayQuestion) (arrays : Arrays) (words : List (List ℕ)) → Answers (question_step q arrays words)
 question_answers Set arrays words = stored_answers arrays _ _ _
@@ -78,13 +79,13 @@ question_answers Get arrays words = at_key_answers arrays _ _ _ (λ v. answered_
 question_answers Exists arrays words = answered_answers arrays _
 question_answers Incr arrays words = incr_answers arrays words
 question_answers Append arrays words = stored_answers arrays _ _ _
-question_answers Lappend arrays words = lappended_answers arrays words (listing (text_at (array_of arrays (word_at words 1)) (word_at words 2)))
+question_answers Lappend arrays words = lappended_answers arrays words (listing (text_at (array_of arrays (arg words 1)) (arg words 2)))
 question_answers Unset arrays words =
-    by_option (unset_key arrays (word_at words 1)) (slice_get words 2) (unset_array arrays (word_at words 1))
+    by_option (unset_key arrays (arg words 1)) (slice_get words 2) (unset_array arrays (arg words 1))
     (λ key. at_key_answers arrays _ _ _ (λ v. refl)) (at_array_answers arrays _ _ (λ a. refl))
 question_answers Names arrays words = answered_answers arrays _
-question_answers ArraySet arrays words = paired_answers arrays words (array_of arrays (word_at words 2)) (listing (word_at words 3))
-question_answers ArrayReset arrays words = paired_answers arrays words map.empty (listing (word_at words 3))
+question_answers ArraySet arrays words = paired_answers arrays words (array_of arrays (arg words 2)) (listing (arg words 3))
+question_answers ArrayReset arrays words = paired_answers arrays words map.empty (listing (arg words 3))
 question_answers ArrayGet arrays words = answered_answers arrays _
 question_answers ArrayNames arrays words = answered_answers arrays _
 question_answers ArraySize arrays words = answered_answers arrays _

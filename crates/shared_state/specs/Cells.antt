@@ -2,20 +2,21 @@
 use Rattle.std.specs.Prelude.{◌≡◌, ◌↔◌, ◌≤◌, ℕ, [], false}
 use Rattle.txt_core.specs.Names.{Bytes, Names}
 use Rattle.turn_cell.specs.Cells.{pass_view, IsOf}
-use Rattle.turn_cell.specs.Members.{Has}
+use Rattle.txt_core.specs.Members.{Has}
 use Rattle.turn_cell.specs.History.{EndsIn}
-use Rattle.turn_cell.specs.Passes.{WHOLE, fresh, joined, less_one, part_of}
+use Rattle.txt_core.specs.Shares.{WHOLE}
+use Rattle.turn_cell.specs.Passes.{fresh, joined, less_one, part_of}
 use Rattle.turn_cell.specs.Steps.{IsInOrder}
 use Rattle.blueprint.specs.States as blueprints
-use Rattle.blueprint.specs.Objects as blueprint_steps
+use Rattle.blueprint.specs.Objects.{BlueprintSteps}
 use Rattle.sched_core.specs.Entries as schedules
 use Rattle.sched_core.specs.Allowed as schedule_states
-use Rattle.sched_core.specs.Steps as schedule_steps
+use Rattle.sched_core.specs.Steps.{ScheduleSteps}
 use Rattle.nsv_bucket.specs.Buckets.{AllArrays}
 use Rattle.nsv_shared.specs.Cells as arrays
 use Rattle.shared_state.specs.declared.shared.Shared.{Shared}
 use Rattle.shared_state.specs.declared.shared.Passes.{Passes}
-use Rattle.shared_state.specs.Views.{no_schedule}
+use Rattle.shared_state.specs.Views.{empty_schedule}
 
 -- the passes were made by these cells, each by its own
 abbrev pub AreOf : Shared → Passes → Type 0
@@ -68,7 +69,7 @@ abbrev pub AreOpening : Names → Passes → Type 0
 AreOpening names passes =
     (pass_view passes.blueprint ≡ fresh WHOLE 0 (blueprints.fresh names) (blueprints.fresh names))
     × arrays.AreOpening passes.nsv
-    × (pass_view passes.schedule ≡ fresh WHOLE 0 no_schedule no_schedule)
+    × (pass_view passes.schedule ≡ fresh WHOLE 0 empty_schedule empty_schedule)
 
 -- each pass gave a unit away
 abbrev pub Leave : Passes → Passes → Type 0
@@ -101,6 +102,6 @@ AreInOrder passes =
 -- each object is what its history ended in
 abbrev pub Close : Passes → blueprints.State → AllArrays → schedules.State → Type 0
 Close passes blueprint buckets schedule =
-    EndsIn blueprints.Allowed blueprint_steps.Steps (pass_view passes.blueprint) blueprint
+    EndsIn blueprints.Allowed BlueprintSteps (pass_view passes.blueprint) blueprint
     × arrays.Close passes.nsv buckets
-    × EndsIn schedule_states.Allowed schedule_steps.Steps (pass_view passes.schedule) schedule
+    × EndsIn schedule_states.Allowed ScheduleSteps (pass_view passes.schedule) schedule

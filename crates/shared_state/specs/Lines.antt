@@ -3,13 +3,13 @@ use Rattle.std.specs.Prelude.{◌≡◌, ◌+◌, List, [], ◌∷◌, map, filt
 use Rattle.txt_core.specs.Names.{Words}
 use Rattle.turn_cell.specs.declared.view.Entry.{Entry}
 use Rattle.turn_cell.specs.declared.view.View.{View}
-use Rattle.turn_cell.specs.Members.{Has}
+use Rattle.txt_core.specs.Members.{Has}
 use Rattle.turn_cell.specs.History.{after_of, IsHistory}
 use Rattle.turn_cell.specs.Steps.{IsInOrder}
 use Rattle.nsv_bucket.specs.declared.reply.NsvReply.{NsvReply}
 use Rattle.nsv_bucket.specs.declared.reply.NsvReply.TheVariants.{Said, Failed, NoMemory}
 use Rattle.nsv_bucket.specs.Arrays.{Arrays}
-use Rattle.nsv_bucket.specs.Steps.{Steps, array_step}
+use Rattle.nsv_bucket.specs.Steps.{ArraySteps, array_step}
 
 abbrev pub BucketEntry : Type 0
 BucketEntry = Entry Arrays Words NsvReply
@@ -38,7 +38,7 @@ arrays_after arrays (words ∷ more) = arrays_after (array_step arrays words).1 
 -- are those that one thread gets which puts their words in that order, and so are the arrays at the end.
 abbrev pub HistoriesAreLines : Type 0
 HistoriesAreLines =
-    (opening : Arrays) (own : List BucketEntry) → IsHistory (λ s. Unit {0}) Steps 0 opening own
+    (opening : Arrays) (own : List BucketEntry) → IsHistory (λ s. Unit {0}) ArraySteps 0 opening own
     → (map (λ e. e.reply) (answered own) ≡ replies_of opening (map (λ e. e.call) (answered own)))
     × (after_of opening own ≡ arrays_after opening (map (λ e. e.call) (answered own)))
 
@@ -48,5 +48,5 @@ abbrev pub NeighboursAreLines : Type 0
 NeighboursAreLines =
     (v : View Arrays Words NsvReply) → IsInOrder v
     → (e f : BucketEntry) → Has v.own e → Has v.own f → f.place ≡ e.place + 1
-    → Steps f.before f.call f.reply f.after → is_wanting f.reply ≡ false
+    → ArraySteps f.before f.call f.reply f.after → is_wanting f.reply ≡ false
     → (f.reply ≡ (array_step e.after f.call).0) × (f.after ≡ (array_step e.after f.call).1)

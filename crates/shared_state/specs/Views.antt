@@ -24,5 +24,5 @@ abbrev pub ScheduleView : Type 0
 ScheduleView = View schedules.State SchedCall SchedReply
 
 -- a schedule without entries, which wasn't stopped
-abbrev pub no_schedule : schedules.State
-no_schedule = record { next = 0; entries = []; stopped = false }
+abbrev pub empty_schedule : schedules.State
+empty_schedule = record { next = 0; entries = []; stopped = false }

@@ -6,8 +6,9 @@ ghost use Rattle.turn_cell.specs.Cells.{IsOf, pass_view};
 ghost use Rattle.nsv_shared.specs.Cells as arrays;
 ghost use Rattle.natives.specs.Names.{names_of};
 ghost use Rattle.blueprint.specs.States.{fresh as blueprint_of};
-ghost use Rattle.turn_cell.specs.Passes.{WHOLE, fresh};
-ghost use Rattle.shared_state.specs.Views.{no_schedule};
+ghost use Rattle.txt_core.specs.Shares.{WHOLE};
+ghost use Rattle.turn_cell.specs.Passes.{fresh};
+ghost use Rattle.shared_state.specs.Views.{empty_schedule};
 
 use blueprint::Blueprint;
 use natives::Natives;
@@ -64,7 +65,7 @@ fn blueprint_cell(
 /// The cell of a schedule without entries, and its first pass.
 fn schedule_cell(alloc: Global) -> Result<(TurnCell<Schedule>, Pass<Schedule>), NoMemory>
     ensures { IfOk result (λ r.
-        IsOf r.0 r.1 × (pass_view r.1 ≡ fresh WHOLE 0 no_schedule no_schedule)) }
+        IsOf r.0 r.1 × (pass_view r.1 ≡ fresh WHOLE 0 empty_schedule empty_schedule)) }
 {
     TurnCell::new(alloc, empty_schedule(alloc))
 }
@@ -72,7 +73,7 @@ fn schedule_cell(alloc: Global) -> Result<(TurnCell<Schedule>, Pass<Schedule>), 
 /// A schedule without entries.
 #[tactic(auto, using(crate::proofs::Opening::is_no_schedule))]
 fn empty_schedule(alloc: Global) -> Schedule
-    ensures { result ≡ no_schedule }
+    ensures { result ≡ empty_schedule }
 {
     Schedule::new(alloc)
 }

@@ -3,11 +3,11 @@ use Rattle.std.proofs.Common.{◌≡◌, ℕ, List, [], ◌∷◌, ◌++◌, ref
 use Rattle.std.proofs.lemmas.List.{append-nil}
 use Rattle.turn_cell.specs.declared.view.Entry.{Entry}
 use Rattle.turn_cell.specs.declared.view.View.{View}
-use Rattle.turn_cell.specs.Members.{Has}
+use Rattle.txt_core.specs.Members.{Has}
 use Rattle.turn_cell.specs.Passes.{turn_of, with_turn}
 use Rattle.turn_cell.specs.Steps.{Turns}
 use Rattle.turn_cell.specs.Chains.{TakesTurns, IsAfter, IsBetween, SingleTurns, ChainsInARow, ChainsLeave, ChainsFollow, ChainsRise}
-use Rattle.turn_cell.proofs.Members.{has_front}
+use Rattle.txt_core.proofs.Members.{has_front}
 
 module _ {S C R : Type 0} (allowed : S → Type 0) (reaches : S → S → Type 0) (step : S → C → R → S → Type 0) where
   -- a turn is a chain of one

@@ -4,10 +4,10 @@ use Rattle.std.proofs.lemmas.List.{take-append-le}
 use Rattle.std.proofs.lemmas.Bool.Decides.{nat_tests}
 use Rattle.std.specs.List.{filter}
 use Rattle.turn_cell.specs.declared.view.Entry.{Entry}
-use Rattle.turn_cell.specs.Members.{Has}
+use Rattle.txt_core.specs.Members.{Has}
 use Rattle.turn_cell.specs.History.{after_of, state_at, Rising, IsTurn, IsHistory}
 use Rattle.turn_cell.specs.Passes.{put_in, merged}
-use Rattle.turn_cell.proofs.Members.{in_filter}
+use Rattle.txt_core.proofs.Members.{in_filter}
 
 module _ {S C R : Type 0} where
   length_put : (e : Entry S C R) (fs : List (Entry S C R)) → length (put_in e fs) ≡ length fs + 1

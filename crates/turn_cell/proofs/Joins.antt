@@ -5,7 +5,7 @@ use Rattle.std.proofs.lemmas.Bool.{cases_lt}
 use Rattle.std.proofs.lemmas.Bool.Decides.{nat_tests}
 use Rattle.std.proofs.lemmas.List.Sorted.{IsPermutation-refl, IsPermutation-trans, IsPermutation-cons, IsPermutation-middle}
 use Rattle.turn_cell.specs.declared.view.Entry.{Entry}
-use Rattle.turn_cell.specs.Members.{Has}
+use Rattle.txt_core.specs.Members.{Has}
 use Rattle.turn_cell.specs.History.{Rising}
 use Rattle.turn_cell.specs.Passes.{put_in, merged}
 use Rattle.turn_cell.specs.Joins.{MergedIsPermutation, MergedHas, MergedRises, RisingIsOne, JoinedSees}

@@ -14,11 +14,12 @@ use Rattle.turn_cell.specs.declared.view.Entry.{Entry}
 use Rattle.turn_cell.specs.declared.view.View.{View}
 use Rattle.turn_cell.specs.declared.view.Kept.{Kept}
 use Rattle.turn_cell.specs.History.{after_of, state_at, Rising, IsTurn, IsHistory}
-use Rattle.turn_cell.specs.Members.{Has}
-use Rattle.turn_cell.specs.Passes.{WHOLE, fresh, holding, turn_of, with_turn, merged, joined}
+use Rattle.txt_core.specs.Members.{Has}
+use Rattle.txt_core.specs.Shares.{WHOLE}
+use Rattle.turn_cell.specs.Passes.{fresh, holding, turn_of, with_turn, merged, joined}
 use Rattle.turn_cell.specs.Rule.{owned, Fits, InQueue, WithPass, IsInOnePlace, Stands, RuleHolds}
 use Rattle.turn_cell.specs.Steps.{Opens, Takes, Puts, Finds, IsInOrder}
-use Rattle.turn_cell.proofs.Members.{in_filter, passes_filter}
+use Rattle.txt_core.proofs.Members.{in_filter, passes_filter}
 use Rattle.turn_cell.proofs.Histories.{placed_in, rises, after_append, at_more, at_all, snoc, same_filter, filter_none, merges_filters, links, end_allowed, reaches_end, after_reaches}
 use Rattle.turn_cell.proofs.Views.{only, at_below, snoc_at, units_set, units_snoc, units_two}
 use Rattle.turn_cell.proofs.Stays.{put_view, owns_all, owns_history, in_set, out_at}

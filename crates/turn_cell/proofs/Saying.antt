@@ -3,12 +3,12 @@ use Rattle.std.proofs.Common.{◌≡◌, ◌≢◌, ℕ, zero, suc, ◌+◌, ◌
 use Rattle.std.proofs.lemmas.Bool.{eqb-true}
 use Rattle.turn_cell.specs.declared.view.Entry.{Entry}
 use Rattle.turn_cell.specs.declared.view.View.{View}
-use Rattle.turn_cell.specs.Members.{Has}
+use Rattle.txt_core.specs.Members.{Has}
 use Rattle.turn_cell.specs.History.{state_at, Rising, IsHistory}
 use Rattle.turn_cell.specs.Passes.{IsPass, IsOwn}
 use Rattle.turn_cell.specs.Rule.{owned, Stands}
 use Rattle.turn_cell.specs.Points.{Points, RuleSays}
-use Rattle.turn_cell.proofs.Members.{in_filter, passes_filter, kept_in}
+use Rattle.txt_core.proofs.Members.{in_filter, passes_filter, kept_in}
 use Rattle.turn_cell.proofs.Histories.{at_all, placed_in, rises, filter_none, first_begins, links, end_allowed, reaches_end, after_reaches}
 use Rattle.turn_cell.proofs.Views.{there_is}
 

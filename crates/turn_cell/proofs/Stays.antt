@@ -8,7 +8,7 @@ use lib.ListN.{get_elem?}
 use Rattle.crossbeam_queue.proofs.Lists.{at_set, set_else}
 use Rattle.turn_cell.specs.declared.view.View.{View}
 use Rattle.turn_cell.specs.declared.view.Kept.{Kept}
-use Rattle.turn_cell.specs.Passes.{WHOLE}
+use Rattle.txt_core.specs.Shares.{WHOLE}
 use Rattle.turn_cell.specs.Rule.{Fits, InQueue, WithPass, IsInOnePlace, Stands}
 use Rattle.turn_cell.proofs.Histories.{filter_all}
 use Rattle.turn_cell.proofs.Views.{there_is, units_set, units_two}

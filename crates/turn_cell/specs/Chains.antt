@@ -2,7 +2,7 @@
 use Rattle.std.specs.Prelude.{◌≡◌, ◌↔◌, ℕ, ◌+◌, ◌<◌, ◌≤◌, List, [], ◌∷◌, ◌++◌}
 use Rattle.turn_cell.specs.declared.view.Entry.{Entry}
 use Rattle.turn_cell.specs.declared.view.View.{View}
-use Rattle.turn_cell.specs.Members.{Has}
+use Rattle.txt_core.specs.Members.{Has}
 use Rattle.turn_cell.specs.History.{after_of, Rising}
 use Rattle.turn_cell.specs.Passes.{with_turn}
 use Rattle.turn_cell.specs.Steps.{IsNext, Turns}

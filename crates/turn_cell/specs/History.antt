@@ -2,7 +2,7 @@
 use Rattle.std.specs.Prelude.{◌≡◌, ℕ, suc, ◌<◌, List, [], ◌∷◌, take}
 use Rattle.turn_cell.specs.declared.view.Entry.{Entry}
 use Rattle.turn_cell.specs.declared.view.View.{View}
-use Rattle.turn_cell.specs.Members.{Has}
+use Rattle.txt_core.specs.Members.{Has}
 
 module _ {S C R : Type 0} where
   -- the state after all entries: the last one's after, or the first state where there is none

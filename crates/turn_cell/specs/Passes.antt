@@ -4,11 +4,7 @@ use mathlib.Core.Option.{some}
 use lib.ListN.{get_elem?}
 use Rattle.turn_cell.specs.declared.view.Entry.{Entry}
 use Rattle.turn_cell.specs.declared.view.View.{View}
-use Rattle.turn_cell.specs.Members.{Has}
-
--- the units of the whole share
-abbrev pub WHOLE : ℕ
-WHOLE = 65536
+use Rattle.txt_core.specs.Members.{Has}
 
 module _ {S C R : Type 0} where
   -- a pass with these units and no own entry, which has seen this many turns

@@ -3,9 +3,10 @@ use Rattle.std.specs.Prelude.{◌≡◌, ℕ, ◌+◌, ◌<◌, ◌≤◌, List,
 use Rattle.turn_cell.specs.declared.view.Entry.{Entry}
 use Rattle.turn_cell.specs.declared.view.View.{View}
 use Rattle.turn_cell.specs.declared.view.Kept.{Kept}
-use Rattle.turn_cell.specs.Members.{Has}
+use Rattle.txt_core.specs.Members.{Has}
 use Rattle.turn_cell.specs.History.{Rising}
-use Rattle.turn_cell.specs.Passes.{WHOLE, units_of, IsPass, IsOwn}
+use Rattle.txt_core.specs.Shares.{WHOLE}
+use Rattle.turn_cell.specs.Passes.{units_of, IsPass, IsOwn}
 use Rattle.turn_cell.specs.Rule.{IsInOnePlace, RuleHolds}
 
 module _ {S C R : Type 0} (allowed : S → Type 0) (reaches : S → S → Type 0) (step : S → C → R → S → Type 0) where

@@ -4,7 +4,8 @@ use Rattle.turn_cell.specs.declared.view.Entry.{Entry}
 use Rattle.turn_cell.specs.declared.view.View.{View}
 use Rattle.turn_cell.specs.declared.view.Kept.{Kept}
 use Rattle.turn_cell.specs.History.{after_of, state_at, IsHistory}
-use Rattle.turn_cell.specs.Passes.{WHOLE, units_of, IsPass}
+use Rattle.txt_core.specs.Shares.{WHOLE}
+use Rattle.turn_cell.specs.Passes.{units_of, IsPass}
 
 module _ {S C R : Type 0} where
   -- the entries at the places of the pass with this number; `owner` says whose each place is

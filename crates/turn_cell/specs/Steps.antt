@@ -3,9 +3,10 @@ use Rattle.std.specs.Prelude.{◌≡◌, ℕ, ◌+◌, ◌<◌, ◌≤◌, List,
 use Rattle.turn_cell.specs.declared.view.Entry.{Entry}
 use Rattle.turn_cell.specs.declared.view.View.{View}
 use Rattle.turn_cell.specs.declared.view.Kept.{Kept}
-use Rattle.turn_cell.specs.Members.{Has}
+use Rattle.txt_core.specs.Members.{Has}
 use Rattle.turn_cell.specs.History.{after_of, Rising, IsHistory}
-use Rattle.turn_cell.specs.Passes.{WHOLE, fresh, holding, turn_of, with_turn}
+use Rattle.txt_core.specs.Shares.{WHOLE}
+use Rattle.turn_cell.specs.Passes.{fresh, holding, turn_of, with_turn}
 
 module _ {S C R : Type 0} where
   -- where two of the entries have the places k and k + 1, the second begins where the first ended

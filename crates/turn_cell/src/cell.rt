@@ -63,7 +63,8 @@ pub struct Turned<O: Obj> {
 impl<O: Obj> TurnCell<O> {
     ghost use Rattle.turn_cell.specs.Cells.{IsOf, pass_view};
     ghost use Rattle.turn_cell.specs.History.{EndsIn};
-    ghost use Rattle.turn_cell.specs.Passes.{WHOLE, fresh, joined, less_one, part_of};
+    ghost use Rattle.txt_core.specs.Shares.{WHOLE};
+    ghost use Rattle.turn_cell.specs.Passes.{fresh, joined, less_one, part_of};
     ghost use Rattle.turn_cell.specs.Steps.{IsInOrder, Turns};
 
     /// A cell with this object, and its first pass, which has the whole share of 65,536 units and

@@ -3,7 +3,8 @@
 ghost use Rattle.turn_cell.specs.declared.view.Entry.{Entry};
 ghost use Rattle.turn_cell.specs.Chains.{ChainsFollow, ChainsInARow, ChainsLeave, ChainsRise, SingleTurns};
 ghost use Rattle.turn_cell.specs.Joins.{JoinedSees, MergedHas, MergedIsPermutation, MergedRises, RisingIsOne};
-ghost use Rattle.turn_cell.specs.Members.{AppendHas, AppendLeft, HasIsContains, LeftIsAfter};
+ghost use Rattle.txt_core.specs.Members.{AppendHas, HasIsContains};
+ghost use Rattle.turn_cell.specs.Members.{AppendLeft, LeftIsAfter};
 ghost use Rattle.turn_cell.specs.Points.{RuleSays};
 
 use crate::object::Obj;

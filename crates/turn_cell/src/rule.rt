@@ -23,7 +23,8 @@ pub struct ByTurns<O> {
 }
 
 impl<O: Obj> Protocol<Kept<O>, View<O, O::Call, O::Reply>> for ByTurns<O> {
-    ghost use Rattle.turn_cell.specs.Passes.{WHOLE, fresh, holding};
+    ghost use Rattle.txt_core.specs.Shares.{WHOLE};
+    ghost use Rattle.turn_cell.specs.Passes.{fresh, holding};
     ghost use Rattle.turn_cell.specs.Rule.{RuleHolds};
 
     ghost holds = { RuleHolds O.allowed O.step };
@@ -57,7 +58,7 @@ impl<O: Obj> Outcome<Kept<O>, View<O, O::Call, O::Reply>> for Take<O> {
 
 impl<O: Obj> Lesson<Kept<O>, View<O, O::Call, O::Reply>> for Take<O> {
     ghost use Rattle.std.specs.Prelude.{◌≡◌, length};
-    ghost use Rattle.turn_cell.specs.Passes.{WHOLE};
+    ghost use Rattle.txt_core.specs.Shares.{WHOLE};
 
     ghost fact = { λ v items. v.units ≡ WHOLE → length items ≡ 1 };
 }

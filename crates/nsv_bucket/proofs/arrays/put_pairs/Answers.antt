@@ -4,7 +4,7 @@ use Rattle.std.specs.Option.{option_copied_mut}
 use Rattle.std.specs.Map.{lookup}
 use Rattle.std.specs.BTreeMap.{is_at}
 use Rattle.nsv_bucket.specs.Arrays.{text_cmp, seen}
-use Rattle.nsv_bucket.specs.Lists.{with_pairs}
+use Rattle.txt_core.specs.Keyed.{with_pairs}
 use Rattle.nsv_bucket.proofs.Results.{ok_then, err_then}
 use Rattle.nsv_bucket.proofs.Standing.{stands, lacks, written, unwritten}
 use Rattle.nsv_bucket.proofs.arrays.put_pairs.Goals as goal

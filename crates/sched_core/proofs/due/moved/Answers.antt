@@ -28,7 +28,7 @@ loop-key-preserved-in_ok-insert c =
     let x : Entry = (c.in-Some.key.now, c.in-Some.plan.now) in
     let at = subst (λ (z : List Entry). Moving c.args.now c.args.plans.now.entries z c.loop-key.later.entries) (rest_more deref_pair _ _ _ _ c.in-Some.is c.next.ensures.steps) c.loop-key.invariant in
     let again : c.in-Some.plan.now.once ≡ false = c.if-not-plan.true in
-    let script : c.in_ok-script.script ≡ c.in-Some.plan.now.script = c.in_ok-script.ensures ∙ c.bytes.ensures in
+    let script : c.in_ok-script.script ≡ c.in-Some.plan.now.script = c.in_ok-script.ensures in
     let plan : Plan = record { seconds = c.in-Some.plan.now.seconds; once = false; script = c.in_ok-script.script } in
     let same : plan ≡ c.in-Some.plan.now = λ i. record { seconds = c.in-Some.plan.now.seconds; once = sym again i; script = script i } in
     moving_again c.args.now c.args.plans.now.entries x c.next.new.self c.loop-key.later c.insert.new.self c.next_moment-moment.result plan at again same c.next_moment-moment.ensures.next c.insert.ensures.was_ordered c.insert.ensures.ordered c.in_ok-insert.ensures.updates
@@ -38,7 +38,7 @@ loop-key-preserved-in_ok-insert-2 c =
     let x : Entry = (c.in-Some.key.now, c.in-Some.plan.now) in
     let at = subst (λ (z : List Entry). Moving c.args.now c.args.plans.now.entries z c.loop-key.later.entries) (rest_more deref_pair _ _ _ _ c.in-Some.is c.next.ensures.steps) c.loop-key.invariant in
     let again : c.in-Some.plan.now.once ≡ false = c.if-not-plan.true in
-    let script : c.in_ok-script.script ≡ c.in-Some.plan.now.script = c.in_ok-script.ensures ∙ c.bytes.ensures in
+    let script : c.in_ok-script.script ≡ c.in-Some.plan.now.script = c.in_ok-script.ensures in
     let plan : Plan = record { seconds = c.in-Some.plan.now.seconds; once = false; script = c.in_ok-script.script } in
     let same : plan ≡ c.in-Some.plan.now = λ i. record { seconds = c.in-Some.plan.now.seconds; once = sym again i; script = script i } in
     moving_again c.args.now c.args.plans.now.entries x c.next.new.self c.loop-key.later c.insert.new.self c.next_moment-moment.result plan at again same c.next_moment-moment.ensures.next c.insert.ensures.was_ordered c.insert.ensures.ordered c.in_ok-insert.ensures.updates

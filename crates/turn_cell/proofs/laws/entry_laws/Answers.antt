@@ -1,4 +1,5 @@
-use Rattle.turn_cell.proofs.Members.{has_is_contains, append_has, left_is_after, append_left}
+use Rattle.txt_core.proofs.Members.{has_is_contains, append_has}
+use Rattle.turn_cell.proofs.Members.{left_is_after, append_left}
 use Rattle.turn_cell.proofs.laws.entry_laws.Goals as goal
 
 pub returns : goal.returns

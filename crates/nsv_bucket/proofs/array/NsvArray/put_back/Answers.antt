@@ -5,7 +5,7 @@ use Rattle.std.specs.Option.{option_copied_mut}
 use Rattle.std.specs.Map.{lookup}
 use Rattle.std.specs.BTreeMap.{is_at}
 use Rattle.nsv_bucket.specs.Arrays.{text_cmp}
-use Rattle.nsv_bucket.specs.Undoing.{given_back}
+use Rattle.txt_core.specs.Keyed.{given_back}
 use Rattle.nsv_bucket.proofs.Maps.{got, one_put}
 use Rattle.nsv_bucket.proofs.array.NsvArray.put_back.Goals as goal
 
