@@ -10,13 +10,13 @@ use Rattle.blueprint.specs.Publishing.{Publishes, Saves}
 use Rattle.blueprint.specs.Looking.{Looks}
 
 -- the call takes the first state to this reply and the second state
-abbrev pub Steps : State → BlueCall → BlueReply → State → Type 0
-Steps state (calls.Look epoch) (replies.Look look) now = Looks state epoch look × (now ≡ state)
-Steps state (calls.Publish made) (replies.Published published) now = Publishes state made published now
-Steps state (calls.Save script) (replies.Published published) now = Saves state script published now
-Steps state (calls.Look epoch) (replies.Published published) now = ⊥
-Steps state (calls.Publish made) (replies.Look look) now = ⊥
-Steps state (calls.Save script) (replies.Look look) now = ⊥
+abbrev pub BlueprintSteps : State → BlueCall → BlueReply → State → Type 0
+BlueprintSteps state (calls.Look epoch) (replies.Look look) now = Looks state epoch look × (now ≡ state)
+BlueprintSteps state (calls.Publish made) (replies.Published published) now = Publishes state made published now
+BlueprintSteps state (calls.Save script) (replies.Published published) now = Saves state script published now
+BlueprintSteps state (calls.Look epoch) (replies.Published published) now = ⊥
+BlueprintSteps state (calls.Publish made) (replies.Look look) now = ⊥
+BlueprintSteps state (calls.Save script) (replies.Look look) now = ⊥
 
 -- no save came between: the rows are a front of the later ones, and each further row has a later epoch
 abbrev pub GrewTo : State → State → Type 0

@@ -12,7 +12,7 @@ use Rattle.blueprint.specs.declared.reply.Published.TheVariants as published
 use Rattle.blueprint.specs.Reading.{scripted}
 use Rattle.blueprint.specs.States.{Row, State, fresh, rows_of, Allowed}
 use Rattle.blueprint.specs.Publishing.{Answers, publish_answer, save_answer, saved_defs, with_published, with_saved}
-use Rattle.blueprint.specs.Objects.{Steps, GrewTo, Reaches}
+use Rattle.blueprint.specs.Objects.{BlueprintSteps, GrewTo, Reaches}
 
 pub fresh_allowed : (natives : Names) → Allowed (fresh natives)
 fresh_allowed natives = record { applies = refl; count = omega arith; bytes = omega arith; epochs = omega arith; last = omega arith }
@@ -66,7 +66,7 @@ along state other now expected (published.NotADefinition number) r h = inl (sym 
 along state other now expected (published.NotApplicable place) r h = inl (sym h.1)
 along state other now expected (published.Full limit) r h = inl (sym h.1)
 
-pub step_reaches : (state : State) (call : BlueCall) (reply : BlueReply) (now : State) → Allowed state → Steps state call reply now → Reaches state now
+pub step_reaches : (state : State) (call : BlueCall) (reply : BlueReply) (now : State) → Allowed state → BlueprintSteps state call reply now → Reaches state now
 step_reaches state (calls.Look epoch) (replies.Look look) now ok h = inl (sym h.1)
 step_reaches state (calls.Publish made) (replies.Published reply) now ok h = along state (with_published state made) now (publish_answer state made) reply (reaches_published state made) h
 step_reaches state (calls.Save script) (replies.Published reply) now ok h = along state (with_saved state (saved_defs (scripted script))) now (save_answer state (scripted script)) reply (reaches_saved state (saved_defs (scripted script))) h

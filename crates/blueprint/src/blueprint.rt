@@ -15,7 +15,7 @@ use crate::reading::from_script;
 use crate::reply::{Look, Published, ScriptFault};
 use crate::room::Room;
 use crate::script::{add_all_lines, add_lines};
-use cmd_table::{CmdTable, Def, Defs, Steps, copy_def};
+use cmd_table::{CmdTable, Defs, Steps, append_copies};
 use natives::Natives;
 use std::alloc::Global;
 use std::marker::{Brand, Model};
@@ -84,22 +84,12 @@ fn native_names(alloc: Global, natives: &Natives) -> Result<Words, NoMemory>
     Ok(names)
 }
 
-/// Puts definitions at the end of others, each once more.
-fn add_copies(alloc: Global, all: &mut Defs, defs: &[Def]) -> Result<(), NoMemory>
-    ensures { OnOk result (all.new ≡ all.old ++ defs.now) }
-{
-    'defs: for def in defs {
-        all.add(copy_def(alloc, def)?)?;
-    }
-    Ok(())
-}
-
 /// Puts the definitions of several lists at the end of others, each once more.
 fn add_all_copies(alloc: Global, all: &mut Defs, lists: &[Defs]) -> Result<(), NoMemory>
     ensures { OnOk result (all.new ≡ all.old ++ all_of lists.now) }
 {
     'lists: for defs in lists {
-        add_copies(alloc, all, defs.as_slice())?;
+        append_copies(alloc, all, defs.as_slice())?;
     }
     Ok(())
 }
@@ -175,7 +165,7 @@ impl Blueprint {
         ensures { IfOk result (λ defs. defs ≡ definitions self.now) }
     {
         let mut defs = Sequence::new(self.alloc);
-        add_copies(self.alloc, &mut defs, self.saved.as_slice())?;
+        append_copies(self.alloc, &mut defs, self.saved.as_slice())?;
         add_all_copies(self.alloc, &mut defs, self.later.as_slice())?;
         Ok(defs)
     }

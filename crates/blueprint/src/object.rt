@@ -7,7 +7,7 @@ use turn_cell::Obj;
 impl Obj for Blueprint {
     ghost use Rattle.std.specs.Prelude.{[]};
     ghost use Rattle.blueprint.specs.States.{fresh, Allowed};
-    ghost use Rattle.blueprint.specs.Objects.{Steps, Reaches};
+    ghost use Rattle.blueprint.specs.Objects.{BlueprintSteps, Reaches};
     ghost use Rattle.blueprint.specs.Order.{fresh_allowed, reaches_self, reaches_later, step_reaches};
 
     type Call = BlueCall;
@@ -18,7 +18,7 @@ impl Obj for Blueprint {
 
     ghost reaches = { Reaches };
 
-    ghost step = { Steps };
+    ghost step = { BlueprintSteps };
 
     ghost sample = { fresh [] };
 

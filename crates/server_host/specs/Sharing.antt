@@ -1,6 +1,6 @@
 -- The commands on shared arrays, which are questions: their number of words and the subcommand are looked at here, and all else
 -- by what holds the arrays.
-use Rattle.std.specs.Prelude.{◌≡◌, ℕ, [], ◌∷◌, ◌++◌, length, drop, decimal, Bool, not, ◌&&◌, ◌||◌, nat_lt, if◌then◌else◌, bytes_eq, codes, is_some, Result, Ok, Err}
+use Rattle.std.specs.Prelude.{◌≡◌, ℕ, [], ◌∷◌, ◌++◌, length, drop, decimal, Bool, nat_lt, if◌then◌else◌, codes, is_some, Result, Ok, Err}
 use Rattle.std.specs.Ordering.{nat_cmp, is_lt}
 use Rattle.std.specs.Cmp.Lexicographic.{slice_cmp}
 use Rattle.txt_core.specs.Names.{Bytes, Words}
@@ -13,7 +13,7 @@ use Rattle.tcl_list.specs.declared.fault.ListFault.{ListFault}
 use Rattle.tcl_list.specs.declared.fault.ListFault.TheVariants.{Bad, NoMemory}
 use Rattle.natives.specs.Sorting.{in_order}
 use Rattle.natives.specs.Words.{arg}
-use Rattle.nsv_bucket.specs.Questions.{question_of}
+use Rattle.nsv_bucket.specs.Questions.{question_of, lacks_subcommand}
 use Rattle.outside.specs.declared.question.Answer.{Answer}
 use Rattle.outside.specs.declared.question.Answer.TheVariants.{Said, Failed, Page, NoPage, PageFault}
 use Rattle.outside.specs.declared.question.Question.{Question}
@@ -31,17 +31,6 @@ asks_nsv words host = wants (record { service = service.Nsv; words = words }) ho
 -- the words are a question on shared arrays: their number is right, and the subcommand where there is to be one
 abbrev pub is_question : Words → Bool
 is_question words = is_some (question_of words)
-
--- a subcommand of `nsv_array`
-abbrev pub is_array_subcommand : Bytes → Bool
-is_array_subcommand name =
-    bytes_eq name (codes "set") || bytes_eq name (codes "reset") || bytes_eq name (codes "get") || bytes_eq name (codes "names")
-    || bytes_eq name (codes "size") || bytes_eq name (codes "exists")
-
--- the words are those of `nsv_array`, in a number that one of its subcommands has, but without a subcommand
-abbrev pub lacks_subcommand : Words → Bool
-lacks_subcommand words =
-    bytes_eq (arg words 0) (codes "nsv_array") && is_counted 3 4 words && not (is_array_subcommand (arg words 1))
 
 -- why words of a command on shared arrays aren't asked
 abbrev pub unasked : Words → HostState → Leaf HostState

@@ -8,12 +8,12 @@ use crate::gathering::{names_answered, nsv_names};
 use crate::host::RunHost;
 use crate::interpreting::{ns_eval, ns_ictl};
 use crate::registering::{ns_register_filter, ns_register_proc};
-use crate::reply::{done, reply_of};
+use crate::reply::reply_of;
 use crate::scheduling::{ns_schedule_proc, ns_unschedule_proc};
 use crate::sharing::nsv;
 use crate::verb::{Verb, find_verb};
 use outside::Answer;
-use tcl_host::{HostReply, Refusal, arg, refuse};
+use tcl_host::{HostReply, Refusal, done, refuse};
 use txt_core::{Text, Words};
 
 /// Does a command that is neither of the connection nor of pages.
@@ -60,7 +60,7 @@ fn of_parts(host: &mut RunHost, words: &Words) -> HostReply
 pub fn call(host: &mut RunHost, words: &Words) -> HostReply
     ensures { Replies result host.new (host_call words.now host.old) }
 {
-    match find_verb(arg(words, 0)) {
+    match find_verb(words.bytes_at(0)) {
         Some(verb) => reply_of(dispatch(host, verb, words)),
         None => of_parts(host, words),
     }
@@ -97,7 +97,7 @@ fn page_answered(host: &mut RunHost, words: &Words, answer: &Answer) -> HostRepl
 pub fn answered(host: &mut RunHost, words: &Words, answer: &Answer) -> HostReply
     ensures { RepliesTo result host.new (host_answer words.now answer.now host.old) }
 {
-    let name = arg(words, 0);
+    let name = words.bytes_at(0);
     if name == b"open".as_slice() {
         conn_answered(host, words, answer)
     } else if name == b"ns_adp_include".as_slice() {

@@ -1,9 +1,9 @@
 //! The blueprint that a run is on.
 
-ghost use Rattle.std.specs.Prelude.{◌≡◌, ◌++◌, length, take, OnOk, OnErr};
+ghost use Rattle.std.specs.Prelude.{◌≡◌, OnOk, OnErr};
 ghost use Rattle.server_host.specs.Hosts.{added};
 
-use cmd_table::{Def, Defs, copy_def};
+use cmd_table::{Defs, append_copies};
 use std::alloc::Global;
 use txt_core::NoMemory;
 
@@ -15,18 +15,6 @@ pub struct Edition {
     pub defs: Defs,
 }
 
-/// Puts copies of definitions at the end of a list, up to the first for which memory wants.
-#[tactic(auto, using(std::proofs::lemmas::List::take_at))]
-fn append_defs(alloc: Global, list: &mut Defs, defs: &[Def]) -> Result<(), NoMemory>
-    ensures ok { OnOk result (list.new ≡ list.old ++ defs.now) }
-    ensures front { take (length list.old) list.new ≡ list.old }
-{
-    'defs: for def in defs {
-        list.add(copy_def(alloc, def)?)?;
-    }
-    Ok(())
-}
-
 impl Edition {
     /// Adds definitions, with which the blueprint has this epoch. Its only error is want of memory, and
     /// nothing is changed then.
@@ -35,7 +23,7 @@ impl Edition {
         ensures err { OnErr result (self.new ≡ self.old) }
     {
         let standing = self.defs.len();
-        match append_defs(alloc, &mut self.defs, defs.as_slice()) {
+        match append_copies(alloc, &mut self.defs, defs.as_slice()) {
             Ok(()) => {
                 self.epoch = epoch;
                 Ok(())

@@ -9,10 +9,9 @@ ghost use Rattle.server_host.specs.Sharing.{names_question, asks_names, nsv_name
 
 use crate::checks::words_from;
 use crate::host::RunHost;
-use crate::reply::done;
 use outside::{Answer, Question, Service};
 use std::alloc::Global;
-use tcl_host::{HostReply, Refusal, is_counted, refuse, require_words};
+use tcl_host::{HostReply, Refusal, done, is_counted, refuse, require_words};
 use tcl_list::{ListFault, quote, split};
 use txt_core::{BUCKET_COUNT, NoMemory, Text, Words, error_text, write_natural};
 
@@ -69,35 +68,14 @@ fn all_names(alloc: Global, answers: &Words) -> Result<Words, ListFault>
     Ok(names)
 }
 
-/// Copies of texts.
-fn copies(alloc: Global, texts: &[Text]) -> Result<Vec<Text>, NoMemory>
-    ensures { IfOk result (λ copies. copies.items ≡ texts.now) }
-{
-    let mut copies = Vec::new(alloc);
-    'texts: for text in texts {
-        copies.push(text.copy(alloc)?)?;
-    }
-    Ok(copies)
-}
-
-/// These texts as a list.
-fn as_list(alloc: Global, texts: Vec<Text>) -> Result<Words, NoMemory>
-    ensures { IfOk result (λ list. list ≡ texts.items) }
-{
-    let mut list = Words::new(alloc);
-    'texts: for text in texts {
-        list.add(text)?;
-    }
-    Ok(list)
-}
-
 /// The names sorted by bytes.
 fn in_order(alloc: Global, names: &Words) -> Result<Words, NoMemory>
     ensures { IfOk result (λ sorted. sorted ≡ in_order by_bytes names.now) }
 {
-    let mut sorted = copies(alloc, names.as_slice())?;
+    let copies = Words::of_copies(alloc, names.as_slice())?;
+    let mut sorted = copies.into_vec();
     sorted.sort()?;
-    as_list(alloc, sorted)
+    Ok(Words::from_vec(sorted))
 }
 
 /// All buckets have answered, and no answer is kept.

@@ -70,26 +70,35 @@ impl RunHost {
         self.marked = false;
     }
 
+    /// Begins a run of this kind with the connection that stands; the mark stays.
+    fn enter(&mut self, kind: Kind)
+        ensures { self.new
+            ≡ with_mark (begun kind self.old.conn self.old.blueprint) self.old.marked }
+    {
+        self.kind = Some(kind);
+        self.pages.clear();
+        self.gathered.clear();
+    }
+
     /// Begins a run of this kind with this connection; the mark stays.
     fn begin(&mut self, kind: Kind, conn: ConnHost)
         ensures { self.new ≡ with_mark (begun kind conn self.old.blueprint) self.old.marked }
     {
-        self.kind = Some(kind);
         self.conn = conn;
-        self.pages.clear();
-        self.gathered.clear();
+        self.enter(kind);
     }
 
     /// Begins the run that serves a request, which came at this moment; what was before is left. Set 0
     /// has the request's fields, set 1 none yet for the response, and set 2 the form. The run isn't
     /// marked. Its only error is want of memory: then the mark alone is taken off.
+    #[inline(never)]
     pub fn serve(&mut self, request: Request, moment: u64) -> Result<(), NoMemory>
         ensures ok { OnOk result (self.new ≡ serving request moment self.old.blueprint) }
         ensures err { OnErr result (self.new ≡ with_mark self.old false) }
     {
         self.unmark();
-        let conn = ConnHost::new(self.alloc, request, moment)?;
-        self.begin(Kind::Serving, conn);
+        self.conn.serve(request, moment)?;
+        self.enter(Kind::Serving);
         Ok(())
     }
 

@@ -11,14 +11,14 @@ use crate::checks::require_definition_run;
 use crate::host::RunHost;
 use crate::ictl_verb::{IctlVerb, find_ictl_verb};
 use crate::kind::is_defining;
-use crate::reply::{done, done_without_result};
+use crate::reply::done_without_result;
 use blueprint::script_of;
 use cmd_table::Def;
 use outside::{Question, Service};
 use std::alloc::Global;
 use tcl_frame::is_element_name;
 use tcl_host::{
-    HostReply, Refusal, arg, is_counted, no_subcommand, refuse, require_fit, require_words,
+    HostReply, Refusal, done, is_counted, no_subcommand, refuse, require_fit, require_words,
 };
 use txt_core::{NoMemory, Text, Words, write_natural};
 
@@ -37,7 +37,7 @@ fn clean_up(host: &RunHost, words: &Words) -> Result<HostReply, Refusal>
     ensures { Comes result host.now (cleans_up words.now host.now) }
 {
     require_definition_run(host)?;
-    let script = Text::new(host.alloc, arg(words, 2))?;
+    let script = Text::new(host.alloc, words.bytes_at(2))?;
     Ok(HostReply::Define(Def::Cleanup { script }))
 }
 
@@ -57,8 +57,8 @@ fn set_global(host: &RunHost, words: &Words) -> Result<HostReply, Refusal>
 {
     require_definition_run(host)?;
     require_fit(host.alloc, !is_element(words, 2), words, 2)?;
-    let name = Text::new(host.alloc, arg(words, 2))?;
-    let value = Text::new(host.alloc, arg(words, 3))?;
+    let name = Text::new(host.alloc, words.bytes_at(2))?;
+    let value = Text::new(host.alloc, words.bytes_at(3))?;
     Ok(HostReply::Define(Def::Set { name, value }))
 }
 
@@ -80,7 +80,7 @@ fn epoch(host: &RunHost) -> Result<HostReply, Refusal>
 fn save(host: &RunHost, words: &Words) -> Result<HostReply, Refusal>
     ensures { Comes result host.now (saves words.now host.now) }
 {
-    let asked = question(host.alloc, Service::Save, arg(words, 2))?;
+    let asked = question(host.alloc, Service::Save, words.bytes_at(2))?;
     Ok(HostReply::Ask(asked))
 }
 
@@ -114,7 +114,7 @@ pub fn ns_ictl(host: &mut RunHost, words: &Words) -> Result<HostReply, Refusal>
     ensures { Comes result host.new (ns_ictl words.now host.old) }
 {
     require_words(host.alloc, is_counted(words, 2, 4), words)?;
-    match find_ictl_verb(arg(words, 1)) {
+    match find_ictl_verb(words.bytes_at(1)) {
         None => Err(refuse(no_subcommand(host.alloc, words))),
         Some(verb) => ictl_by_verb(host, verb, words),
     }
@@ -136,6 +136,6 @@ pub fn ns_eval(host: &RunHost, words: &Words) -> Result<HostReply, Refusal>
 {
     require_words(host.alloc, is_counted(words, 2, 2), words)?;
     require_no_definition_run(host)?;
-    let asked = question(host.alloc, Service::Inner, arg(words, 1))?;
+    let asked = question(host.alloc, Service::Inner, words.bytes_at(1))?;
     Ok(HostReply::Ask(asked))
 }

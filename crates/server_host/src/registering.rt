@@ -10,14 +10,14 @@ use crate::host::RunHost;
 use blueprint::{begins_with_slash, is_filter_method, is_method, stage_named};
 use cmd_table::{Def, When};
 use std::alloc::Global;
-use tcl_host::{HostReply, Refusal, arg, refuse, require_fit, require_words, unfit};
+use tcl_host::{HostReply, Refusal, refuse, require_fit, require_words, unfit};
 use txt_core::{NoMemory, Text, Words};
 
 /// Whether the second word is the option by which the paths below the URL aren't served.
 fn is_noinherit(words: &Words) -> bool
     ensures { result ≡ is_noinherit words.now }
 {
-    arg(words, 1) == b"-noinherit".as_slice()
+    words.bytes_at(1) == b"-noinherit".as_slice()
 }
 
 /// The place of the method: behind the option, where that stands.
@@ -37,8 +37,8 @@ fn route(alloc: Global, inherit: bool, place: usize, words: &Words) -> Result<De
         (drop (place + 2) words.now)) }
 {
     Ok(Def::Route {
-        method: Text::new(alloc, arg(words, place))?,
-        url: Text::new(alloc, arg(words, place + 1))?,
+        method: Text::new(alloc, words.bytes_at(place))?,
+        url: Text::new(alloc, words.bytes_at(place + 1))?,
         inherit,
         words: Words::of_copies(alloc, words_from(words, place + 2))?,
     })
@@ -55,9 +55,9 @@ fn register(
     ensures { Comes result host.now (registers inherit place words.now host.now) }
 {
     let alloc = host.alloc;
-    require_fit(alloc, is_method(arg(words, place)), words, place)?;
+    require_fit(alloc, is_method(words.bytes_at(place)), words, place)?;
     let url = place + 1;
-    require_fit(alloc, begins_with_slash(arg(words, url)), words, url)?;
+    require_fit(alloc, begins_with_slash(words.bytes_at(url)), words, url)?;
     Ok(HostReply::Define(route(alloc, inherit, place, words)?))
 }
 
@@ -78,8 +78,8 @@ fn filter(alloc: Global, when: When, words: &Words) -> Result<Def, NoMemory>
 {
     Ok(Def::Filter {
         when,
-        method: Text::new(alloc, arg(words, 2))?,
-        pattern: Text::new(alloc, arg(words, 3))?,
+        method: Text::new(alloc, words.bytes_at(2))?,
+        pattern: Text::new(alloc, words.bytes_at(3))?,
         words: Words::of_copies(alloc, words_from(words, 4))?,
     })
 }
@@ -88,7 +88,7 @@ fn filter(alloc: Global, when: When, words: &Words) -> Result<Def, NoMemory>
 fn register_filter(host: &RunHost, when: When, words: &Words) -> Result<HostReply, Refusal>
     ensures { Comes result host.now (registers_filter (Some when) words.now host.now) }
 {
-    require_fit(host.alloc, is_filter_method(arg(words, 2)), words, 2)?;
+    require_fit(host.alloc, is_filter_method(words.bytes_at(2)), words, 2)?;
     Ok(HostReply::Define(filter(host.alloc, when, words)?))
 }
 
@@ -98,7 +98,7 @@ pub fn ns_register_filter(host: &RunHost, words: &Words) -> Result<HostReply, Re
 {
     require_words(host.alloc, words.len() >= 5, words)?;
     require_definition_run(host)?;
-    match stage_named(arg(words, 1)) {
+    match stage_named(words.bytes_at(1)) {
         None => Err(refuse(unfit(host.alloc, words, 1))),
         Some(when) => register_filter(host, when, words),
     }

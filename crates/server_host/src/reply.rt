@@ -8,18 +8,8 @@ ghost use Rattle.server_host.specs.Hosts.{HostState};
 ghost use Rattle.server_host.specs.Answers.{Comes};
 
 use std::alloc::Global;
-use tcl_host::{ERROR, HostReply, OK, Refusal};
+use tcl_host::{ERROR, HostReply, Refusal, done};
 use txt_core::Text;
-
-/// A good end with this result.
-pub fn done(result_text: Text) -> HostReply
-    ensures { result ≡ HostReply.Done code_of.ok result_text }
-{
-    HostReply::Done {
-        code: OK,
-        result: result_text,
-    }
-}
 
 /// A good end without a result.
 pub fn done_without_result(alloc: Global) -> HostReply

@@ -8,7 +8,7 @@ ghost use Rattle.server_host.specs.Scheduling.{asks_schedule, is_once, is_schedu
 use crate::host::RunHost;
 use outside::{Question, Service};
 use sched_core::{is_once_option, is_period};
-use tcl_host::{HostReply, Refusal, arg, is_counted, refuse, require_fit, require_words};
+use tcl_host::{HostReply, Refusal, is_counted, refuse, require_fit, require_words};
 use txt_core::{Words, error_text, read_int_bytes};
 
 /// Asks the schedule these words.
@@ -25,7 +25,7 @@ fn ask(host: &RunHost, words: &Words) -> Result<HostReply, Refusal>
 fn is_once(words: &Words) -> bool
     ensures { result ≡ is_once words.now }
 {
-    is_once_option(arg(words, 1))
+    is_once_option(words.bytes_at(1))
 }
 
 /// Whether the number of words is one of `ns_schedule_proc`.
@@ -43,7 +43,7 @@ fn is_schedule(words: &Words) -> bool
 fn schedule(host: &RunHost, place: usize, words: &Words) -> Result<HostReply, Refusal>
     ensures { Comes result host.now (schedules place words.now host.now) }
 {
-    let word = arg(words, place);
+    let word = words.bytes_at(place);
     match read_int_bytes(word) {
         None => Err(refuse(error_text::no_integer(host.alloc, word))),
         Some(seconds) => {
@@ -86,7 +86,7 @@ fn is_id(word: &[u8]) -> bool
 fn unschedule(host: &RunHost, words: &Words) -> Result<HostReply, Refusal>
     ensures { Comes result host.now (unschedules words.now host.now) }
 {
-    let id = arg(words, 1);
+    let id = words.bytes_at(1);
     if !is_id(id) {
         return Err(refuse(error_text::no_schedule(host.alloc, id)));
     }

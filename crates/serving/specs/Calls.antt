@@ -3,11 +3,11 @@ use Rattle.std.specs.Prelude.{ℕ, ℤ, pos, negsuc, [], decimal, bytes_eq, code
 use Rattle.txt_core.specs.Names.{Bytes, Words, Moment}
 use Rattle.txt_core.specs.ErrorTexts.{no_schedule, does_not_apply, no_definition, blueprint_full}
 use Rattle.txt_core.specs.Number.{number}
+use Rattle.txt_core.specs.Words.{arg}
 use Rattle.outside.specs.declared.pages.PageAnswer.{PageAnswer}
 use Rattle.outside.specs.declared.pages.PageAnswer.TheVariants as pages
 use Rattle.outside.specs.declared.question.Answer.{Answer}
 use Rattle.outside.specs.declared.question.Answer.TheVariants.{Said, Failed, Page, NoPage, PageFault}
-use Rattle.nsv_bucket.specs.Questions.{word_at}
 use Rattle.nsv_bucket.specs.declared.reply.NsvReply.{NsvReply}
 use Rattle.nsv_bucket.specs.declared.reply.NsvReply.TheVariants as arrays
 use Rattle.sched_core.specs.Asking.{is_once_option}
@@ -32,7 +32,7 @@ no_answer = Failed []
 
 -- the path that is asked for: the one word
 abbrev pub path_asked : Words → Bytes
-path_asked words = word_at words 0
+path_asked words = arg words 0
 
 -- the page of a path, where pages are told by a map: it, or that there is none
 abbrev pub page_found : Option Bytes → Answer
@@ -62,15 +62,15 @@ natural_of (Some (negsuc n)) = 0
 natural_of None = 0
 
 abbrev pub natural_at : Words → ℕ → ℕ
-natural_at words place = natural_of (number (word_at words place))
+natural_at words place = natural_of (number (arg words place))
 
 -- The call of a question of a run at this moment. `ns_unschedule_proc ID` takes the entry of the id out.
 -- `ns_schedule_proc ?-once? SECONDS SCRIPT` puts one in, which is made at the moment of the run.
 abbrev pub sched_call : Moment → Words → SchedCall
 sched_call moment words =
-    if bytes_eq (word_at words 0) (codes "ns_unschedule_proc") then Cancel (natural_at words 1)
-    else if is_once_option (word_at words 1) then Add moment (natural_at words 2) true (word_at words 3)
-    else Add moment (natural_at words 1) false (word_at words 2)
+    if bytes_eq (arg words 0) (codes "ns_unschedule_proc") then Cancel (natural_at words 1)
+    else if is_once_option (arg words 1) then Add moment (natural_at words 2) true (arg words 3)
+    else Add moment (natural_at words 1) false (arg words 2)
 
 -- where the schedule holds as many entries as it may
 abbrev pub too_many_schedules : Bytes
@@ -80,7 +80,7 @@ too_many_schedules = codes "too many schedules"
 abbrev pub sched_answer : Words → SchedReply → Answer
 sched_answer words (schedule.Id id) = Said (decimal id)
 sched_answer words schedule.Cancelled = Said []
-sched_answer words schedule.NoId = Failed (no_schedule (word_at words 1))
+sched_answer words schedule.NoId = Failed (no_schedule (arg words 1))
 sched_answer words schedule.Full = Failed too_many_schedules
 sched_answer words (schedule.Due list) = no_answer
 sched_answer words schedule.Stopped = no_answer
@@ -96,11 +96,11 @@ publish_asked (reading.no_definition place) = Refused (Failed (no_definition pla
 
 -- the one word is the script of the definitions
 abbrev pub publish_call : Words → Asked
-publish_call words = publish_asked (scripted (word_at words 0))
+publish_call words = publish_asked (scripted (arg words 0))
 
 -- the one word is the script that is saved
 abbrev pub save_call : Words → BlueCall
-save_call words = Save (word_at words 0)
+save_call words = Save (arg words 0)
 
 -- what is said of what was done is the new epoch in digits; and the refusals
 abbrev pub published_answer : Published → Answer

@@ -1,7 +1,7 @@
 //! The blueprint.
 
 ghost use Rattle.std.specs.Prelude.{◌≡◌, ◌≢◌, IfOk};
-ghost use Rattle.nsv_bucket.specs.Questions.{word_at};
+ghost use Rattle.txt_core.specs.Words.{arg};
 ghost use Rattle.blueprint.specs.declared.reply.Published.TheVariants as replies;
 ghost use Rattle.serving.specs.Calls.{publish_call, save_call, published_answer};
 
@@ -21,7 +21,7 @@ pub enum Asked {
 
 /// The one word of a question; the empty text where there is none.
 fn script(alloc: Global, words: &Words) -> Result<Text, NoMemory>
-    ensures { IfOk result (λ script. script ≡ word_at words.now 0) }
+    ensures { IfOk result (λ script. script ≡ arg words.now 0) }
 {
     match words.get(0) {
         Some(script) => script.copy(alloc),

@@ -2,7 +2,6 @@
 
 ghost use Rattle.std.specs.Prelude.{◌≡◌, ◌≢◌, IfOk};
 ghost use Rattle.txt_core.specs.Number.{number};
-ghost use Rattle.nsv_bucket.specs.Questions.{word_at};
 ghost use Rattle.sched_core.specs.declared.call.SchedReply.TheVariants as replies;
 ghost use Rattle.serving.specs.Calls.{natural_of, sched_call, sched_answer};
 
@@ -16,16 +15,6 @@ const UNSCHEDULE: &[u8] = b"ns_unschedule_proc";
 
 /// What is refused at a full schedule.
 const TOO_MANY: &[u8] = b"too many schedules";
-
-/// The word at a place; the empty text where there is none.
-fn word(words: &Words, at: usize) -> &[u8]
-    ensures { result.now ≡ word_at words.now at }
-{
-    match words.get(at) {
-        Some(word) => word.bytes(),
-        None => &[],
-    }
-}
 
 /// The number from 0 on that a word is; 0 where it is none.
 fn natural(word: &[u8]) -> u64
@@ -41,16 +30,16 @@ fn natural(word: &[u8]) -> u64
 pub fn sched_call(alloc: Global, words: &Words, moment: u64) -> Result<SchedCall, NoMemory>
     ensures { IfOk result (λ call. call ≡ sched_call moment words.now) }
 {
-    if word(words, 0) == UNSCHEDULE {
-        return Ok(SchedCall::Cancel(natural(word(words, 1))));
+    if words.bytes_at(0) == UNSCHEDULE {
+        return Ok(SchedCall::Cancel(natural(words.bytes_at(1))));
     }
-    let once = is_once_option(word(words, 1));
+    let once = is_once_option(words.bytes_at(1));
     let place = if once { 2 } else { 1 };
     Ok(SchedCall::Add {
         moment,
-        seconds: natural(word(words, place)),
+        seconds: natural(words.bytes_at(place)),
         once,
-        script: Text::new(alloc, word(words, place + 1))?,
+        script: Text::new(alloc, words.bytes_at(place + 1))?,
     })
 }
 
@@ -64,7 +53,7 @@ pub fn sched_answer(alloc: Global, words: &Words, reply: SchedReply) -> Result<A
     match reply {
         SchedReply::Id(id) => Ok(Answer::Said(write_natural(alloc, id)?)),
         SchedReply::Cancelled => Ok(Answer::Said(Text::empty(alloc))),
-        SchedReply::NoId => Ok(Answer::Failed(error_text::no_schedule(alloc, word(words, 1))?)),
+        SchedReply::NoId => Ok(Answer::Failed(error_text::no_schedule(alloc, words.bytes_at(1))?)),
         SchedReply::Full => Ok(Answer::Failed(Text::new(alloc, TOO_MANY)?)),
         SchedReply::Due(_) | SchedReply::Stopped => Ok(Answer::Failed(Text::empty(alloc))),
         SchedReply::NoMemory => Err(NoMemory),

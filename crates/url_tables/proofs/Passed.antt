@@ -1,13 +1,14 @@
 -- What is kept of definitions, one definition more at the end.
-use Rattle.std.proofs.Common.{◌≡◌, ℕ, Bool, true, false, List, [], ◌∷◌, ◌++◌, append_assoc, refl, sym, ap, ◌∙◌}
+use Rattle.std.proofs.Common.{◌≡◌, ℕ, Bool, true, false, not, List, [], ◌∷◌, ◌++◌, length, append_assoc, refl, sym, ap, ◌∙◌, arith}
 use Rattle.std.proofs.lemmas.List.{append-nil}
 use Rattle.cmd_table.specs.declared.definition.When.{When}
 use Rattle.cmd_table.specs.declared.definition.Def.{Def}
 use Rattle.cmd_table.specs.declared.definition.Def.TheVariants.{Proc, Rename, Route, Filter, Cleanup, Set}
+use Rattle.std.proofs.lemmas.Bool.Decides.{nat_tests}
 use Rattle.url_tables.specs.declared.site.Site.{Site}
 use Rattle.url_tables.specs.declared.filters.Passing.{Passing}
 use Rattle.url_tables.specs.Filters.{Filters, put_if}
-use Rattle.std.specs.Prelude.{Result, Ok, Err, OnOk}
+use Rattle.std.specs.Prelude.{Result, Ok, Err, OnOk, ◌==◌}
 use Rattle.url_tables.specs.declared.routes.Routes.{Routes}
 use Rattle.url_tables.specs.Tables.{kept, sites_at, passing, passings, found, IsBuiltOf}
 use Rattle.url_tables.specs.Searching.{is_passed, passed}
@@ -70,3 +71,9 @@ nothing_more old defs (Set name value) r f b = adds_nothing old defs (Set name v
 pub on_ok : {A E P Q : Type 0} (r : Result A E) → (P → Q) → OnOk r P → OnOk r Q
 on_ok (Ok x) f h = f h
 on_ok (Err e) f h = tt
+
+-- a list of which it isn't said that it holds something
+pub none_there : (filters : List Passing) (empty : Bool) → empty ≡ (length filters == 0) → not empty ≡ false → filters ≡ []
+none_there [] empty is lacks = refl
+none_there (first ∷ filters) true is lacks = absurd (grind (arith, nat_tests))
+none_there (first ∷ filters) false is lacks = absurd (cc)

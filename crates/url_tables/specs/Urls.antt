@@ -3,7 +3,8 @@ use Rattle.std.specs.Prelude.{◌==◌, ◌-◌, [], ◌∷◌, length, take, dr
 use Rattle.std.specs.List.{filter, slice_split, ends_with}
 use Rattle.std.specs.Prelude.{nat_eq}
 use Rattle.txt_core.specs.Names.{Bytes, Words}
-pub use Rattle.txt_core.specs.Paths.{is_slash, is_filled}
+pub use Rattle.txt_core.specs.Paths.{is_slash}
+pub use Rattle.txt_core.specs.Texts.{is_filled}
 
 -- The segments of a URL: what stands between its slashes, as it is written, where that has a byte.
 unfoldable pub segments : Bytes → Words

@@ -1,9 +1,10 @@
 //! The tables of a blueprint's registrations and filters.
 
-ghost use Rattle.std.specs.Prelude.{◌≡◌, ◌≤◌, ◌++◌, ◌∷◌, [], List, length, IfOk, OnOk};
+ghost use Rattle.std.specs.Prelude.{◌≡◌, ◌≤◌, ◌++◌, ◌∷◌, [], List, length, false, IfOk, OnOk};
 ghost use Rattle.std.specs.Option.{option_copied, option_map};
-ghost use Rattle.txt_core.specs.Names.{Words};
+ghost use Rattle.txt_core.specs.Names.{Bytes, Words};
 ghost use Rattle.cmd_table.specs.declared.definition.Def.{Def};
+ghost use Rattle.cmd_table.specs.declared.definition.When.{When as Stage};
 ghost use Rattle.url_tables.specs.Serving.{route_method, route};
 ghost use Rattle.url_tables.specs.Filters.{Filters};
 ghost use Rattle.url_tables.specs.Searching.{last_serving, found_at};
@@ -178,6 +179,14 @@ impl Routes {
             }
         }
         None
+    }
+
+    /// Whether there is a filter at all. Without one, no request passes any.
+    pub fn has_filters(&self) -> bool
+        ensures { (defs : List Def) → IsBuiltOf self.now defs → result ≡ false
+            → (when : Stage) (method path : Bytes) → Filters when method path defs ≡ [] }
+    {
+        !self.filters.as_slice().is_empty()
     }
 
     /// The words of the filters that a request with this method and path passes at a stage, in the order

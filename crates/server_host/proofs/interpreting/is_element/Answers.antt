@@ -1,6 +1,6 @@
 use Rattle.std.proofs.Common.{ℕ, List, ap}
 use Rattle.tcl_frame.specs.Names.{named, is_element}
-use Rattle.server_host.proofs.WordsAt.{no_word}
+use Rattle.txt_core.proofs.WordsAt.{no_word}
 use Rattle.server_host.proofs.interpreting.is_element.Goals as goal
 
 pub returns-in-None : goal.returns-in-None

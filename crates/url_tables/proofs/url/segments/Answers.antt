@@ -4,7 +4,8 @@ use Rattle.std.proofs.lemmas.Iterator.Splits.{YieldsList-from_slice_split}
 use Rattle.std.specs.Prelude.{filter}
 use Rattle.std.specs.List.{slice_split}
 use Rattle.std.specs.Slice.Iter.{split_rest, split_done, split_callee}
-use Rattle.url_tables.specs.Urls.{is_slash, is_filled, segments}
+use Rattle.txt_core.specs.Texts.{is_filled}
+use Rattle.url_tables.specs.Urls.{is_slash, segments}
 use Rattle.url_tables.proofs.url.segments.Goals as goal
 
 pub returns : goal.returns

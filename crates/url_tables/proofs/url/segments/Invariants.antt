@@ -1,6 +1,6 @@
 use Rattle.std.proofs.Common.{◌≡◌, map}
 use Rattle.std.specs.Prelude.{filter}
-use Rattle.url_tables.specs.Urls.{is_filled}
+use Rattle.txt_core.specs.Texts.{is_filled}
 use Rattle.url_tables.proofs.url.segments.Given as goal
 
 abbrev pub invariant-loop-piece : goal.invariant-loop-piece

@@ -1,5 +1,0 @@
-use Rattle.std.proofs.Common.{◌≡◌, ◌++◌, take}
-use Rattle.blueprint.proofs.blueprint.add_copies.Given as goal
-
-abbrev pub invariant-defs : goal.invariant-defs
-invariant-defs l = l.all ≡ l.initial.all ++ take l.def-index l.defs
