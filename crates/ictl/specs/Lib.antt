@@ -8,7 +8,9 @@ pub mod Main
 pub mod Standing
 pub mod Interps
 pub mod Falls
+pub mod Came
 pub mod Laws
 -- What only proofs use.
+pub mod CameCode
 pub mod Steps
 pub mod Within

@@ -254,6 +254,12 @@ module _ (names : Names) (blueprint : Edition) (moment : Moment) where
   behind true request ending state inside answers = After request ending state inside answers
   behind false request ending state inside answers = ends (both ending answered) state inside answers
 
+  -- where its response stands ready, the run goes on as behind one that was written, whole or not
+  abbrev pub behind_response : Bool → Request → Progress → Progress
+  behind_response whole request (asks question state inside) = asks question state inside
+  behind_response whole request (writes response ending state inside left) = behind whole request ending state inside left
+  behind_response whole request (ends outcome state inside left) = ends outcome state inside left
+
 -- The run of a request up to its response, on natives of these names and a blueprint, at a moment, with these answers.
 abbrev pub Main : Names → Edition → Request → Moment → List Answer → Progress
 Main names blueprint request moment answers =

@@ -1,6 +1,7 @@
 //! The run of a question for a run inside another one. Its calls have no error but want of memory.
 
 ghost use Rattle.std.specs.Prelude.{◌≡◌, ◌<◌, ◌≤◌, ◌+◌, ◌∷◌, [], List, None, IfOk, OnErr, IfSome};
+ghost use Rattle.txt_core.specs.Limits.{most_nested};
 ghost use Rattle.txt_core.specs.Names.{Moment};
 ghost use Rattle.txt_core.specs.Number.{number};
 ghost use Rattle.cmd_table.specs.Commands.{Writes};
@@ -25,7 +26,6 @@ use std::alloc::Global;
 use std::rc::Rc;
 use std::sync::ledger::Ledger;
 use tcl_eval::Work;
-use tcl_host::arg;
 use txt_core::{MOST_NESTED, NoMemory, Text, Words, read_int_bytes};
 
 /// A definition run in an interpreter of its own, made for a question of another run.
@@ -38,7 +38,7 @@ pub struct InnerRun {
 /// The depth that a text names, where a run may stand there.
 fn depth_of(text: &[u8]) -> Option<u32>
     ensures depth { result ≡ depth_of (number text.now) }
-    ensures range { IfSome result (λ depth. (1 ≤ depth) × (depth ≤ 200)) }
+    ensures range { IfSome result (λ depth. (1 ≤ depth) × (depth ≤ most_nested)) }
 {
     match read_int_bytes(text) {
         Some(depth) if depth >= 1 && depth <= MOST_NESTED as i64 => Some(depth as u32),
@@ -127,11 +127,11 @@ impl InnerRun {
         ensures fewer { self.new.defining.questions ≤ self.old.defining.questions }
     {
         self.run.engine.host_mut().begin_definitions(moment)?;
-        let level = arg(words, 1);
+        let level = words.bytes_at(1);
         let Some(depth) = depth_of(level) else {
             return Ok(DefineStop::Sunk);
         };
-        let body = arg(words, 0);
+        let body = words.bytes_at(0);
         let script = Text::new(alloc, body)?;
         let work = Work::Script(script);
         let came = self.run.start(natives, work, budget, depth, steps)?;

@@ -36,7 +36,6 @@ use natives::Natives;
 use outside::Answer;
 use server_host::{Edition, RunHost};
 use std::alloc::Global;
-use std::mem;
 use std::rc::Rc;
 use std::sync::ledger::Ledger;
 use tcl_eval::{Outcome, made_grows};
@@ -124,7 +123,7 @@ impl Interp {
     /// An interpreter on a blueprint of this epoch and these definitions, which are made one after the
     /// other: one that doesn't apply changes nothing. Its only error is want of memory; the steps are then
     /// no more than with ample memory.
-    pub fn build<L: Ledger>(
+    pub(crate) fn build<L: Ledger>(
         alloc: Global,
         natives: &Natives,
         epoch: u64,
@@ -170,7 +169,7 @@ impl Interp {
     }
 
     /// The epoch of its blueprint. It takes no memory.
-    pub fn epoch(&self) -> u64
+    pub(crate) fn epoch(&self) -> u64
         ensures { result ≡ self.now.blueprint.value.epoch }
     {
         self.blueprint.epoch
@@ -178,24 +177,14 @@ impl Interp {
 
     /// Whether the last run asked, by `ns_ictl markfordelete`, that the interpreter be built anew. The next
     /// start takes the mark off; `reset` and `update` leave it. It takes no memory.
-    pub fn marked(&self) -> bool
+    pub(crate) fn marked(&self) -> bool
         ensures { result ≡ self.now.settling.run.engine.host.marked }
     {
         self.settling.run.engine.host().marked()
     }
 
-    /// Begins the run of a request, which came at this moment, in seconds since 1970. The interpreter is
-    /// as newly made.
-    ///
-    /// It goes through the preauth filters, the authorisation, the postauth filters and the procedure or
-    /// page, with one budget. It stands then at a question or at its response; the run ends only behind
-    /// that. Where memory wants, the interpreter is in any state, but its blueprint stays, and `reset`
-    /// makes it as newly made.
-    ///
-    /// The steps are the entries that the run wrote in its own table, and those that its runs inside
-    /// wrote, from their making on. Where memory wants, each entry of its own table is counted too, and
-    /// no more than what the run writes.
-    pub fn start_request<L: Ledger>(
+    /// Begins the run of a request, as `Run::start_request` says.
+    pub(crate) fn start_request<L: Ledger>(
         &mut self,
         natives: &Natives,
         request: Request,
@@ -224,12 +213,8 @@ impl Interp {
         }
     }
 
-    /// Begins the run of a scheduled script at this moment, without a connection. The interpreter is as
-    /// newly made.
-    ///
-    /// It stands at a question, or the run ended with the code and result of the script, or was spent or
-    /// too deep. No filter and no cleanup script follows. Where memory wants it is as with a request.
-    pub fn start_script<L: Ledger>(
+    /// Begins the run of a scheduled script, as `Run::start_script` says.
+    pub(crate) fn start_script<L: Ledger>(
         &mut self,
         natives: &Natives,
         script: &Text,
@@ -255,15 +240,8 @@ impl Interp {
         }
     }
 
-    /// Begins the definition run of a script at this moment, without a connection. The interpreter is as
-    /// newly made.
-    ///
-    /// Where the script ends well and made anything, what it made is to be published: the question has the
-    /// script of that as its one word. A refusal is an error with its reason; else, and where nothing was
-    /// made, the run ends with code 0 and the result of the script. It ends with code 1 and the script's
-    /// error where that ends so; `break` and `continue` are errors. No response comes of it, and nothing
-    /// runs inside it. Where memory wants it is as with a request.
-    pub fn start_define<L: Ledger>(
+    /// Begins the definition run of a script, as `Run::start_define` says.
+    pub(crate) fn start_define<L: Ledger>(
         &mut self,
         natives: &Natives,
         script: &Text,
@@ -290,10 +268,8 @@ impl Interp {
         }
     }
 
-    /// Goes on with the answer to the question at which it stands. Where memory wants, the interpreter is
-    /// in any state, but its blueprint stays, and `reset` makes it as newly made. The steps are as at
-    /// `start_request`.
-    pub fn resume<L: Ledger>(
+    /// Goes on with the answer to the question at which it stands.
+    pub(crate) fn resume<L: Ledger>(
         &mut self,
         natives: &Natives,
         answer: Answer,
@@ -320,10 +296,8 @@ impl Interp {
         next_of(self.answered(natives, answer, steps))
     }
 
-    /// Tells that the response was written, whole or not. Behind a whole one the trace filters and then
-    /// the cleanup scripts run, with a budget anew; they may ask. Behind one that wasn't written whole
-    /// nothing runs: the run ends at once, as it ended up to the response, and no memory is wanted.
-    pub fn written<L: Ledger>(
+    /// Tells that the response was written, whole or not.
+    pub(crate) fn written<L: Ledger>(
         &mut self,
         natives: &Natives,
         whole: bool,
@@ -367,7 +341,7 @@ impl Interp {
     /// the next start.
     ///
     /// The steps are the entries that the run's own definitions wrote: each is taken back.
-    pub fn reset<L: Ledger>(&mut self, steps: &mut Steps<L>)
+    pub(crate) fn reset<L: Ledger>(&mut self, steps: &mut Steps<L>)
         ensures is_new { (names : Names) → IsSound names self.old → IsNew names self.new }
         ensures steps { (names : Names) → IsSound names self.old
             → steps.new ≡ steps.old + Writes self.old.settling.run.engine.made }
@@ -379,7 +353,7 @@ impl Interp {
         drop(self.settling.inner.take());
         self.settling.run.engine.clear(mark, steps);
         self.put_back();
-        drop(mem::replace(&mut self.visit, Visit::none(self.alloc)));
+        self.visit = Visit::none(self.alloc);
         self.moment = 0;
         self.task = Task::New;
     }
@@ -410,7 +384,7 @@ impl Interp {
     /// after the other behind those that stand. The interpreter is as newly made, and so it is then. Its
     /// only error is want of memory: then it is as it was, but for the steps, since what was defined was
     /// taken back.
-    pub fn update<L: Ledger>(
+    pub(crate) fn update<L: Ledger>(
         &mut self,
         epoch: u64,
         defs: &Defs,
@@ -738,6 +712,8 @@ impl Interp {
 
     /// A script was cut off. Up to the response the reply says so, whatever response was given, and behind
     /// it the rest of the run isn't run.
+    #[cold]
+    #[inline(never)]
     fn cut(&mut self, ending: Ending) -> Result<Move, NoMemory>
         requires cut { ¬ (ending ≡ Ending.Answered) }
         requires inner { self.old.settling.inner ≡ None }

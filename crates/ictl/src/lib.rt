@@ -3,6 +3,7 @@
 //! made.
 #![tactic(auto)]
 
+mod boxed;
 mod building;
 mod defining;
 mod ending;
@@ -11,6 +12,7 @@ mod interp;
 mod law;
 mod next;
 mod reply;
+mod run;
 mod running;
 mod serving;
 mod settling;
@@ -18,10 +20,11 @@ mod task;
 mod tracing;
 mod visit;
 
-pub use interp::Interp;
+pub use boxed::BoxedInterp;
 pub use law::{
     ends_are_ends, fresh_globals, one_response, questions_are_asked, responses_are_given,
     runs_follow_the_stages,
 };
 pub use next::Next;
 pub use reply::{BUDGET_SPENT, NESTING_TOO_DEEP};
+pub use run::Run;

@@ -27,6 +27,8 @@ pub const BUDGET_SPENT: &[u8] = b"budget spent";
 pub const NESTING_TOO_DEEP: &[u8] = b"nesting too deep";
 
 /// The reply of what fails.
+#[cold]
+#[inline(never)]
 pub fn failed(alloc: Global) -> Result<Response, NoMemory>
     ensures { IfOk result (λ response. response ≡ failed) }
 {
@@ -34,6 +36,8 @@ pub fn failed(alloc: Global) -> Result<Response, NoMemory>
 }
 
 /// The reply of a run that was spent.
+#[cold]
+#[inline(never)]
 pub fn budget_reply(alloc: Global) -> Result<Response, NoMemory>
     ensures { IfOk result (λ response. response ≡ budget_reply) }
 {
@@ -41,6 +45,8 @@ pub fn budget_reply(alloc: Global) -> Result<Response, NoMemory>
 }
 
 /// The reply of a run that was too deep.
+#[cold]
+#[inline(never)]
 pub fn nesting_reply(alloc: Global) -> Result<Response, NoMemory>
     ensures { IfOk result (λ response. response ≡ nesting_reply) }
 {
@@ -48,6 +54,7 @@ pub fn nesting_reply(alloc: Global) -> Result<Response, NoMemory>
 }
 
 /// The reply that asks for credentials (RFC 9110, section 11.6.1).
+#[inline(never)]
 pub fn unauthorized(alloc: Global) -> Result<Response, NoMemory>
     ensures { IfOk result (λ response. response ≡ unauthorized) }
 {
@@ -85,6 +92,7 @@ pub fn procedure_reply(
 }
 
 /// What the pages put out, as a response.
+#[inline(never)]
 fn page_output(alloc: Global, host: &RunHost) -> Result<Response, NoMemory>
     ensures { IfOk result (λ response. response ≡ page_output host.now) }
 {
@@ -113,6 +121,7 @@ pub fn page_reply(alloc: Global, host: &RunHost) -> Result<Response, NoMemory>
 }
 
 /// The response where the answer for a first page doesn't enter it.
+#[inline(never)]
 pub fn unentered(alloc: Global, answer: &Answer) -> Result<Response, NoMemory>
     ensures { IfOk result (λ response. response ≡ unentered answer.now) }
 {

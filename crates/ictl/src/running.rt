@@ -3,6 +3,7 @@
 ghost use Rattle.std.specs.Prelude.{◌≡◌, ◌<◌, ◌≤◌, ◌+◌, ◌*◌, ◌∷◌, ℕ, IfOk, IsSome};
 ghost use Rattle.cmd_table.specs.Commands.{Writes};
 ghost use Rattle.natives.specs.Names.{names_of};
+ghost use Rattle.txt_core.specs.Limits.{most_nested};
 ghost use Rattle.outside.specs.declared.question.Question.{Question};
 ghost use Rattle.outside.specs.declared.question.Service.TheVariants as service;
 ghost use Rattle.server_host.specs.Leaf.{host_table};
@@ -78,7 +79,7 @@ impl Running {
         steps: &mut Steps<L>,
     ) -> Result<Stop, NoMemory>
         requires least { 1 ≤ depth }
-        requires most { depth ≤ 200 }
+        requires most { depth ≤ most_nested }
         ensures gives { IfOk result (λ stop.
             (given : Given)
             → eval (names_of natives.now) host_table depth work (at_global (state_of self.old))

@@ -261,6 +261,7 @@ impl Interp {
     }
 
     /// A preauth filter has ended.
+    #[inline(never)]
     pub(crate) fn end_preauth<L: Ledger>(
         &mut self,
         natives: &Natives,
@@ -357,6 +358,7 @@ impl Interp {
     }
 
     /// The authorisation has ended.
+    #[inline(never)]
     pub(crate) fn end_authorisation<L: Ledger>(
         &mut self,
         natives: &Natives,
@@ -460,6 +462,7 @@ impl Interp {
     }
 
     /// A postauth filter has ended.
+    #[inline(never)]
     pub(crate) fn end_postauth<L: Ledger>(
         &mut self,
         natives: &Natives,
@@ -610,6 +613,7 @@ impl Interp {
     }
 
     /// Asks for the first page, from the global frame and outside of every page.
+    #[inline(never)]
     fn ask_page(&mut self, path: Text, budget: u64) -> Result<Move, NoMemory>
         ensures asks { IfOk result (λ step. step ≡ Move.Stops (Next.Asks (page_question path))) }
         ensures state { interp_state self.new ≡ outset (interp_state self.old) }
@@ -641,6 +645,7 @@ impl Interp {
     }
 
     /// The response that was given is to be written; without one the request failed.
+    #[inline(never)]
     fn respond_given(&mut self) -> Result<Move, NoMemory>
         ensures stops { IfOk result (λ step.
             step
@@ -657,6 +662,7 @@ impl Interp {
     }
 
     /// The request failed, whatever response was given.
+    #[inline(never)]
     fn fail(&mut self) -> Result<Move, NoMemory>
         ensures stops { IfOk result (λ step. step ≡ Move.Stops (Next.Write failed)) }
         ensures task { IfOk result (λ _.
@@ -687,6 +693,7 @@ impl Interp {
     }
 
     /// The first page has ended.
+    #[inline(never)]
     pub(crate) fn end_page(&mut self) -> Result<Move, NoMemory>
         ensures stops { IfOk result (λ step.
             step ≡ Move.Stops (Next.Write (page_reply (interp_state self.old).host))) }

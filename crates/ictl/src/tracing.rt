@@ -125,7 +125,7 @@ impl Interp {
             drop(request);
             return Err(NoMemory);
         };
-        drop(mem::replace(&mut self.visit, visit));
+        self.visit = visit;
         self.settling.run.engine.host_mut().serve(request, moment)?;
         self.moment = moment;
         self.settling.questions = RUN_QUESTIONS;
@@ -333,6 +333,8 @@ impl Interp {
     }
 
     /// The run ends, since its response wasn't written whole.
+    #[cold]
+    #[inline(never)]
     pub(crate) fn end_unwritten(&mut self) -> Next
         ensures ends { result ≡ Next.Ended (both (ending_of self.old.task) answered) }
         ensures task { self.new ≡ record self.old { task = Task.Over } }
@@ -431,6 +433,7 @@ impl Interp {
     }
 
     /// A trace filter has ended: only a break counts.
+    #[inline(never)]
     pub(crate) fn end_trace<L: Ledger>(
         &mut self,
         natives: &Natives,

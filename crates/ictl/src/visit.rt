@@ -67,6 +67,9 @@ fn filter_calls(
     ensures { (defs : List Def) → IsBuiltOf routes.now defs
         → IfOk result (λ calls. calls ≡ filter_calls when request.now defs) }
 {
+    if !routes.has_filters() {
+        return Ok(WordsList::new(alloc));
+    }
     let filters = routes.filters(when, &request.method, path)?;
     calls_of(alloc, when, filters.as_slice())
 }
@@ -170,6 +173,7 @@ impl Visit {
 
     /// What a request goes through, by the tables of a blueprint and what the name of the authorisation
     /// stands for. Its only error is want of memory.
+    #[inline(never)]
     pub fn new(
         alloc: Global,
         routes: &Routes,

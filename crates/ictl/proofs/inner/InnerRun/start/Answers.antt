@@ -32,8 +32,8 @@ returns-clause-gives g c = λ bp fresh further.
     let s = c.args.self.now in
     begun names bp c.args.moment s.run.engine c.begin_definitions.new.self c.args.words.now c.args.budget s.defining.questions c.in-Some.depth c.in_ok-script.script c.in_ok-came.came c.start.new.self further _
     fresh (c.in_ok-begin_definitions.ensures.ok ∙ ap (λ (h : HostState). defining c.args.moment h.blueprint) c.host_mut.ensures.value)
-    (c.in-Some.ensures.depth ∙ ap (λ (t : List ℕ). depth_of (number t)) c.arg-level.ensures)
-    (c.in_ok-script.ensures ∙ c.arg-body.ensures)
+    (c.in-Some.ensures.depth ∙ ap (λ (t : List ℕ). depth_of (number t)) c.bytes_at-level.ensures)
+    (c.in_ok-script.ensures ∙ c.bytes_at-body.ensures)
     c.in_ok-came.ensures.gives
     (c.in_ok-stop.ensures.gives names bp c.args.moment further)
 
@@ -42,7 +42,7 @@ returns-in_default-clause-gives g c = λ bp fresh further.
     let s = c.args.self.now in
     sunk_begun (names_of c.args.natives.now) bp c.args.moment s.run.engine c.begin_definitions.new.self c.args.words.now c.args.budget s.defining.questions further
     fresh (c.in_ok-begin_definitions.ensures.ok ∙ ap (λ (h : HostState). defining c.args.moment h.blueprint) c.host_mut.ensures.value)
-    (c.in_default.ensures.depth ∙ ap (λ (t : List ℕ). depth_of (number t)) c.arg-level.ensures)
+    (c.in_default.ensures.depth ∙ ap (λ (t : List ℕ). depth_of (number t)) c.bytes_at-level.ensures)
 
 pub returns-in_err-begin_definitions-clause-most : goal.returns-in_err-begin_definitions-clause-most
 returns-in_err-begin_definitions-clause-most g c = wants c.from_residual.result _ (λ bp fresh. none_begun (names_of c.args.natives.now) bp c.args.moment c.args.self.now.run.engine _ fresh)
@@ -55,8 +55,8 @@ returns-in_err-came-clause-most g c = wants c.from_residual-in_err-came.result _
     let s = c.args.self.now in
     begun_writes (names_of c.args.natives.now) bp c.args.moment s.run.engine c.begin_definitions.new.self c.args.words.now c.args.budget s.defining.questions c.in-Some.depth (Writes c.start.new.self.engine.made) c.in_ok-script.script
     fresh (c.in_ok-begin_definitions.ensures.ok ∙ ap (λ (h : HostState). defining c.args.moment h.blueprint) c.host_mut.ensures.value)
-    (c.in-Some.ensures.depth ∙ ap (λ (t : List ℕ). depth_of (number t)) c.arg-level.ensures)
-    (c.in_ok-script.ensures ∙ c.arg-body.ensures)
+    (c.in-Some.ensures.depth ∙ ap (λ (t : List ℕ). depth_of (number t)) c.bytes_at-level.ensures)
+    (c.in_ok-script.ensures ∙ c.bytes_at-body.ensures)
     c.start.ensures.most)
 
 pub returns-in_err-stop-clause-most : goal.returns-in_err-stop-clause-most
@@ -64,6 +64,6 @@ returns-in_err-stop-clause-most g c = wants c.from_residual-in_err-stop.result _
     let s = c.args.self.now in
     begun_writes (names_of c.args.natives.now) bp c.args.moment s.run.engine c.begin_definitions.new.self c.args.words.now c.args.budget s.defining.questions c.in-Some.depth (Writes c.start.new.self.engine.made) c.in_ok-script.script
     fresh (c.in_ok-begin_definitions.ensures.ok ∙ ap (λ (h : HostState). defining c.args.moment h.blueprint) c.host_mut.ensures.value)
-    (c.in-Some.ensures.depth ∙ ap (λ (t : List ℕ). depth_of (number t)) c.arg-level.ensures)
-    (c.in_ok-script.ensures ∙ c.arg-body.ensures)
+    (c.in-Some.ensures.depth ∙ ap (λ (t : List ℕ). depth_of (number t)) c.bytes_at-level.ensures)
+    (c.in_ok-script.ensures ∙ c.bytes_at-body.ensures)
     c.start.ensures.most)

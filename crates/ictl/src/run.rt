@@ -1,0 +1,266 @@
+//! Runs: an interpreter with what it answered last.
+
+ghost use Rattle.std.specs.Prelude.{◌≡◌, ◌≤◌, ◌+◌, ◌++◌, ◌∷◌, [], ℕ, List, false};
+ghost use Rattle.txt_core.specs.Names.{Names};
+ghost use Rattle.cmd_table.specs.Commands.{Writes};
+ghost use Rattle.natives.specs.Names.{names_of};
+ghost use Rattle.outside.specs.declared.question.Answer.{Answer};
+ghost use Rattle.outside.specs.declared.question.Question.{Question};
+ghost use Rattle.http_req.specs.declared.request.Request.{Request};
+ghost use Rattle.ictl.specs.Visits.{visit_of};
+ghost use Rattle.ictl.specs.Main.{Main, Script, Define, behind, both, answered};
+ghost use Rattle.ictl.specs.Interps.{IsSound, IsNew, Holds, IsSameRun, ending_of, interp_state, interp_written, IsWithin, taken, Counts, gives, UnlessNoMemory, Stands, GoesOn, StandsOn};
+ghost use Rattle.ictl.specs.Falls.{StandsAt, number_of, first_number, Falls};
+
+use crate::boxed::BoxedInterp;
+use crate::next::Next;
+use cmd_table::Steps;
+use http_req::Request;
+use natives::Natives;
+use outside::{Answer, Question};
+use std::marker::Model;
+use std::mem;
+use std::sync::ledger::Ledger;
+use txt_core::{Text, Words};
+
+/// A run of an interpreter, with what it answered last. The interpreter is in it until it is taken back,
+/// and stands at what the run answered; so an answer can't be given to another one. Contracts see both.
+#[derive(Drop)]
+pub struct Run {
+    next: Next,
+    interp: BoxedInterp,
+}
+
+impl Model for Run {
+    ghost use Rattle.ictl.specs.Came.{Came};
+    ghost use Rattle.ictl.specs.CameCode.{came_code};
+    ghost use Rattle.ictl.specs.Falls.{StandsAt};
+
+    ghost Value = { Came };
+
+    ghost coded = { came_code };
+
+    ghost view = { λ a. record { next = a.next; interp = a.interp } };
+
+    ghost invariant = { λ a. StandsAt a.next a.interp };
+}
+
+impl Run {
+    ghost use Rattle.ictl.specs.Came.{IsAtQuestion, IsAtResponse, Takes, given_up};
+
+    /// Begins the run of a request, which came at this moment, in seconds since 1970, in an interpreter
+    /// that is as newly made.
+    ///
+    /// It goes through the preauth filters, the authorisation, the postauth filters and the procedure or
+    /// page, with one budget. It stands then at a question or at its response; the run ends only behind
+    /// that. Where memory wants, the interpreter is in any state, but its blueprint stays, and `reset`
+    /// makes it as newly made.
+    ///
+    /// The steps are the entries that the run wrote in its own table, and those that its runs inside
+    /// wrote, from their making on. Where memory wants, each entry of its own table is counted too, and
+    /// no more than what the run writes.
+    pub fn start_request<L: Ledger>(
+        mut interp: BoxedInterp,
+        natives: &Natives,
+        request: Request,
+        moment: u64,
+        steps: &mut Steps<L>,
+    ) -> Run
+        requires { IsNew (names_of natives.now) interp }
+        ensures stands { let names = names_of natives.now in
+            Stands names (Main names interp.blueprint.value request moment) result.next
+            (taken names steps.new steps.old result.interp interp) result.interp [] }
+        ensures counts { Counts (names_of natives.now) steps.new steps.old result.interp interp }
+        ensures most { let names = names_of natives.now in
+            IsWithin 0 steps.old steps.new result.interp
+            (Main names interp.blueprint.value request moment []) }
+        ensures visit { UnlessNoMemory result.next
+            ((result.interp.visit ≡ visit_of (names_of natives.now) interp.blueprint.value request)
+            × (result.interp.moment ≡ moment)) }
+        ensures holds { Holds result.interp interp }
+        ensures sound { (names : Names) → IsSound names interp → IsSound names result.interp }
+        ensures falls { Falls result.next result.interp first_number }
+    {
+        let next = interp.interp.start_request(natives, request, moment, steps);
+        Run { next, interp }
+    }
+
+    /// Begins the run of a scheduled script at this moment, without a connection, in an interpreter that is
+    /// as newly made.
+    ///
+    /// It stands at a question, or the run ended with the code and result of the script, or was spent or
+    /// too deep. No filter and no cleanup script follows. Where memory wants it is as with a request.
+    pub fn start_script<L: Ledger>(
+        mut interp: BoxedInterp,
+        natives: &Natives,
+        script: &Text,
+        moment: u64,
+        steps: &mut Steps<L>,
+    ) -> Run
+        requires { IsNew (names_of natives.now) interp }
+        ensures stands { let names = names_of natives.now in
+            Stands names (Script names interp.blueprint.value script.now moment) result.next
+            (taken names steps.new steps.old result.interp interp) result.interp [] }
+        ensures counts { Counts (names_of natives.now) steps.new steps.old result.interp interp }
+        ensures most { let names = names_of natives.now in
+            IsWithin 0 steps.old steps.new result.interp
+            (Script names interp.blueprint.value script.now moment []) }
+        ensures holds { Holds result.interp interp }
+        ensures sound { (names : Names) → IsSound names interp → IsSound names result.interp }
+        ensures falls { Falls result.next result.interp first_number }
+    {
+        let next = interp.interp.start_script(natives, script, moment, steps);
+        Run { next, interp }
+    }
+
+    /// Begins the definition run of a script at this moment, without a connection, in an interpreter that is
+    /// as newly made.
+    ///
+    /// Where the script ends well and made anything, what it made is to be published: the question has the
+    /// script of that as its one word. A refusal is an error with its reason; else, and where nothing was
+    /// made, the run ends with code 0 and the result of the script. It ends with code 1 and the script's
+    /// error where that ends so; `break` and `continue` are errors. No response comes of it, and nothing
+    /// runs inside it. Where memory wants it is as with a request.
+    pub fn start_define<L: Ledger>(
+        mut interp: BoxedInterp,
+        natives: &Natives,
+        script: &Text,
+        moment: u64,
+        steps: &mut Steps<L>,
+    ) -> Run
+        requires { IsNew (names_of natives.now) interp }
+        ensures stands { let names = names_of natives.now in
+            Stands names (Define names interp.blueprint.value script.now moment) result.next 0
+            result.interp [] }
+        ensures steps { steps.new + Writes interp.settling.run.engine.made
+            ≡ steps.old + Writes result.interp.settling.run.engine.made }
+        ensures most { let names = names_of natives.now in
+            IsWithin 0 steps.old steps.new result.interp
+            (Define names interp.blueprint.value script.now moment []) }
+        ensures holds { Holds result.interp interp }
+        ensures sound { (names : Names) → IsSound names interp → IsSound names result.interp }
+        ensures falls { Falls result.next result.interp first_number }
+    {
+        let next = interp.interp.start_define(natives, script, moment, steps);
+        Run { next, interp }
+    }
+
+    /// What it answered last, and so what is to be done next. It takes no memory.
+    pub fn next(&self) -> &Next
+        ensures next { result.now ≡ self.now.next }
+        ensures stands { StandsAt self.now.next self.now.interp }
+    {
+        &self.next
+    }
+
+    /// The epoch of the interpreter's blueprint. It takes no memory.
+    pub fn epoch(&self) -> u64
+        ensures { result ≡ self.now.interp.blueprint.value.epoch }
+    {
+        self.interp.epoch()
+    }
+
+    /// Takes the question out, where it stands at one; else there is none. It stands there until `resume`
+    /// gives the answer, but the words of the question are gone. It takes no memory.
+    pub fn take_question(&mut self) -> Option<Question>
+        ensures { Takes result self.old self.new }
+    {
+        match mem::replace(&mut self.next, Next::NoMemory) {
+            Next::Asks(question) => {
+                self.next = Next::Asks(Question {
+                    service: question.service,
+                    words: Words::new(self.interp.interp.alloc),
+                });
+                Some(question)
+            }
+            other => {
+                self.next = other;
+                None
+            }
+        }
+    }
+
+    /// Goes on with the answer to the question at which it stands. Where memory wants, the interpreter is
+    /// in any state, but its blueprint stays, and `reset` makes it as newly made. The steps are as at
+    /// `start_request`.
+    pub fn resume<L: Ledger>(&mut self, natives: &Natives, answer: Answer, steps: &mut Steps<L>)
+        requires { IsAtQuestion self.old }
+        ensures step { let names = names_of natives.now in
+            GoesOn names self.new.next
+            (taken names steps.new steps.old self.new.interp self.old.interp) self.new.interp
+            self.old.interp answer }
+        ensures stands { let names = names_of natives.now in
+            StandsOn names self.new.next
+            (taken names steps.new steps.old self.new.interp self.old.interp) self.new.interp
+            self.old.interp answer }
+        ensures counts { Counts (names_of natives.now) steps.new steps.old self.new.interp
+            self.old.interp }
+        ensures most { let names = names_of natives.now in
+            (question : Question) (inside : ℕ)
+            → IsWithin (inside + interp_written names self.old.interp) steps.old steps.new
+            self.new.interp
+            (gives names (Next.Asks question) inside self.old.interp (answer ∷ [])) }
+        ensures same { IsSameRun self.new.interp self.old.interp }
+        ensures holds { Holds self.new.interp self.old.interp }
+        ensures sound { (names : Names) → IsSound names self.old.interp
+            → IsSound names self.new.interp }
+        ensures falls { Falls self.new.next self.new.interp (number_of self.old.interp) }
+    {
+        self.next = self.interp.interp.resume(natives, answer, steps);
+    }
+
+    /// Tells that the response at which it stands was written, whole or not. Behind a whole one the trace
+    /// filters and then the cleanup scripts run, with a budget anew; they may ask. Behind one that wasn't
+    /// written whole nothing runs: the run ends at once, as it ended up to the response, and no memory is
+    /// wanted.
+    pub fn written<L: Ledger>(&mut self, natives: &Natives, whole: bool, steps: &mut Steps<L>)
+        requires { IsAtResponse self.old }
+        ensures stands { let names = names_of natives.now in
+            (request : Request) → IsSound names self.old.interp
+            → self.old.interp.visit ≡ visit_of names self.old.interp.blueprint.value request
+            → (inside : ℕ)
+            → Stands names
+            (behind names self.old.interp.blueprint.value self.old.interp.moment whole request
+            (ending_of self.old.interp.task) (interp_state self.old.interp) inside)
+            self.new.next
+            (inside + taken names steps.new steps.old self.new.interp self.old.interp)
+            self.new.interp [] }
+        ensures unwritten { whole ≡ false
+            → (self.new.next ≡ Next.Ended (both (ending_of self.old.interp.task) answered))
+            × (steps.new ≡ steps.old) }
+        ensures counts { Counts (names_of natives.now) steps.new steps.old self.new.interp
+            self.old.interp }
+        ensures most { let names = names_of natives.now in
+            (request : Request) → IsSound names self.old.interp
+            → self.old.interp.visit ≡ visit_of names self.old.interp.blueprint.value request
+            → (inside : ℕ)
+            → IsWithin (inside + Writes (interp_state self.old.interp).made) steps.old steps.new
+            self.new.interp
+            (behind names self.old.interp.blueprint.value self.old.interp.moment whole request
+            (ending_of self.old.interp.task) (interp_state self.old.interp) inside []) }
+        ensures same { IsSameRun self.new.interp self.old.interp }
+        ensures holds { Holds self.new.interp self.old.interp }
+        ensures sound { (names : Names) → IsSound names self.old.interp
+            → IsSound names self.new.interp }
+        ensures falls { Falls self.new.next self.new.interp first_number }
+    {
+        self.next = self.interp.interp.written(natives, whole, steps);
+    }
+
+    /// Memory wanted for what was to be done next: nothing more comes of it. It takes no memory.
+    pub fn give_up(&mut self)
+        ensures { self.new ≡ given_up self.old }
+    {
+        self.next = Next::NoMemory;
+    }
+
+    /// What it answered last, and the interpreter, which `reset` makes as newly made. It takes no memory.
+    pub fn into_parts(self) -> (Next, BoxedInterp)
+        ensures next { result.0 ≡ self.next }
+        ensures interp { result.1 ≡ self.interp }
+        ensures stands { StandsAt self.next self.interp }
+    {
+        let Run { next, interp } = self;
+        (next, interp)
+    }
+}
