@@ -9,7 +9,7 @@ use Rattle.sched_core.specs.Allowed.{Allowed}
 use Rattle.sched_core.specs.Entries.{State as ScheduleState}
 use Rattle.sched_core.proofs.Determined.{determined}
 use Rattle.blueprint.specs.States.{State as BlueprintState}
-use Rattle.blueprint.specs.Objects.{Steps as BlueprintSteps}
+use Rattle.blueprint.specs.Objects.{BlueprintSteps}
 use Rattle.blueprint.specs.Publishing as publishing
 use Rattle.blueprint.specs.Publishing.{publish_answer, with_published, save_answer, with_saved, saved_defs}
 use Rattle.blueprint.specs.Reading.{scripted}

@@ -17,6 +17,7 @@ pub mod Working
 pub mod Turning
 pub mod Settling
 pub mod Moving
+pub mod Advancing
 pub mod Opening
 pub mod Fronts
 pub mod Answering

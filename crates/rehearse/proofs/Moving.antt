@@ -25,7 +25,7 @@ use Rattle.rehearse.specs.Plays.{IsPath, Moves, Turns}
 use Rattle.rehearse.specs.Schedules.{Agenda, ScheduleStep, ScheduleRuns}
 use Rattle.rehearse.specs.Steps.{Position, Step, RunsUntilIdle}
 use Rattle.rehearse.specs.World.{World, Worker, idle, connected, new_connection, opening, all_idle, with_setting, with_objects, with_workers, as_started, resting}
-use Rattle.rehearse.specs.Playing.{Tells, KeepsOn, setting_of, ShowsTask, ShowsWorker, ShowsWorkers, HasNew, IsTaskReady, IsReady, AreReady, Moved, Turned, IsSchedulerReady, ShowsScheduler, Settled, Shows, IsMachineReady, Did, Played}
+use Rattle.rehearse.specs.Playing.{Tells, KeepsOn, setting_of, ShowsTask, ShowsWorker, ShowsWorkers, HasNew, IsTaskReady, IsReady, AreReady, Moved, Turned, IsSchedulerReady, ShowsScheduler, PlayedToItsEnd, Shows, IsMachineReady, Did, Played}
 use Rattle.rehearse.proofs.Standing.{keeps_later, scheduler_later, all_later}
 use Rattle.rehearse.proofs.Telling.{tells_none}
 
@@ -214,7 +214,7 @@ pages_set natives machine after path text key value listing is_path fits same_ke
 
 -- a block was run to its end, whatever world the machine shows
 pub defines : (natives : List (List ℕ)) (machine after : Machine) (block script : List ℕ) (listing listed : Listing) → length block ≤ most_block → script ≡ block
-    → Settled (setting_of natives machine.setting) (begun_block (setting_of natives machine.setting) machine.objects script) machine.objects listing after.objects listed
+    → PlayedToItsEnd (setting_of natives machine.setting) (begun_block (setting_of natives machine.setting) machine.objects script) machine.objects listing after.objects listed
     → after.started ≡ machine.started → after.setting ≡ machine.setting → after.scheduler ≡ machine.scheduler → after.workers ≡ machine.workers
     → Did natives true (define block) machine listing after listed
 defines natives machine after block script listing listed fits same settled started setting scheduler kept = λ world shows.
@@ -248,7 +248,7 @@ free_shown natives task y h e = subst (λ (t : Task). ShowsTask natives t y) e h
 busy_shown : (natives : List (List ℕ)) (task : Task) (y : Worker) → ShowsTask natives task y → ¬ (task ≡ tasks.Idle) → ¬ (y ≡ idle)
 busy_shown natives tasks.Idle y h busy e = busy refl
 busy_shown natives (tasks.Between code) y h busy e = let f : connected h.0 ≡ idle = sym h.1.0 ∙ e in cc
-busy_shown natives (tasks.Serving code serving next) y h busy e = let f : connected h.0 ≡ idle = sym h.2.0 ∙ e in cc
+busy_shown natives (tasks.Serving code serving) y h busy e = let f : connected h.0 ≡ idle = sym h.2.0 ∙ e in cc
 
 new_shown : (natives : List (List ℕ)) (x : code_worker.Worker) (input : List ℕ) → HasNew x input → ShowsWorker natives x (connected (new_connection input))
 new_shown natives x input h =

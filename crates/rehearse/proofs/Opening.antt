@@ -4,7 +4,6 @@ use Rattle.std.proofs.Math.ListN.{length-set}
 use Rattle.std.specs.Prelude.{MatchOption}
 use Rattle.blueprint.specs.States.{State}
 use Rattle.ictl.specs.declared.interp.Interp.{Interp}
-use Rattle.ictl.specs.declared.next.Next.{Next}
 use Rattle.rehearse.specs.declared.keeper.Keeper.{Keeper}
 use Rattle.rehearse.specs.declared.listing.Listing.{Listing}
 use Rattle.rehearse.specs.declared.machine.Machine.{Machine}
@@ -31,7 +30,7 @@ drop_all (suc n) (x ∷ xs) le = drop_all n xs (omega (arith, le))
 pub resting_shown : (natives : List (List ℕ)) (code : code_scheduler.Scheduler) → IsResting code → ShowsScheduler natives code resting
 resting_shown natives code rest = record {
   waiting = drop_all code.begun code.due rest.1;
-  running = subst (λ (r : Option (Running × Next)). ShowsRunning natives r None) (sym rest.0) tt;
+  running = subst (λ (r : Option Running). ShowsRunning natives r None) (sym rest.0) tt;
 }
 
 -- nothing is kept, and the blueprint has these names
@@ -47,7 +46,7 @@ ready_opening natives machine objects definer rest kept idle few =
       definer = none_kept natives machine.objects.blueprint machine.definer.keeper same definer;
       scheduler = (
         none_kept natives machine.objects.blueprint machine.scheduler.keeper same kept,
-        subst (λ (r : Option (Running × Next)). MatchOption r (Unit {0}) (IsScriptReady natives machine.objects.blueprint)) (sym rest.0) tt,
+        subst (λ (r : Option Running). MatchOption r (Unit {0}) (IsScriptReady natives machine.objects.blueprint)) (sym rest.0) tt,
       );
       workers = idle;
       few = few;

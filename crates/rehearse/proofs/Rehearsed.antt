@@ -21,7 +21,7 @@ use Rattle.rehearse.specs.Files.{End, whole, bad, ComesNext, Opens, Holds}
 use Rattle.rehearse.specs.Intakes.{IntakeState}
 use Rattle.rehearse.specs.Lines.{Line, listing_of}
 use Rattle.rehearse.specs.Plays.{MayCome, Plays, no_event}
-use Rattle.rehearse.specs.Playing.{StopsAt, Fetches, FindsEvent, HasFew, IsNoEvent, ShowsWorkers, Shows, IsMachineReady, Played, Tells, SoFar, IsOfSink, ending_of, by_left, IsCounted}
+use Rattle.rehearse.specs.Playing.{StopsAt, Fetches, FindsEvent, HasFew, IsNoEvent, ShowsWorkers, Shows, IsMachineReady, Played, Tells, SoFar, IsOfSink, rehearsal_end, by_left, IsCounted}
 use Rattle.rehearse.specs.Reading.{IsShort}
 use Rattle.rehearse.specs.Rehearsing.{Outside, outside_of, InputHolds, AreFirst, IsProperFront, HadBadEvent, HadWriteFault, RanOut, Ends, Rehearses}
 use Rattle.rehearse.specs.Summary.{nothing, with_lines}
@@ -416,7 +416,7 @@ at_end natives before now play number (byte ∷ left) empty is count stopped s n
 
 by_stop : (natives : List (List ℕ)) (before now : Outside) (play : Play) (number : ℕ) (stopped : Option Stopped) → play.listing.text ≡ [] → number ≡ play.events + 1
     → play.intake.stopped ≡ stopped → SoFar natives before now play → FindsEvent None play.intake
-    → Ends natives before (ending_of stopped play.intake.left number) now
+    → Ends natives before (rehearsal_end stopped play.intake.left number) now
 by_stop natives before now play number None empty count stopped s finds =
     elim finds.1 [
       | inl still ↦ absurd (still stopped)
@@ -439,7 +439,7 @@ by_stop natives before now play number (Some stops.AtFault) empty count stopped 
 -- no event comes any more
 pub ended : (natives : List (List ℕ)) (before now : Outside) (play : Play) (number : ℕ) → play.listing.text ≡ [] → number ≡ play.events + 1
     → SoFar natives before now play → FindsEvent None play.intake
-    → Ends natives before (ending_of play.intake.stopped play.intake.left number) now
+    → Ends natives before (rehearsal_end play.intake.stopped play.intake.left number) now
 ended natives before now play number empty count s finds = by_stop natives before now play number play.intake.stopped empty count refl s finds
 
 -- ---- what was counted
@@ -459,7 +459,7 @@ counts_at_end natives before now play number (byte ∷ left) is count stopped s 
 
 counts_by_stop : (natives : List (List ℕ)) (before now : Outside) (play : Play) (number : ℕ) (stopped : Option Stopped) → number ≡ play.events + 1
     → play.intake.stopped ≡ stopped → SoFar natives before now play → FindsEvent None play.intake
-    → IsCounted natives before.input (ending_of stopped play.intake.left number) play.listing.tally
+    → IsCounted natives before.input (rehearsal_end stopped play.intake.left number) play.listing.tally
 counts_by_stop natives before now play number None count stopped s finds = tt
 counts_by_stop natives before now play number (Some stops.AtEnd) count stopped s finds =
     counts_at_end natives before now play number play.intake.left refl count stopped s finds.0
@@ -467,7 +467,7 @@ counts_by_stop natives before now play number (Some stops.AtFault) count stopped
 
 pub counted : (natives : List (List ℕ)) (before now : Outside) (play : Play) (number : ℕ) → number ≡ play.events + 1
     → SoFar natives before now play → FindsEvent None play.intake
-    → IsCounted natives before.input (ending_of play.intake.stopped play.intake.left number) play.listing.tally
+    → IsCounted natives before.input (rehearsal_end play.intake.stopped play.intake.left number) play.listing.tally
 counted natives before now play number count s finds = counts_by_stop natives before now play number play.intake.stopped count refl s finds
 
 -- a fault of the sink counts nothing

@@ -12,17 +12,17 @@ use Rattle.rehearse.specs.Lines.{Line}
 use Rattle.rehearse.specs.Objects.{Setting, Answers}
 use Rattle.rehearse.specs.Runs.{Stand, asking, ready, over, script_stand}
 use Rattle.rehearse.specs.Schedules.{Agenda, due_scripts, TakesDue, script_line, ScheduleStep, takes, begins, answers, ends, ScheduleRuns, last, more}
-use Rattle.rehearse.specs.World.{Script, Scheduler, begun_script, with_script_answer}
+use Rattle.rehearse.specs.World.{OpenScript, Scheduler, begun_script, with_script_answer}
 use Rattle.rehearse.proofs.Answering.{answers_one, answers_keep}
 
 abbrev pub SameStep : List Line → Agenda → List Line → Agenda → Type 0
 SameStep l a m b = (l ≡ m) × (a ≡ b)
 
-abbrev with_running : Agenda → Option Script → Objects → Agenda
+abbrev with_running : Agenda → Option OpenScript → Objects → Agenda
 with_running before running objects = record { scheduler = record { waiting = before.scheduler.waiting; running = running }; objects = objects }
 
 -- what a step gives where a script is under way, by where that stands
-abbrev Gives : Setting → Agenda → Script → Stand → List Line → Agenda → Type 0
+abbrev Gives : Setting → Agenda → OpenScript → Stand → List Line → Agenda → Type 0
 Gives setting before script (asking question) lines after =
     (answer : Answer) × (objects : Objects) × Answers setting script.moment question before.objects answer objects × (lines ≡ [])
     × (after ≡ with_running before (Some (with_script_answer script answer)) objects)
@@ -36,20 +36,20 @@ Takes setting before [] lines after = TakesDue setting.moment before after × (l
 Takes setting before (due ∷ waiting) lines after =
     (lines ≡ []) × (after ≡ record { scheduler = record { waiting = waiting; running = Some (begun_script setting before.objects due) }; objects = before.objects })
 
-same_script : (r s : Script) → Some r ≡ Some s → r ≡ s
+same_script : (r s : OpenScript) → Some r ≡ Some s → r ≡ s
 same_script r s e = cc
 
-not_running : (s : Scheduler) (waiting : List DueScript) (r : Script) → s ≡ record { waiting = waiting; running = None } → s.running ≡ Some r → ⊥
+not_running : (s : Scheduler) (waiting : List DueScript) (r : OpenScript) → s ≡ record { waiting = waiting; running = None } → s.running ≡ Some r → ⊥
 not_running s waiting r e f = let k : None ≡ Some r = sym (ap (λ (x : Scheduler). x.running) e) ∙ f in cc
 
-gives_moved : (setting : Setting) (before : Agenda) (r s : Script) (stand : Stand) (lines : List Line) (after : Agenda)
+gives_moved : (setting : Setting) (before : Agenda) (r s : OpenScript) (stand : Stand) (lines : List Line) (after : Agenda)
     → r ≡ s → script_stand setting.natives r ≡ stand → Gives setting before r stand lines after
     → Gives setting before s (script_stand setting.natives s) lines after
 gives_moved setting before r s stand lines after f is h =
     let at : script_stand setting.natives s ≡ stand = ap (script_stand setting.natives) (sym f) ∙ is in
-    subst (λ (x : Stand). Gives setting before s x lines after) (sym at) (subst (λ (x : Script). Gives setting before x stand lines after) f h)
+    subst (λ (x : Stand). Gives setting before s x lines after) (sym at) (subst (λ (x : OpenScript). Gives setting before x stand lines after) f h)
 
-of_running : (setting : Setting) (before after : Agenda) (lines : List Line) (r : Script) → before.scheduler.running ≡ Some r
+of_running : (setting : Setting) (before after : Agenda) (lines : List Line) (r : OpenScript) → before.scheduler.running ≡ Some r
     → ScheduleStep setting before lines after → Gives setting before r (script_stand setting.natives r) lines after
 of_running setting before after lines r is (takes w h x) = absurd (not_running before.scheduler [] r w is)
 of_running setting before after lines r is (begins due waiting w x y) = absurd (not_running before.scheduler (due ∷ waiting) r w is)
@@ -67,7 +67,7 @@ of_waiting setting before after lines is (begins due waiting w x y) =
 of_waiting setting before after lines is (answers s q o t w at h x y) = absurd (let k : None ≡ Some s = sym is ∙ w in cc)
 of_waiting setting before after lines is (ends s o w at e x y) = absurd (let k : None ≡ Some s = sym is ∙ w in cc)
 
-gives_same : (setting : Setting) (before a b : Agenda) (r : Script) (stand : Stand) (l m : List Line) → Allowed before.objects.schedule
+gives_same : (setting : Setting) (before a b : Agenda) (r : OpenScript) (stand : Stand) (l m : List Line) → Allowed before.objects.schedule
     → Gives setting before r stand l a → Gives setting before r stand m b → SameStep l a m b
 gives_same setting before a b r (asking question) l m ok h k =
     let one : (h.0 ≡ k.0) × (h.1 ≡ k.1) = answers_one setting r.moment question before.objects h.1 k.1 h.0 k.0 ok h.2 k.2 in (
@@ -96,7 +96,7 @@ takes_same setting before a b [] l m ok h k =
     )
 takes_same setting before a b (due ∷ waiting) l m ok h k = (h.0 ∙ sym k.0, h.1 ∙ sym k.1)
 
-by_running : (running : Option Script) (setting : Setting) (before a b : Agenda) (l m : List Line) → before.scheduler.running ≡ running → Allowed before.objects.schedule
+by_running : (running : Option OpenScript) (setting : Setting) (before a b : Agenda) (l m : List Line) → before.scheduler.running ≡ running → Allowed before.objects.schedule
     → ScheduleStep setting before l a → ScheduleStep setting before m b → SameStep l a m b
 by_running None setting before a b l m is ok s t =
     takes_same setting before a b before.scheduler.waiting l m ok (of_waiting setting before a l is s) (of_waiting setting before b m is t)

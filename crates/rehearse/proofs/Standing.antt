@@ -105,19 +105,18 @@ keeps_by natives now later (Some interp) reaches h =
 pub keeps_later : (natives : List (List ℕ)) (now later : State) (keeper : Keeper) → Reaches now later → KeepsOn natives now keeper → KeepsOn natives later keeper
 keeps_later natives now later keeper reaches h = keeps_by natives now later keeper.interp reaches h
 
-pub under_way_later : (natives : List (List ℕ)) (now later : State) (next : Next) (interp : Interp) → Reaches now later
-    → IsUnderWay natives now next interp → IsUnderWay natives later next interp
-under_way_later natives now later next interp reaches h = record {
+pub under_way_later : (natives : List (List ℕ)) (now later : State) (interp : Interp) → Reaches now later
+    → IsUnderWay natives now interp → IsUnderWay natives later interp
+under_way_later natives now later interp reaches h = record {
   sound = h.sound;
   on = on_later natives now later interp reaches h.on;
-  «at» = h.«at»;
 }
 
 task_later : (natives : List (List ℕ)) (now later : State) (task : Task) → Reaches now later → IsTaskReady natives now task → IsTaskReady natives later task
 task_later natives now later tasks.Idle reaches h = tt
 task_later natives now later (tasks.Between connection) reaches h = h
-task_later natives now later (tasks.Serving connection serving next) reaches h =
-    (h.0, under_way_later natives now later next serving.interp reaches h.1, h.2, h.3)
+task_later natives now later (tasks.Serving connection serving) reaches h =
+    (h.0, under_way_later natives now later serving.run.interp reaches h.1, h.2, h.3)
 
 pub ready_later : (natives : List (List ℕ)) (now later : State) (worker : code_worker.Worker) → Reaches now later → IsReady natives now worker → IsReady natives later worker
 ready_later natives now later worker reaches h =
@@ -127,11 +126,11 @@ pub all_later : (natives : List (List ℕ)) (now later : State) (workers : List 
 all_later natives now later [] reaches h = tt
 all_later natives now later (x ∷ xs) reaches h = (ready_later natives now later x reaches h.0, all_later natives now later xs reaches h.1)
 
-running_later : (natives : List (List ℕ)) (now later : State) (keeper : Keeper) (running : Option (Running × Next)) (scheduler : code_scheduler.Scheduler) → Reaches now later
+running_later : (natives : List (List ℕ)) (now later : State) (keeper : Keeper) (running : Option Running) (scheduler : code_scheduler.Scheduler) → Reaches now later
     → IsSchedulerReady natives now (record scheduler { keeper = keeper; running = running }) → IsSchedulerReady natives later (record scheduler { keeper = keeper; running = running })
 running_later natives now later keeper None scheduler reaches h = (keeps_later natives now later keeper reaches h.0, tt)
 running_later natives now later keeper (Some running) scheduler reaches h =
-    (keeps_later natives now later keeper reaches h.0, (under_way_later natives now later running.1 running.0.interp reaches h.1.0, h.1.1, h.1.2))
+    (keeps_later natives now later keeper reaches h.0, (under_way_later natives now later running.run.interp reaches h.1.0, h.1.1, h.1.2))
 
 pub scheduler_later : (natives : List (List ℕ)) (now later : State) (scheduler : code_scheduler.Scheduler) → Reaches now later
     → IsSchedulerReady natives now scheduler → IsSchedulerReady natives later scheduler

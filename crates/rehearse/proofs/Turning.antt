@@ -6,7 +6,7 @@ use Rattle.outside.specs.declared.question.Question.{Question}
 use Rattle.http_resp.specs.declared.response.Response.{Response}
 use Rattle.sched_core.specs.Allowed.{Allowed as AllowedSchedule}
 use Rattle.sched_core.specs.Entries.{State as ScheduleState}
-use Rattle.sched_core.specs.Steps.{Steps}
+use Rattle.sched_core.specs.Steps.{ScheduleSteps}
 use Rattle.sched_core.specs.declared.call.DueScript.{DueScript}
 use Rattle.sched_core.specs.declared.call.SchedCall.TheVariants as calls
 use Rattle.sched_core.specs.declared.call.SchedReply.{SchedReply}
@@ -16,7 +16,7 @@ use Rattle.blueprint.specs.Order.{reaches_self, reaches_later}
 use Rattle.blueprint.specs.States.{State, Allowed}
 use Rattle.server_host.specs.declared.edition.Edition.{Edition}
 use Rattle.tcl_eval.specs.declared.outcome.Outcome.{Outcome}
-use Rattle.ictl.specs.Falls.{Falls, number_of, first_number}
+use Rattle.ictl.specs.Falls.{IsEnd, Falls, number_of, first_number}
 use Rattle.ictl.specs.Interps.{Stands}
 use Rattle.ictl.specs.Laws.{OneResponse, IsSilent}
 use Rattle.ictl.specs.Main.{Progress}
@@ -32,31 +32,44 @@ use Rattle.rehearse.specs.Lines.{Line}
 use Rattle.rehearse.specs.Objects.{Setting, Answers, published_now}
 use Rattle.rehearse.specs.Runs.{script_progress}
 use Rattle.rehearse.specs.Schedules.{Agenda, due_scripts, script_line, ScheduleStep, takes, begins, answers, ends, ScheduleRuns, last, more}
-use Rattle.rehearse.specs.World.{Script, Scheduler, resting, begun_script, with_script_answer}
-use Rattle.rehearse.specs.Playing.{Tells, BeginsScript, Resumes, KeepsOn, IsUnderWay, IsResting, ShowsScript, ShowsRunning, ShowsScheduler, IsScriptReady, IsSchedulerReady, with_running, running_steps, last_steps, most_steps, Turned, ScheduleStepped}
+use Rattle.rehearse.specs.World.{OpenScript, Scheduler, resting, begun_script, with_script_answer}
+use Rattle.rehearse.specs.Playing.{Tells, ScriptBegan, Resumed, KeepsOn, IsUnderWay, IsResting, ShowsScript, ShowsRunning, ShowsScheduler, IsScriptReady, IsSchedulerReady, with_running, running_steps, last_steps, most_steps, Turned, ScheduleStepped}
 use Rattle.rehearse.proofs.Standing.{stands_asking, stands_over, runs_on, on_later, on_same, keeps_later, answers_reach}
 use Rattle.rehearse.proofs.Telling.{tells_none, tells_more}
 
+-- ---- what a run came to
+
+-- the same, where its run came to this
+abbrev pub at_next : Running → Next → Running
+at_next running next = record running { run = record { next = next; interp = running.run.interp } }
+
+-- the same, where its run went on to this
+abbrev pub gone_on : Running → Next → Interp → Running
+gone_on running next made = record running { run = record { next = next; interp = made } }
+
+next_is : (running : Running) (next : Next) → running.run.next ≡ next → running ≡ at_next running next
+next_is running next is = ap (at_next running) is
+
 -- ---- what the scheduler shows
 
-none_shown : (natives : List (List ℕ)) (code : Option (Running × Next)) (seen : Option Script) → code ≡ None → ShowsRunning natives code seen → seen ≡ None
+none_shown : (natives : List (List ℕ)) (code : Option Running) (seen : Option OpenScript) → code ≡ None → ShowsRunning natives code seen → seen ≡ None
 none_shown natives None None is h = refl
 none_shown natives None (Some script) is h = absurd h
 none_shown natives (Some running) seen is h = absurd (cc)
 
-shows_none : (natives : List (List ℕ)) (code : Option (Running × Next)) → code ≡ None → ShowsRunning natives code None
+shows_none : (natives : List (List ℕ)) (code : Option Running) → code ≡ None → ShowsRunning natives code None
 shows_none natives None is = tt
 shows_none natives (Some running) is = absurd (cc)
 
-ready_none : (natives : List (List ℕ)) (now : State) (code : Option (Running × Next)) → code ≡ None → MatchOption code (Unit {0}) (IsScriptReady natives now)
+ready_none : (natives : List (List ℕ)) (now : State) (code : Option Running) → code ≡ None → MatchOption code (Unit {0}) (IsScriptReady natives now)
 ready_none natives now None is = tt
 ready_none natives now (Some running) is = absurd (cc)
 
 -- a script under way is one of the world
-some_shown : (natives : List (List ℕ)) (running : Running) (next : Next) (seen : Option Script) → ShowsRunning natives (Some (running, next)) seen
-    → (script : Script) × (seen ≡ Some script) × ShowsScript natives running next script
-some_shown natives running next None h = absurd h
-some_shown natives running next (Some script) h = (script, refl, h)
+some_shown : (natives : List (List ℕ)) (running : Running) (seen : Option OpenScript) → ShowsRunning natives (Some running) seen
+    → (script : OpenScript) × (seen ≡ Some script) × ShowsScript natives running script
+some_shown natives running None h = absurd h
+some_shown natives running (Some script) h = (script, refl, h)
 
 drop_all : {A : Type 0} (n : ℕ) (xs : List A) → length xs ≤ n → drop n xs ≡ []
 drop_all zero [] le = refl
@@ -83,17 +96,17 @@ past_get (suc n) [] e = omega arith
 past_get (suc n) (y ∷ xs) e = omega (arith, past_get n xs e)
 
 -- a scheduler, by its parts
-scheduler_is : (seen : Scheduler) (waiting : List DueScript) (running : Option Script) → seen.waiting ≡ waiting → seen.running ≡ running → seen ≡ record { waiting = waiting; running = running }
+scheduler_is : (seen : Scheduler) (waiting : List DueScript) (running : Option OpenScript) → seen.waiting ≡ waiting → seen.running ≡ running → seen ≡ record { waiting = waiting; running = running }
 scheduler_is seen waiting running e f =
     ap (λ (w : List DueScript). let s : Scheduler = record { waiting = w; running = seen.running } in s) e
-    ∙ ap (λ (r : Option Script). let s : Scheduler = record { waiting = waiting; running = r } in s) f
+    ∙ ap (λ (r : Option OpenScript). let s : Scheduler = record { waiting = waiting; running = r } in s) f
 
 pub rests_shown : (natives : List (List ℕ)) (code : code_scheduler.Scheduler) (seen : Scheduler) → IsResting code → ShowsScheduler natives code seen → seen ≡ resting
 rests_shown natives code seen rest shows =
     scheduler_is seen [] None (shows.waiting ∙ drop_all code.begun code.due rest.1) (none_shown natives code.running seen.running rest.0 shows.running)
 
 -- what rests in the world rests in the program
-no_script : (natives : List (List ℕ)) (code : Option (Running × Next)) (seen : Option Script) → seen ≡ None → ShowsRunning natives code seen → code ≡ None
+no_script : (natives : List (List ℕ)) (code : Option Running) (seen : Option OpenScript) → seen ≡ None → ShowsRunning natives code seen → code ≡ None
 no_script natives None seen is h = refl
 no_script natives (Some running) None is h = absurd h
 no_script natives (Some running) (Some script) is h = absurd (cc)
@@ -115,7 +128,7 @@ busy_shown natives code seen busy shows e =
 
 pub takes_stepped : (setting : Setting) (code after : code_scheduler.Scheduler) (objects objects_after : Objects) (listing : Listing) (reply : SchedReply) (schedule : ScheduleState)
     → IsResting code → IsSchedulerReady setting.natives objects.blueprint code
-    → Steps objects.schedule (calls.Due setting.moment) reply schedule → AllowedSchedule schedule → reply ≢ replies.NoMemory
+    → ScheduleSteps objects.schedule (calls.Due setting.moment) reply schedule → AllowedSchedule schedule → reply ≢ replies.NoMemory
     → objects_after ≡ record objects { schedule = schedule }
     → after.due ≡ due_scripts reply → after.begun ≡ 0 → after.running ≡ None → after.keeper ≡ code.keeper
     → ScheduleStepped setting code objects listing after objects_after listing
@@ -153,25 +166,25 @@ takes_stepped setting code after objects objects_after listing reply schedule re
 
 -- ---- a script begins
 
-pub begun_shows : (names : List (List ℕ)) (setting : Setting) (objects : Objects) (due : DueScript) (running : Running) (next : Next) (made : Interp)
-    → made.blueprint.value ≡ published_now objects → BeginsScript names due.script setting.moment next running.interp made
+pub begun_shows : (names : List (List ℕ)) (setting : Setting) (objects : Objects) (due : DueScript) (running : Running) (made : Interp)
+    → made.blueprint.value ≡ published_now objects → ScriptBegan names due.script setting.moment running.run.next running.run.interp made
     → running.moment ≡ setting.moment → running.id ≡ due.id
-    → ShowsScript names running next (begun_script setting objects due)
-begun_shows names setting objects due running next made is begun moment id = record {
+    → ShowsScript names running (begun_script setting objects due)
+begun_shows names setting objects due running made is begun moment id = record {
   id = sym id;
   blueprint = sym (begun.blueprint ∙ is);
   moment = sym moment;
-  runs = (begun.runs.0, subst (λ (b : Edition). Stands names (runs.Script names b due.script setting.moment) next begun.runs.0 running.interp []) is begun.runs.1);
+  runs = (begun.runs.0, subst (λ (b : Edition). Stands names (runs.Script names b due.script setting.moment) running.run.next begun.runs.0 running.run.interp []) is begun.runs.1);
 }
 
-pub begins_stepped : (setting : Setting) (code after : code_scheduler.Scheduler) (objects : Objects) (listing : Listing) (due : DueScript) (running : Running) (next : Next)
+pub begins_stepped : (setting : Setting) (code after : code_scheduler.Scheduler) (objects : Objects) (listing : Listing) (due : DueScript) (running : Running)
     → code.running ≡ None → slice_get code.due code.begun ≡ Some due
-    → ShowsScript setting.natives running next (begun_script setting objects due)
-    → IsUnderWay setting.natives objects.blueprint next running.interp → Falls next running.interp first_number
+    → ShowsScript setting.natives running (begun_script setting objects due)
+    → IsUnderWay setting.natives objects.blueprint running.run.interp → Falls running.run.next running.run.interp first_number
     → KeepsOn setting.natives objects.blueprint after.keeper
-    → after.due ≡ code.due → after.begun ≡ code.begun + 1 → after.running ≡ Some (running, next)
+    → after.due ≡ code.due → after.begun ≡ code.begun + 1 → after.running ≡ Some running
     → ScheduleStepped setting code objects listing after objects listing
-begins_stepped setting code after objects listing due running next none found shows_it way falls keeps same begun under =
+begins_stepped setting code after objects listing due running none found shows_it way falls keeps same begun under =
     let rest : code.due ≡ code.due = refl in
     let front : drop code.begun code.due ≡ due ∷ drop (suc code.begun) code.due = drop_one code.begun code.due due found in
     let within : code.begun < length code.due = within_get code.begun code.due due found in
@@ -187,14 +200,14 @@ begins_stepped setting code after objects listing due running next none found sh
               refl refl,
           record {
             waiting = sym left;
-            running = subst (λ (r : Option (Running × Next)). ShowsRunning setting.natives r (Some (begun_script setting objects due))) (sym under) shows_it;
+            running = subst (λ (r : Option Running). ShowsRunning setting.natives r (Some (begun_script setting objects due))) (sym under) shows_it;
           },
           tells_none listing,
         );
         ready = (
           keeps,
-          subst (λ (r : Option (Running × Next)). MatchOption r (Unit {0}) (IsScriptReady setting.natives objects.blueprint)) (sym under)
-              (way, (begun_script setting objects due, shows_it), few_steps next running.interp falls),
+          subst (λ (r : Option Running). MatchOption r (Unit {0}) (IsScriptReady setting.natives objects.blueprint)) (sym under)
+              (way, (begun_script setting objects due, shows_it), few_steps running.run.next running.run.interp falls),
         );
         reaches = reaches_self objects.blueprint;
       },
@@ -215,39 +228,39 @@ fewer_last before after (Write reply) falls = omega arith
 fewer_last before after (Ended outcome) falls = omega arith
 fewer_last before after NoMemory falls = omega arith
 
-shows_on : (natives : List (List ℕ)) (running : Running) (question : Question) (answer : Answer) (next : Next) (made : Interp) (script : Script)
-    → Resumes natives answer next made running.interp
-    → ShowsScript natives running (Asks question) script → ShowsScript natives (record running { interp = made }) next (with_script_answer script answer)
+shows_on : (natives : List (List ℕ)) (running : Running) (question : Question) (answer : Answer) (next : Next) (made : Interp) (script : OpenScript)
+    → Resumed natives answer next made running.run.interp
+    → ShowsScript natives (at_next running (Asks question)) script → ShowsScript natives (gone_on running next made) (with_script_answer script answer)
 shows_on natives running question answer next made script on s = record {
   id = s.id;
   blueprint = s.blueprint ∙ sym on.blueprint;
   moment = s.moment;
-  runs = runs_on natives (script_progress natives script) question answer next on.runs.0 made running.interp script.answers on.runs.1 s.runs;
+  runs = runs_on natives (script_progress natives script) question answer next on.runs.0 made running.run.interp script.answers on.runs.1 s.runs;
 }
 
 pub answers_stepped : (setting : Setting) (code : code_scheduler.Scheduler) (objects objects_after : Objects) (listing : Listing)
     (running : Running) (question : Question) (answer : Answer) (next : Next) (made : Interp)
     → Allowed objects.blueprint
-    → IsSchedulerReady setting.natives objects.blueprint (with_running code (Some (running, Asks question)))
+    → IsSchedulerReady setting.natives objects.blueprint (with_running code (Some (at_next running (Asks question))))
     → Answers setting running.moment question objects answer objects_after
-    → Resumes setting.natives answer next made running.interp
-    → ScheduleStepped setting (with_running code (Some (running, Asks question))) objects listing
-    (with_running code (Some (record running { interp = made }, next))) objects_after listing
+    → Resumed setting.natives answer next made running.run.interp
+    → ScheduleStepped setting (with_running code (Some (at_next running (Asks question)))) objects listing
+    (with_running code (Some (gone_on running next made))) objects_after listing
 answers_stepped setting code objects objects_after listing running question answer next made ok ready given on =
     let reaches : Reaches objects.blueprint objects_after.blueprint = answers_reach setting running.moment question objects objects_after answer ok given in
-    let way : IsUnderWay setting.natives objects.blueprint (Asks question) running.interp = ready.1.0 in
-    let fewer : last_steps next made < number_of running.interp + 2 = fewer_last running.interp made next on.falls in
-    let few : last_steps (Asks question) running.interp ≤ most_steps = ready.1.2 in (
+    let way : IsUnderWay setting.natives objects.blueprint running.run.interp = ready.1.0 in
+    let fewer : last_steps next made < number_of running.run.interp + 2 = fewer_last running.run.interp made next on.falls in
+    let few : last_steps (Asks question) running.run.interp ≤ most_steps = ready.1.2 in (
       record {
         went = λ before shows.
-            let x : (script : Script) × (before.running ≡ Some script) × ShowsScript setting.natives running (Asks question) script =
-            some_shown setting.natives running (Asks question) before.running shows.running in
-            let script : Script = x.0 in
-            let s : ShowsScript setting.natives running (Asks question) script = x.2 in (
+            let x : (script : OpenScript) × (before.running ≡ Some script) × ShowsScript setting.natives (at_next running (Asks question)) script =
+            some_shown setting.natives (at_next running (Asks question)) before.running shows.running in
+            let script : OpenScript = x.0 in
+            let s : ShowsScript setting.natives (at_next running (Asks question)) script = x.2 in (
               [],
               record { waiting = before.waiting; running = Some (with_script_answer script answer) },
               answers script question answer objects_after x.1
-                  (stands_asking setting.natives (script_progress setting.natives script) question running.interp script.answers s.runs)
+                  (stands_asking setting.natives (script_progress setting.natives script) question running.run.interp script.answers s.runs)
                   (subst (λ (m : ℕ). Answers setting m question objects answer objects_after) (sym s.moment) given)
                   refl refl,
               record { waiting = shows.waiting; running = shows_on setting.natives running question answer next made script on s },
@@ -259,9 +272,8 @@ answers_stepped setting code objects objects_after listing running question answ
             record {
               sound = on.sound way.sound;
               on =
-                  on_same setting.natives objects_after.blueprint made running.interp on.blueprint
-                  (on_later setting.natives objects.blueprint objects_after.blueprint running.interp reaches way.on);
-              «at» = on.stands;
+                  on_same setting.natives objects_after.blueprint made running.run.interp on.blueprint
+                  (on_later setting.natives objects.blueprint objects_after.blueprint running.run.interp reaches way.on);
             },
             (with_script_answer ready.1.1.0 answer, shows_on setting.natives running question answer next made ready.1.1.0 on ready.1.1.1),
             omega (arith, fewer, few),
@@ -272,35 +284,51 @@ answers_stepped setting code objects objects_after listing running question answ
       λ busy. inr (refl, fewer),
     )
 
+-- the same of a script whose run stands at this question
+pub answers_from : (setting : Setting) (code : code_scheduler.Scheduler) (objects objects_after : Objects) (listing : Listing)
+    (running : Running) (question : Question) (answer : Answer) (next : Next) (made : Interp)
+    → running.run.next ≡ Asks question → Allowed objects.blueprint
+    → IsSchedulerReady setting.natives objects.blueprint (with_running code (Some running))
+    → Answers setting running.moment question objects answer objects_after
+    → Resumed setting.natives answer next made running.run.interp
+    → ScheduleStepped setting (with_running code (Some running)) objects listing
+    (with_running code (Some (gone_on running next made))) objects_after listing
+answers_from setting code objects objects_after listing running question answer next made at ok ready given on =
+    let same = next_is running (Asks question) at in
+    subst
+    (λ (r : Running). ScheduleStepped setting (with_running code (Some r)) objects listing (with_running code (Some (gone_on running next made))) objects_after listing)
+    (sym same)
+    (answers_stepped setting code objects objects_after listing running question answer next made ok
+    (subst (λ (r : Running). IsSchedulerReady setting.natives objects.blueprint (with_running code (Some r))) same ready) given on)
+
 -- ---- a script ends
 
 pub ends_stepped : (setting : Setting) (code after : code_scheduler.Scheduler) (objects : Objects) (listing listed : Listing) (running : Running) (outcome : Outcome) (epoch : ℕ)
-    → IsSchedulerReady setting.natives objects.blueprint (with_running code (Some (running, Ended outcome)))
-    → epoch ≡ running.interp.blueprint.value.epoch
+    → IsSchedulerReady setting.natives objects.blueprint (with_running code (Some (at_next running (Ended outcome))))
+    → IsEnd outcome → epoch ≡ running.run.interp.blueprint.value.epoch
     → Tells listing (script_line running.id epoch outcome ∷ []) listed
     → KeepsOn setting.natives objects.blueprint after.keeper
     → after.due ≡ code.due → after.begun ≡ code.begun → after.running ≡ None
-    → ScheduleStepped setting (with_running code (Some (running, Ended outcome))) objects listing after objects listed
-ends_stepped setting code after objects listing listed running outcome epoch ready epoch_is tells keeps due begun none =
-    let way : IsUnderWay setting.natives objects.blueprint (Ended outcome) running.interp = ready.1.0 in
+    → ScheduleStepped setting (with_running code (Some (at_next running (Ended outcome)))) objects listing after objects listed
+ends_stepped setting code after objects listing listed running outcome epoch ready is_end epoch_is tells keeps due begun none =
     let left : drop after.begun after.due ≡ drop code.begun code.due =
     ap (λ (n : ℕ). drop n after.due) begun ∙ ap (λ (l : List DueScript). drop code.begun l) due in
     let len : length after.due ≡ length code.due = ap length due in
     let rest : running_steps after.running ≡ 0 = ap running_steps none in (
       record {
         went = λ before shows.
-            let x : (script : Script) × (before.running ≡ Some script) × ShowsScript setting.natives running (Ended outcome) script =
-            some_shown setting.natives running (Ended outcome) before.running shows.running in
-            let script : Script = x.0 in
-            let s : ShowsScript setting.natives running (Ended outcome) script = x.2 in
+            let x : (script : OpenScript) × (before.running ≡ Some script) × ShowsScript setting.natives (at_next running (Ended outcome)) script =
+            some_shown setting.natives (at_next running (Ended outcome)) before.running shows.running in
+            let script : OpenScript = x.0 in
+            let s : ShowsScript setting.natives (at_next running (Ended outcome)) script = x.2 in
             let epoch_same : epoch ≡ script.blueprint.epoch = epoch_is ∙ ap (λ (b : Edition). b.epoch) (sym s.blueprint) in
             let line : script_line running.id epoch outcome ≡ script_line script.id script.blueprint.epoch outcome =
             ap (λ (i : ℕ). script_line i epoch outcome) (sym s.id) ∙ ap (λ (e : ℕ). script_line script.id e outcome) epoch_same in (
               script_line running.id epoch outcome ∷ [],
               record { waiting = before.waiting; running = None },
               ends script outcome x.1
-                  (stands_over setting.natives (script_progress setting.natives script) outcome running.interp script.answers s.runs)
-                  way.«at».0
+                  (stands_over setting.natives (script_progress setting.natives script) outcome running.run.interp script.answers s.runs)
+                  is_end
                   (ap (λ (l : Line). l ∷ []) line)
                   refl,
               record { waiting = shows.waiting ∙ sym left; running = shows_none setting.natives after.running none },
@@ -312,11 +340,26 @@ ends_stepped setting code after objects listing listed running outcome epoch rea
       λ busy. inr (omega (arith, begun, len), omega (arith, rest)),
     )
 
+-- the same of a script whose run has ended so
+pub ends_from : (setting : Setting) (code after : code_scheduler.Scheduler) (objects : Objects) (listing listed : Listing) (running : Running) (outcome : Outcome) (epoch : ℕ)
+    → running.run.next ≡ Ended outcome
+    → IsSchedulerReady setting.natives objects.blueprint (with_running code (Some running))
+    → IsEnd outcome → epoch ≡ running.run.interp.blueprint.value.epoch
+    → Tells listing (script_line running.id epoch outcome ∷ []) listed
+    → KeepsOn setting.natives objects.blueprint after.keeper
+    → after.due ≡ code.due → after.begun ≡ code.begun → after.running ≡ None
+    → ScheduleStepped setting (with_running code (Some running)) objects listing after objects listed
+ends_from setting code after objects listing listed running outcome epoch at ready is_end epoch_is tells keeps due begun none =
+    let same = next_is running (Ended outcome) at in
+    subst (λ (r : Running). ScheduleStepped setting (with_running code (Some r)) objects listing after objects listed) (sym same)
+    (ends_stepped setting code after objects listing listed running outcome epoch
+    (subst (λ (r : Running). IsSchedulerReady setting.natives objects.blueprint (with_running code (Some r))) same ready) is_end epoch_is tells keeps due begun none)
+
 -- a script comes to no response
-pub writes_nothing : OneResponse → (natives : List (List ℕ)) (now : State) (running : Running) (reply : Response) → IsScriptReady natives now (running, Write reply) → ⊥
-writes_nothing one natives now running reply ready =
-    let script : Script = ready.1.0 in
-    let s : ShowsScript natives running (Write reply) script = ready.1.1 in
+pub writes_nothing : OneResponse → (natives : List (List ℕ)) (now : State) (running : Running) (reply : Response) → running.run.next ≡ Write reply → IsScriptReady natives now running → ⊥
+writes_nothing one natives now running reply at ready =
+    let script : OpenScript = ready.1.0 in
+    let s : ShowsScript natives (at_next running (Write reply)) script = subst (λ (r : Running). ShowsScript natives r script) (next_is running (Write reply) at) ready.1.1 in
     subst IsSilent (s.runs.1 []) (one.script natives script.blueprint script.script script.moment (script.answers ++ []))
 
 -- ---- step after step
@@ -385,7 +428,7 @@ chain_over setting start code objects objects_after listing listed is chain = re
 abbrev pub steps_left : code_scheduler.Scheduler → ℕ
 steps_left code = (length code.due - code.begun) * (most_steps + 1) + running_steps code.running
 
-few_running : (natives : List (List ℕ)) (now : State) (running : Option (Running × Next)) → MatchOption running (Unit {0}) (IsScriptReady natives now) → running_steps running ≤ most_steps
+few_running : (natives : List (List ℕ)) (now : State) (running : Option Running) → MatchOption running (Unit {0}) (IsScriptReady natives now) → running_steps running ≤ most_steps
 few_running natives now None h = omega arith
 few_running natives now (Some running) h = h.2
 

@@ -8,7 +8,7 @@ use Rattle.rehearse.specs.declared.objects.Objects.{Objects}
 use Rattle.rehearse.specs.Lines.{Line, response, closed, ended, truncated, refused}
 use Rattle.rehearse.specs.Objects.{Setting, Answers}
 use Rattle.rehearse.specs.Runs.{Stand, asking, ready, over, request_stand}
-use Rattle.rehearse.specs.Steps.{Position, with_worker, bytes_of, refusal_bytes, end_lines, end_worker, behind, IsServing, Step, rests, answers, writes, ends, begins, closes, cuts, refuses, RunsUntilIdle, last, more}
+use Rattle.rehearse.specs.Steps.{Position, with_worker, reply_bytes, refusal_bytes, end_lines, end_worker, behind, IsServing, Step, rests, answers, writes, ends, begins, closes, cuts, refuses, RunsUntilIdle, last, more}
 use Rattle.rehearse.specs.World.{Open, Connection, Worker, idle, connected, peer, with_request, with_answer, with_written}
 use Rattle.rehearse.proofs.Answering.{answers_one, answers_keep}
 
@@ -21,7 +21,7 @@ Gives number setting before connection request (asking question) lines after =
     (answer : Answer) × (objects : Objects) × Answers setting request.moment question before.objects answer objects × (lines ≡ [])
     × (after ≡ record { worker = connected (with_answer connection request answer); objects = objects })
 Gives number setting before connection request (ready reply) lines after =
-    (lines ≡ response number (Some request.blueprint.epoch) reply.status (bytes_of connection request reply) ∷ [])
+    (lines ≡ response number (Some request.blueprint.epoch) reply.status (reply_bytes connection request reply) ∷ [])
     × (after ≡ with_worker before (connected (with_written connection request)))
 Gives number setting before connection request (over outcome) lines after =
     (lines ≡ end_lines number (behind connection request)) × (after ≡ with_worker before (end_worker connection (behind connection request)))

@@ -18,7 +18,7 @@ use Rattle.server_host.specs.declared.edition.Edition.{Edition}
 use Rattle.server_host.specs.Hosts.{HostState}
 use Rattle.tcl_eval.specs.State as evaluation
 use Rattle.tcl_eval.specs.declared.outcome.Outcome.{Outcome}
-use Rattle.ictl.specs.Falls.{Falls, number_of, first_number}
+use Rattle.ictl.specs.Falls.{IsEnd, StandsAt, Falls, number_of, first_number}
 use Rattle.ictl.specs.Interps.{IsSound, IsSameRun, UnlessNoMemory, Stands, ending_of, interp_state}
 use Rattle.ictl.specs.Laws.{OneResponse, IsSilent}
 use Rattle.ictl.specs.Main.{Progress, asks as at_question, writes as at_response, ends as at_end, Main}
@@ -42,10 +42,10 @@ use Rattle.rehearse.specs.declared.worker.Task.TheVariants as tasks
 use Rattle.rehearse.specs.declared.worker.Worker as code_worker
 use Rattle.rehearse.specs.Lines.{Line, response, closed, ended, truncated, refused}
 use Rattle.rehearse.specs.Objects.{Setting, Answers, published_now}
-use Rattle.rehearse.specs.Runs.{behind_response, by_written, request_progress}
-use Rattle.rehearse.specs.Steps.{Position, Step, rests, answers, writes, ends, begins, closes, cuts, refuses, bytes_of, refusal_bytes, end_lines, end_worker, behind, IsBetween, RunsUntilIdle, last, more}
+use Rattle.rehearse.specs.Runs.{by_written, request_progress}
+use Rattle.rehearse.specs.Steps.{Position, Step, rests, answers, writes, ends, begins, closes, cuts, refuses, reply_bytes, refusal_bytes, end_lines, end_worker, behind, IsBetween, RunsUntilIdle, last, more}
 use Rattle.rehearse.specs.World.{Open, Connection, Worker, idle, connected, peer, with_request, with_answer, with_written, without_request, begun_request}
-use Rattle.rehearse.specs.Playing.{Tells, BeginsRequest, Resumes, GoesBehind, KeepsOn, IsOn, IsUnderWay, RunsFor, input_of, ShowsConnection, Visits, Serves, ShowsTask, with_task, one_more, HasBegun, last_steps, first_steps, serving_steps, most_steps, IsTaskReady, IsReady, requests_left, task_steps, StepsDown, Went, Moved, Stepped}
+use Rattle.rehearse.specs.Playing.{Tells, RequestBegan, Resumed, WentBehind, KeepsOn, IsOn, IsUnderWay, RunsFor, input_of, ShowsConnection, Visits, Serves, ShowsTask, with_task, one_more, HasBegun, last_steps, first_steps, serving_steps, most_steps, IsTaskReady, IsReady, requests_left, task_steps, StepsDown, Went, Moved, Stepped}
 use Rattle.rehearse.proofs.Standing.{unless, stands_asking, stands_ready, stands_over, runs_on, runs_same, on_later, on_same, keeps_later, answers_reach}
 use Rattle.rehearse.proofs.Keeping.{keeps_none}
 use Rattle.rehearse.proofs.Telling.{tells_none, tells_more}
@@ -53,7 +53,7 @@ use Rattle.rehearse.proofs.Telling.{tells_none, tells_more}
 -- ---- a request, told otherwise
 
 same_behind : (natives : List (List ℕ)) (request : Open) (given : List Answer) (p : Progress)
-    → behind_response natives (record request { answers = given }) p ≡ behind_response natives request p
+    → by_written natives true (record request { answers = given }) p ≡ by_written natives true request p
 same_behind natives request given (at_question question state inside) = refl
 same_behind natives request given (at_response reply ending state inside left) = refl
 same_behind natives request given (at_end outcome state inside left) = refl
@@ -107,22 +107,35 @@ some_left : (written : Bool) (outcome : Outcome) (interp : Interp) → 0 < servi
 some_left true outcome interp = omega arith
 some_left false outcome interp = omega arith
 
+-- ---- what a run came to
+
+-- the same, where its run came to this
+abbrev pub at_next : UnderWay → Next → UnderWay
+at_next serving next = record serving { run = record { next = next; interp = serving.run.interp } }
+
+-- the same, where its run went on to this
+abbrev pub gone_on : UnderWay → Next → Interp → UnderWay
+gone_on serving next made = record serving { run = record { next = next; interp = made } }
+
+pub next_is : (serving : UnderWay) (next : Next) → serving.run.next ≡ next → serving ≡ at_next serving next
+next_is serving next is = ap (at_next serving) is
+
 -- ---- a request begins
 
-pub begun_serves : (names : List (List ℕ)) (setting : Setting) (objects : Objects) (request : Request) (serving : UnderWay) (next : Next) (made : Interp)
-    → made.blueprint.value ≡ published_now objects → BeginsRequest names request setting.moment next serving.interp made
+pub begun_serves : (names : List (List ℕ)) (setting : Setting) (objects : Objects) (request : Request) (serving : UnderWay) (made : Interp)
+    → made.blueprint.value ≡ published_now objects → RequestBegan names request setting.moment serving.run.next serving.run.interp made
     → serving.moment ≡ setting.moment → serving.asks_close ≡ asks_close request → serving.head_only ≡ is_head_only request → serving.written ≡ false
-    → Serves names serving next (begun_request setting objects request)
-begun_serves names setting objects request serving next made is begun moment asks head written = record {
+    → Serves names serving (begun_request setting objects request)
+begun_serves names setting objects request serving made is begun moment asks head written = record {
   blueprint = sym (begun.blueprint ∙ is);
   moment = sym moment;
   asks_close = sym asks;
   head_only = sym head;
   written = sym written;
   visits =
-      subst (λ (w : Bool). Visits names (begun_request setting objects request) serving.interp w next) (sym written)
-      (subst (λ (b : Edition). UnlessNoMemory next ((serving.interp.visit ≡ visit_of names b request) × (serving.interp.moment ≡ setting.moment))) is begun.visit);
-  runs = (begun.runs.0, subst (λ (b : Edition). Stands names (Main names b request setting.moment) next begun.runs.0 serving.interp []) is begun.runs.1);
+      subst (λ (w : Bool). Visits names (begun_request setting objects request) serving.run.interp w serving.run.next) (sym written)
+      (subst (λ (b : Edition). UnlessNoMemory serving.run.next ((serving.run.interp.visit ≡ visit_of names b request) × (serving.run.interp.moment ≡ setting.moment))) is begun.visit);
+  runs = (begun.runs.0, subst (λ (b : Edition). Stands names (Main names b request setting.moment) serving.run.next begun.runs.0 serving.run.interp []) is begun.runs.1);
 }
 
 -- The request of the input began: it is shown, and the connection has one request more.
@@ -141,19 +154,19 @@ begins_went setting worker after objects listing code between request used gets 
       requests = ap (λ (n : ℕ). n + 1) (seen.requests ∙ sym requests);
       answer_bytes = bytes ∙ seen.answer_bytes;
     } in
-    let serves : ShowsTask setting.natives (tasks.Serving (one_more between) begun.0 begun.1) (connected now) =
-    (now, begun_request setting objects request, (refl, refl), shown, begun.3) in (
+    let serves : ShowsTask setting.natives (tasks.Serving (one_more between) begun.0) (connected now) =
+    (now, begun_request setting objects request, (refl, refl), shown, begun.2) in (
       [],
       connected now,
       begins c request used shows.1 (subst (λ (t : List ℕ). Gets t peer (Whole request used)) (sym seen.input) gets) refl refl,
-      subst (λ (t : Task). ShowsTask setting.natives t (connected now)) (sym begun.2) serves,
+      subst (λ (t : Task). ShowsTask setting.natives t (connected now)) (sym begun.1) serves,
       tells_none listing,
     )
 
-pub begins_down : (worker after : code_worker.Worker) (code between : code_connection.Connection) (serving : UnderWay) (next : Next) → code.requests < most_requests
-    → between.requests ≡ code.requests → after.task ≡ tasks.Serving (one_more between) serving next
+pub begins_down : (worker after : code_worker.Worker) (code between : code_connection.Connection) (serving : UnderWay) → code.requests < most_requests
+    → between.requests ≡ code.requests → after.task ≡ tasks.Serving (one_more between) serving
     → StepsDown (with_task worker (tasks.Between code)) after
-begins_down worker after code between serving next few requests is = λ busy.
+begins_down worker after code between serving few requests is = λ busy.
     inl (subst (λ (t : Task). requests_left t < requests_left (tasks.Between code)) (sym is) (omega (arith, few, requests)))
 
 pub begins_stepped : (setting : Setting) (worker after : code_worker.Worker) (objects : Objects) (listing : Listing) (code between : code_connection.Connection) (request : Request) (used : ℕ)
@@ -170,25 +183,24 @@ begins_stepped setting worker after objects listing code between request used re
     number = number;
     reaches = reaches_self objects.blueprint;
   },
-  begins_down worker after code between begun.0 begun.1 ready.1 requests begun.2,
+  begins_down worker after code between begun.0 ready.1 requests begun.1,
 )
 
 -- the worker that began it is ready
-pub begun_ready : (natives : List (List ℕ)) (now : State) (worker : code_worker.Worker) (code : code_connection.Connection) (serving : UnderWay) (next : Next) (begun request : Open) (made : Interp)
-    → now.natives ≡ natives → worker.keeper.interp ≡ None → worker.task ≡ tasks.Serving (one_more code) serving next → code.requests < most_requests
-    → BeginsRequest natives begun.request begun.moment next serving.interp made → IsOn natives now made → serving.written ≡ false → Serves natives serving next request
+pub begun_ready : (natives : List (List ℕ)) (now : State) (worker : code_worker.Worker) (code : code_connection.Connection) (serving : UnderWay) (begun request : Open) (made : Interp)
+    → now.natives ≡ natives → worker.keeper.interp ≡ None → worker.task ≡ tasks.Serving (one_more code) serving → code.requests < most_requests
+    → RequestBegan natives begun.request begun.moment serving.run.next serving.run.interp made → IsOn natives now made → serving.written ≡ false → Serves natives serving request
     → IsReady natives now worker
-begun_ready natives now worker code serving next begun request made same none task few started on written serves = (
+begun_ready natives now worker code serving begun request made same none task few started on written serves = (
   keeps_none natives now worker.keeper none same,
   subst (λ (t : Task). IsTaskReady natives now t) (sym task) (
     omega (arith, few),
     record {
       sound = started.sound;
-      on = on_same natives now serving.interp made started.blueprint on;
-      «at» = started.stands;
+      on = on_same natives now serving.run.interp made started.blueprint on;
     },
     (request, serves),
-    subst (λ (w : Bool). serving_steps w next serving.interp ≤ most_steps) (sym written) (few_first serving.interp next started.falls),
+    subst (λ (w : Bool). serving_steps w serving.run.next serving.run.interp ≤ most_steps) (sym written) (few_first serving.run.interp serving.run.next started.falls),
   ),
 )
 
@@ -296,20 +308,20 @@ visits_on natives request true question next new old same v = tt
 visits_on natives request false question next new old same v = unless next (same.visit ∙ v.0, same.moment ∙ v.1)
 
 serves_on : (natives : List (List ℕ)) (serving : UnderWay) (question : Question) (answer : Answer) (next : Next) (made : Interp) (request : Open)
-    → Resumes natives answer next made serving.interp
-    → Serves natives serving (Asks question) request
-    → Serves natives (record serving { interp = made }) next (record request { answers = request.answers ++ answer ∷ [] })
+    → Resumed natives answer next made serving.run.interp
+    → Serves natives (at_next serving (Asks question)) request
+    → Serves natives (gone_on serving next made) (record request { answers = request.answers ++ answer ∷ [] })
 serves_on natives serving question answer next made request on s = record {
   blueprint = s.blueprint ∙ sym on.blueprint;
   moment = s.moment;
   asks_close = s.asks_close;
   head_only = s.head_only;
   written = s.written;
-  visits = visits_on natives request serving.written question next made serving.interp on.same s.visits;
+  visits = visits_on natives request serving.written question next made serving.run.interp on.same s.visits;
   runs =
       runs_same natives (request_progress natives request) (request_progress natives (record request { answers = request.answers ++ answer ∷ [] })) next made (request.answers ++ answer ∷ [])
       (same_progress natives request (request.answers ++ answer ∷ []))
-      (runs_on natives (request_progress natives request) question answer next on.runs.0 made serving.interp request.answers on.runs.1 s.runs);
+      (runs_on natives (request_progress natives request) question answer next on.runs.0 made serving.run.interp request.answers on.runs.1 s.runs);
 }
 
 -- the count of the program stands still where counters stop
@@ -319,28 +331,28 @@ counted_on code added count bytes e f = omega (arith, e, f)
 pub answers_stepped : (setting : Setting) (worker : code_worker.Worker) (objects objects_after : Objects) (listing : Listing)
     (code : code_connection.Connection) (serving : UnderWay) (question : Question) (answer : Answer) (next : Next) (made : Interp) (count : ℕ)
     → Allowed objects.blueprint
-    → IsReady setting.natives objects.blueprint (with_task worker (tasks.Serving code serving (Asks question)))
+    → IsReady setting.natives objects.blueprint (with_task worker (tasks.Serving code (at_next serving (Asks question))))
     → Answers setting serving.moment question objects answer objects_after
     → count ≡ counted code.answer_bytes answer
-    → Resumes setting.natives answer next made serving.interp
-    → Stepped setting (with_task worker (tasks.Serving code serving (Asks question))) objects listing
-    (with_task worker (tasks.Serving (record code { answer_bytes = count }) (record serving { interp = made }) next)) objects_after listing
+    → Resumed setting.natives answer next made serving.run.interp
+    → Stepped setting (with_task worker (tasks.Serving code (at_next serving (Asks question)))) objects listing
+    (with_task worker (tasks.Serving (record code { answer_bytes = count }) (gone_on serving next made))) objects_after listing
 answers_stepped setting worker objects objects_after listing code serving question answer next made count ok ready given is on =
     let reaches : Reaches objects.blueprint objects_after.blueprint = answers_reach setting serving.moment question objects objects_after answer ok given in
-    let fewer : serving_steps serving.written next made < serving_steps serving.written (Asks question) serving.interp = fewer_answered serving.written question serving.interp made next on.falls in
-    let few : serving_steps serving.written (Asks question) serving.interp ≤ most_steps = ready.1.3 in
-    let way : IsUnderWay setting.natives objects.blueprint (Asks question) serving.interp = ready.1.1 in
+    let fewer : serving_steps serving.written next made < serving_steps serving.written (Asks question) serving.run.interp = fewer_answered serving.written question serving.run.interp made next on.falls in
+    let few : serving_steps serving.written (Asks question) serving.run.interp ≤ most_steps = ready.1.3 in
+    let way : IsUnderWay setting.natives objects.blueprint serving.run.interp = ready.1.1 in
     let later : Open = record ready.1.2.0 { answers = ready.1.2.0.answers ++ answer ∷ [] } in (
       record {
         went = λ before shows.
             let c : Connection = shows.0 in
             let r : Open = shows.1 in
             let seen : ShowsConnection code c = shows.3 in
-            let s : Serves setting.natives serving (Asks question) r = shows.4 in (
+            let s : Serves setting.natives (at_next serving (Asks question)) r = shows.4 in (
               [],
               connected (with_answer c r answer),
               answers c r question answer objects_after shows.2
-                  (stands_asking setting.natives (request_progress setting.natives r) question serving.interp r.answers s.runs)
+                  (stands_asking setting.natives (request_progress setting.natives r) question serving.run.interp r.answers s.runs)
                   (subst (λ (m : ℕ). Answers setting m question objects answer objects_after) (sym s.moment) given)
                   refl refl,
               (
@@ -363,9 +375,8 @@ answers_stepped setting worker objects objects_after listing code serving questi
             record {
               sound = on.sound way.sound;
               on =
-                  on_same setting.natives objects_after.blueprint made serving.interp on.blueprint
-                  (on_later setting.natives objects.blueprint objects_after.blueprint serving.interp reaches way.on);
-              «at» = on.stands;
+                  on_same setting.natives objects_after.blueprint made serving.run.interp on.blueprint
+                  (on_later setting.natives objects.blueprint objects_after.blueprint serving.run.interp reaches way.on);
             },
             (later, serves_on setting.natives serving question answer next made ready.1.2.0 on ready.1.2.1),
             omega (arith, fewer, few),
@@ -377,13 +388,32 @@ answers_stepped setting worker objects objects_after listing code serving questi
       λ busy. inr (refl, fewer),
     )
 
+-- the same of what it serves, where its run stands at this question
+pub answers_from : (setting : Setting) (worker : code_worker.Worker) (objects objects_after : Objects) (listing : Listing)
+    (code : code_connection.Connection) (serving : UnderWay) (question : Question) (answer : Answer) (next : Next) (made : Interp) (count : ℕ)
+    → serving.run.next ≡ Asks question → Allowed objects.blueprint
+    → IsReady setting.natives objects.blueprint (with_task worker (tasks.Serving code serving))
+    → Answers setting serving.moment question objects answer objects_after
+    → count ≡ counted code.answer_bytes answer
+    → Resumed setting.natives answer next made serving.run.interp
+    → Stepped setting (with_task worker (tasks.Serving code serving)) objects listing
+    (with_task worker (tasks.Serving (record code { answer_bytes = count }) (gone_on serving next made))) objects_after listing
+answers_from setting worker objects objects_after listing code serving question answer next made count at ok ready given is on =
+    let same = next_is serving (Asks question) at in
+    subst
+    (λ (s : UnderWay). Stepped setting (with_task worker (tasks.Serving code s)) objects listing
+    (with_task worker (tasks.Serving (record code { answer_bytes = count }) (gone_on serving next made))) objects_after listing)
+    (sym same)
+    (answers_stepped setting worker objects objects_after listing code serving question answer next made count ok
+    (subst (λ (s : UnderWay). IsReady setting.natives objects.blueprint (with_task worker (tasks.Serving code s))) same ready) given is on)
+
 -- ---- a response is written
 
 not_silent : (p : Progress) (reply : Response) (ending : Ending) (state : evaluation.State HostState) (inside : ℕ) (left : List Answer)
     → IsSilent p → ¬ (p ≡ at_response reply ending state inside left)
 not_silent p reply ending state inside left silent e = subst IsSilent e silent
 
-behind_silent : OneResponse → (natives : List (List ℕ)) (request : Open) (p : Progress) → IsSilent (behind_response natives request p)
+behind_silent : OneResponse → (natives : List (List ℕ)) (request : Open) (p : Progress) → IsSilent (by_written natives true request p)
 behind_silent one natives request (at_question question state inside) = tt
 behind_silent one natives request (at_response reply ending state inside left) =
     one.after natives request.blueprint request.moment true request.request ending state inside left
@@ -393,13 +423,13 @@ written_first : OneResponse → (natives : List (List ℕ)) (written : Bool) (re
     → by_written natives written request p ≡ at_response reply ending state inside left → written ≡ false
 written_first one natives false request p reply ending state inside left e = refl
 written_first one natives true request p reply ending state inside left e =
-    absurd (not_silent (behind_response natives request p) reply ending state inside left (behind_silent one natives request p) e)
+    absurd (not_silent (by_written natives true request p) reply ending state inside left (behind_silent one natives request p) e)
 
 -- a response that stands ready wasn't written
-pub not_written : OneResponse → (natives : List (List ℕ)) (serving : UnderWay) (reply : Response) (request : Open) → Serves natives serving (Write reply) request → serving.written ≡ false
+pub not_written : OneResponse → (natives : List (List ℕ)) (serving : UnderWay) (reply : Response) (request : Open) → Serves natives (at_next serving (Write reply)) request → serving.written ≡ false
 not_written one natives serving reply request s =
     sym s.written
-    ∙ written_first one natives request.written request (Main natives request.blueprint request.request request.moment (request.answers ++ [])) reply (ending_of serving.interp.task) (interp_state serving.interp) s.runs.0 []
+    ∙ written_first one natives request.written request (Main natives request.blueprint request.request request.moment (request.answers ++ [])) reply (ending_of serving.run.interp.task) (interp_state serving.run.interp) s.runs.0 []
     (s.runs.1 [])
 
 main_progress : (natives : List (List ℕ)) (written : Bool) (request : Open) (p q : Progress) → written ≡ false → by_written natives written request p ≡ q → p ≡ q
@@ -415,7 +445,7 @@ goes_behind : (natives : List (List ℕ)) (request : Open) (reply : Response) (i
 goes_behind natives request reply interp given first blueprint moment h =
     let main : Main natives request.blueprint request.request request.moment (request.answers ++ given) ≡ at_response reply (ending_of interp.task) (interp_state interp) h.0 given =
     main_progress natives request.written request (Main natives request.blueprint request.request request.moment (request.answers ++ given)) (at_response reply (ending_of interp.task) (interp_state interp) h.0 given) first (h.1 given) in
-    ap (λ (p : Progress). behind_response natives (record request { written = true }) p) main
+    ap (λ (p : Progress). by_written natives true (record request { written = true }) p) main
     ∙ ap (λ (b : Edition). runs.behind natives b request.moment true request.request (ending_of interp.task) (interp_state interp) h.0 given) blueprint
     ∙ ap (λ (m : ℕ). runs.behind natives interp.blueprint.value m true request.request (ending_of interp.task) (interp_state interp) h.0 given) (sym moment)
 
@@ -438,14 +468,14 @@ visits_first natives request interp false reply is v = v
 visits_first natives request interp true reply is v = absurd (cc)
 
 serves_behind : OneResponse → (natives : List (List ℕ)) (serving : UnderWay) (reply : Response) (next : Next) (made : Interp) (request : Open)
-    → IsSound natives serving.interp → GoesBehind natives next made serving.interp
-    → Serves natives serving (Write reply) request
-    → Serves natives (record serving { interp = made; written = true }) next (record request { written = true })
+    → IsSound natives serving.run.interp → WentBehind natives next made serving.run.interp
+    → Serves natives (at_next serving (Write reply)) request
+    → Serves natives (gone_on (record serving { written = true }) next made) (record request { written = true })
 serves_behind one natives serving reply next made request sound goes s =
     let first : serving.written ≡ false = not_written one natives serving reply request s in
-    let visit : (serving.interp.visit ≡ visit_of natives request.blueprint request.request) × (serving.interp.moment ≡ request.moment) =
-    visits_first natives request serving.interp serving.written reply first s.visits in
-    let here : serving.interp.visit ≡ visit_of natives serving.interp.blueprint.value request.request =
+    let visit : (serving.run.interp.visit ≡ visit_of natives request.blueprint request.request) × (serving.run.interp.moment ≡ request.moment) =
+    visits_first natives request serving.run.interp serving.written reply first s.visits in
+    let here : serving.run.interp.visit ≡ visit_of natives serving.run.interp.blueprint.value request.request =
     visit.0 ∙ ap (λ (b : Edition). visit_of natives b request.request) s.blueprint in
     let x = goes.runs request.request sound here in
     record {
@@ -455,7 +485,7 @@ serves_behind one natives serving reply next made request sound goes s =
       head_only = s.head_only;
       written = refl;
       visits = tt;
-      runs = runs_behind natives request reply serving.interp made next x.0 (s.written ∙ first) s.blueprint visit.1 s.runs x.1;
+      runs = runs_behind natives request reply serving.run.interp made next x.0 (s.written ∙ first) s.blueprint visit.1 s.runs x.1;
     }
 
 -- a count that stands still tells the same of the bound
@@ -469,10 +499,10 @@ spent_same requests counted bytes is =
     lt_capped (nat_lt connections.most_answered bytes) connections.most_answered bytes (omega arith) refl in
     ap (λ (b : Bool). nat_le most_requests requests || b) (ap (λ (n : ℕ). nat_lt connections.most_answered n) is ∙ same)
 
-same_bytes : (natives : List (List ℕ)) (code : code_connection.Connection) (c : Connection) (serving : UnderWay) (next : Next) (request : Open) (reply : Response)
-    → ShowsConnection code c → Serves natives serving next request
-    → response_bytes reply serving.moment serving.head_only (connections.closes serving.asks_close code.requests code.answer_bytes) ≡ bytes_of c request reply
-same_bytes natives code c serving next request reply seen s =
+same_bytes : (natives : List (List ℕ)) (code : code_connection.Connection) (c : Connection) (serving : UnderWay) (request : Open) (reply : Response)
+    → ShowsConnection code c → Serves natives serving request
+    → response_bytes reply serving.moment serving.head_only (connections.closes serving.asks_close code.requests code.answer_bytes) ≡ reply_bytes c request reply
+same_bytes natives code c serving request reply seen s =
     ap (λ (m : ℕ). response_bytes reply m serving.head_only (connections.closes serving.asks_close code.requests code.answer_bytes)) (sym s.moment)
     ∙ ap (λ (h : Bool). response_bytes reply request.moment h (connections.closes serving.asks_close code.requests code.answer_bytes)) (sym s.head_only)
     ∙ ap (λ (a : Bool). response_bytes reply request.moment (is_head_only request.request) (connections.closes a code.requests code.answer_bytes)) (sym s.asks_close)
@@ -481,32 +511,32 @@ same_bytes natives code c serving next request reply seen s =
 
 pub writes_stepped : OneResponse → (setting : Setting) (worker : code_worker.Worker) (objects : Objects) (listing listed : Listing)
     (code : code_connection.Connection) (serving : UnderWay) (reply : Response) (next : Next) (made : Interp) (epoch : ℕ) (bytes : List ℕ)
-    → IsReady setting.natives objects.blueprint (with_task worker (tasks.Serving code serving (Write reply)))
-    → epoch ≡ serving.interp.blueprint.value.epoch
+    → IsReady setting.natives objects.blueprint (with_task worker (tasks.Serving code (at_next serving (Write reply))))
+    → epoch ≡ serving.run.interp.blueprint.value.epoch
     → bytes ≡ response_bytes reply serving.moment serving.head_only (connections.closes serving.asks_close code.requests code.answer_bytes)
     → Tells listing (response worker.number (Some epoch) reply.status bytes ∷ []) listed
-    → GoesBehind setting.natives next made serving.interp
-    → Stepped setting (with_task worker (tasks.Serving code serving (Write reply))) objects listing
-    (with_task worker (tasks.Serving code (record serving { interp = made; written = true }) next)) objects listed
+    → WentBehind setting.natives next made serving.run.interp
+    → Stepped setting (with_task worker (tasks.Serving code (at_next serving (Write reply)))) objects listing
+    (with_task worker (tasks.Serving code (gone_on (record serving { written = true }) next made))) objects listed
 writes_stepped one setting worker objects listing listed code serving reply next made epoch bytes ready epoch_is bytes_are tells goes =
-    let way : IsUnderWay setting.natives objects.blueprint (Write reply) serving.interp = ready.1.1 in
+    let way : IsUnderWay setting.natives objects.blueprint serving.run.interp = ready.1.1 in
     let first : serving.written ≡ false = not_written one setting.natives serving reply ready.1.2.0 ready.1.2.1 in
     let fewer : last_steps next made < first_number + 3 = few_last made next goes.falls in
-    let before : serving_steps serving.written (Write reply) serving.interp ≡ first_number + 3 = ap (λ (w : Bool). serving_steps w (Write reply) serving.interp) first in (
+    let before : serving_steps serving.written (Write reply) serving.run.interp ≡ first_number + 3 = ap (λ (w : Bool). serving_steps w (Write reply) serving.run.interp) first in (
       record {
         went = λ before shows.
             let c : Connection = shows.0 in
             let r : Open = shows.1 in
             let seen : ShowsConnection code c = shows.3 in
-            let s : Serves setting.natives serving (Write reply) r = shows.4 in
+            let s : Serves setting.natives (at_next serving (Write reply)) r = shows.4 in
             let epoch_same : epoch ≡ r.blueprint.epoch = epoch_is ∙ ap (λ (b : Edition). b.epoch) (sym s.blueprint) in
-            let line : response worker.number (Some epoch) reply.status bytes ≡ response worker.number (Some r.blueprint.epoch) reply.status (bytes_of c r reply) =
+            let line : response worker.number (Some epoch) reply.status bytes ≡ response worker.number (Some r.blueprint.epoch) reply.status (reply_bytes c r reply) =
             ap (λ (e : ℕ). response worker.number (Some e) reply.status bytes) epoch_same
-            ∙ ap (λ (b : List ℕ). response worker.number (Some r.blueprint.epoch) reply.status b) (bytes_are ∙ same_bytes setting.natives code c serving (Write reply) r reply seen s) in (
+            ∙ ap (λ (b : List ℕ). response worker.number (Some r.blueprint.epoch) reply.status b) (bytes_are ∙ same_bytes setting.natives code c (at_next serving (Write reply)) r reply seen s) in (
               response worker.number (Some epoch) reply.status bytes ∷ [],
               connected (with_written c r),
               writes c r reply shows.2
-                  (stands_ready setting.natives (request_progress setting.natives r) reply serving.interp r.answers s.runs)
+                  (stands_ready setting.natives (request_progress setting.natives r) reply serving.run.interp r.answers s.runs)
                   (ap (λ (l : Line). l ∷ []) line)
                   refl,
               (
@@ -524,8 +554,7 @@ writes_stepped one setting worker objects listing listed code serving reply next
             ready.1.0,
             record {
               sound = goes.sound way.sound;
-              on = on_same setting.natives objects.blueprint made serving.interp goes.blueprint way.on;
-              «at» = goes.stands;
+              on = on_same setting.natives objects.blueprint made serving.run.interp goes.blueprint way.on;
             },
             (record ready.1.2.0 { written = true }, serves_behind one setting.natives serving reply next made ready.1.2.0 way.sound goes ready.1.2.1),
             omega (arith, fewer),
@@ -537,12 +566,32 @@ writes_stepped one setting worker objects listing listed code serving reply next
       λ busy. inr (refl, omega (arith, fewer, before)),
     )
 
+-- the same of what it serves, where its run stands at this response
+pub writes_from : OneResponse → (setting : Setting) (worker : code_worker.Worker) (objects : Objects) (listing listed : Listing)
+    (code : code_connection.Connection) (serving : UnderWay) (reply : Response) (next : Next) (made : Interp) (epoch : ℕ) (bytes : List ℕ)
+    → serving.run.next ≡ Write reply
+    → IsReady setting.natives objects.blueprint (with_task worker (tasks.Serving code serving))
+    → epoch ≡ serving.run.interp.blueprint.value.epoch
+    → bytes ≡ response_bytes reply serving.moment serving.head_only (connections.closes serving.asks_close code.requests code.answer_bytes)
+    → Tells listing (response worker.number (Some epoch) reply.status bytes ∷ []) listed
+    → WentBehind setting.natives next made serving.run.interp
+    → Stepped setting (with_task worker (tasks.Serving code serving)) objects listing
+    (with_task worker (tasks.Serving code (gone_on (record serving { written = true }) next made))) objects listed
+writes_from one setting worker objects listing listed code serving reply next made epoch bytes at ready epoch_is bytes_are tells goes =
+    let same = next_is serving (Write reply) at in
+    subst
+    (λ (s : UnderWay). Stepped setting (with_task worker (tasks.Serving code s)) objects listing
+    (with_task worker (tasks.Serving code (gone_on (record serving { written = true }) next made))) objects listed)
+    (sym same)
+    (writes_stepped one setting worker objects listing listed code serving reply next made epoch bytes
+    (subst (λ (s : UnderWay). IsReady setting.natives objects.blueprint (with_task worker (tasks.Serving code s))) same ready) epoch_is bytes_are tells goes)
+
 -- ---- a request ends
 
-same_behind_it : (natives : List (List ℕ)) (code : code_connection.Connection) (c : Connection) (serving : UnderWay) (next : Next) (request : Open)
-    → ShowsConnection code c → Serves natives serving next request
+same_behind_it : (natives : List (List ℕ)) (code : code_connection.Connection) (c : Connection) (serving : UnderWay) (request : Open)
+    → ShowsConnection code c → Serves natives serving request
     → after_request serving.asks_close code.requests code.answer_bytes ≡ behind c request
-same_behind_it natives code c serving next request seen s =
+same_behind_it natives code c serving request seen s =
     ap (λ (a : Bool). after_request a code.requests code.answer_bytes) (sym s.asks_close)
     ∙ ap (λ (n : ℕ). after_request (asks_close request.request) n code.answer_bytes) (sym seen.requests)
     ∙ ap (λ (b : Bool). if asks_close request.request then Closing else if b then Spent else GoesOn) (spent_same c.requests code.answer_bytes c.answer_bytes seen.answer_bytes)
@@ -580,39 +629,55 @@ down_end code GoesOn left steps is some = inr (sym is, some)
 
 pub ends_stepped : (setting : Setting) (worker after : code_worker.Worker) (objects : Objects) (listing listed : Listing)
     (code : code_connection.Connection) (serving : UnderWay) (outcome : Outcome) (what : Behind)
-    → IsReady setting.natives objects.blueprint (with_task worker (tasks.Serving code serving (Ended outcome)))
-    → what ≡ after_request serving.asks_close code.requests code.answer_bytes
+    → IsReady setting.natives objects.blueprint (with_task worker (tasks.Serving code (at_next serving (Ended outcome))))
+    → IsEnd outcome → what ≡ after_request serving.asks_close code.requests code.answer_bytes
     → KeepsOn setting.natives objects.blueprint after.keeper
     → after.number ≡ worker.number → after.task ≡ end_task code what
     → Tells listing (end_lines worker.number what) listed
-    → Stepped setting (with_task worker (tasks.Serving code serving (Ended outcome))) objects listing after objects listed
-ends_stepped setting worker after objects listing listed code serving outcome what ready what_is keeps number task tells =
-    let way : IsUnderWay setting.natives objects.blueprint (Ended outcome) serving.interp = ready.1.1 in (
-      record {
-        went = λ before shows.
-            let c : Connection = shows.0 in
-            let r : Open = shows.1 in
-            let seen : ShowsConnection code c = shows.3 in
-            let s : Serves setting.natives serving (Ended outcome) r = shows.4 in
-            let same : what ≡ behind c r = what_is ∙ same_behind_it setting.natives code c serving (Ended outcome) r seen s in (
-              end_lines worker.number what,
-              end_worker c what,
-              ends c r outcome shows.2
-                  (stands_over setting.natives (request_progress setting.natives r) outcome serving.interp r.answers s.runs)
-                  way.«at».0
-                  (ap (end_lines worker.number) same)
-                  (ap (λ (b : Behind). let p : Position = record { worker = end_worker c b; objects = objects } in p) same),
-              subst (λ (t : Task). ShowsTask setting.natives t (end_worker c what)) (sym task) (shows_end setting.natives code c what seen),
-              tells,
-            );
-        ready = (keeps, subst (λ (t : Task). IsTaskReady setting.natives objects.blueprint t) (sym task) (ready_end setting.natives objects.blueprint code what serving.asks_close what_is));
-        number = number;
-        reaches = reaches_self objects.blueprint;
-      },
-      λ busy.
-          subst (λ (t : Task). (requests_left t < (most_requests - code.requests) + 1) ⊎ ((requests_left t ≡ (most_requests - code.requests) + 1) × (task_steps t < serving_steps serving.written (Ended outcome) serving.interp))) (sym task)
-          (down_end code what ((most_requests - code.requests) + 1) (serving_steps serving.written (Ended outcome) serving.interp) refl (some_left serving.written outcome serving.interp)),
-    )
+    → Stepped setting (with_task worker (tasks.Serving code (at_next serving (Ended outcome)))) objects listing after objects listed
+ends_stepped setting worker after objects listing listed code serving outcome what ready is_end what_is keeps number task tells = (
+  record {
+    went = λ before shows.
+        let c : Connection = shows.0 in
+        let r : Open = shows.1 in
+        let seen : ShowsConnection code c = shows.3 in
+        let s : Serves setting.natives (at_next serving (Ended outcome)) r = shows.4 in
+        let same : what ≡ behind c r = what_is ∙ same_behind_it setting.natives code c (at_next serving (Ended outcome)) r seen s in (
+          end_lines worker.number what,
+          end_worker c what,
+          ends c r outcome shows.2
+              (stands_over setting.natives (request_progress setting.natives r) outcome serving.run.interp r.answers s.runs)
+              is_end
+              (ap (end_lines worker.number) same)
+              (ap (λ (b : Behind). let p : Position = record { worker = end_worker c b; objects = objects } in p) same),
+          subst (λ (t : Task). ShowsTask setting.natives t (end_worker c what)) (sym task) (shows_end setting.natives code c what seen),
+          tells,
+        );
+    ready = (keeps, subst (λ (t : Task). IsTaskReady setting.natives objects.blueprint t) (sym task) (ready_end setting.natives objects.blueprint code what serving.asks_close what_is));
+    number = number;
+    reaches = reaches_self objects.blueprint;
+  },
+  λ busy.
+      subst (λ (t : Task). (requests_left t < (most_requests - code.requests) + 1) ⊎ ((requests_left t ≡ (most_requests - code.requests) + 1) × (task_steps t < serving_steps serving.written (Ended outcome) serving.run.interp))) (sym task)
+      (down_end code what ((most_requests - code.requests) + 1) (serving_steps serving.written (Ended outcome) serving.run.interp) refl (some_left serving.written outcome serving.run.interp)),
+)
+
+-- the same of what it serves, where its run has ended so
+pub ends_from : (setting : Setting) (worker after : code_worker.Worker) (objects : Objects) (listing listed : Listing)
+    (code : code_connection.Connection) (serving : UnderWay) (outcome : Outcome) (what : Behind)
+    → serving.run.next ≡ Ended outcome
+    → IsReady setting.natives objects.blueprint (with_task worker (tasks.Serving code serving))
+    → StandsAt serving.run.next serving.run.interp → what ≡ after_request serving.asks_close code.requests code.answer_bytes
+    → KeepsOn setting.natives objects.blueprint after.keeper
+    → after.number ≡ worker.number → after.task ≡ end_task code what
+    → Tells listing (end_lines worker.number what) listed
+    → Stepped setting (with_task worker (tasks.Serving code serving)) objects listing after objects listed
+ends_from setting worker after objects listing listed code serving outcome what at ready stands what_is keeps number task tells =
+    let same = next_is serving (Ended outcome) at in
+    let ended : StandsAt (Ended outcome) serving.run.interp = subst (λ (n : Next). StandsAt n serving.run.interp) at stands in
+    subst (λ (s : UnderWay). Stepped setting (with_task worker (tasks.Serving code s)) objects listing after objects listed) (sym same)
+    (ends_stepped setting worker after objects listing listed code serving outcome what
+    (subst (λ (s : UnderWay). IsReady setting.natives objects.blueprint (with_task worker (tasks.Serving code s))) same ready) ended.0 what_is keeps number task tells)
 
 -- a step, from another place that is the same
 pub stepped_from : (setting : Setting) (worker other after : code_worker.Worker) (objects objects_after : Objects) (listing listed : Listing) → other ≡ worker
@@ -642,7 +707,7 @@ chain_ends (further {others = second} chain busy step) is = chain_runs second ch
 shows_busy : (natives : List (List ℕ)) (task : Task) (seen : Worker) → ¬ (task ≡ tasks.Idle) → ShowsTask natives task seen → ¬ (seen ≡ idle)
 shows_busy natives tasks.Idle seen busy shows e = busy refl
 shows_busy natives (tasks.Between code) seen busy shows e = let f : connected shows.0 ≡ idle = sym shows.1.0 ∙ e in cc
-shows_busy natives (tasks.Serving code serving next) seen busy shows e = let f : connected shows.0 ≡ idle = sym shows.2.0 ∙ e in cc
+shows_busy natives (tasks.Serving code serving) seen busy shows e = let f : connected shows.0 ≡ idle = sym shows.2.0 ∙ e in cc
 
 -- steps so far
 abbrev pub Chained : Setting → code_worker.Worker → Objects → Listing → code_worker.Worker → Objects → Listing → Type 0
@@ -700,7 +765,7 @@ steps_left worker = requests_left worker.task * (most_steps + 1) + task_steps wo
 few_steps : (natives : List (List ℕ)) (now : State) (task : Task) → IsTaskReady natives now task → task_steps task ≤ most_steps
 few_steps natives now tasks.Idle h = omega arith
 few_steps natives now (tasks.Between code) h = omega arith
-few_steps natives now (tasks.Serving code serving next) h = h.3
+few_steps natives now (tasks.Serving code serving) h = h.3
 
 falls_by : (a b s t : ℕ) → t ≤ most_steps → (a < b) ⊎ ((a ≡ b) × (t < s)) → a * (most_steps + 1) + t < b * (most_steps + 1) + s
 falls_by a b s t few (inl less) = omega (arith, few, less)

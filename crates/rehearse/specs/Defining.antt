@@ -36,17 +36,17 @@ abbrev pub define_progress : Names → Defining → List Answer → Progress
 define_progress natives run answers = Define natives run.blueprint run.block run.moment answers
 
 -- the epoch that is told behind a question to this service, with which the blueprint has that epoch
-abbrev pub epoch_behind : Service → ℕ → Moment → ℕ
-epoch_behind Publish before now = now
-epoch_behind Page before now = before
-epoch_behind Nsv before now = before
-epoch_behind Schedule before now = before
-epoch_behind Save before now = before
-epoch_behind Inner before now = before
+abbrev pub epoch_behind_question : Service → ℕ → Moment → ℕ
+epoch_behind_question Publish before now = now
+epoch_behind_question Page before now = before
+epoch_behind_question Nsv before now = before
+epoch_behind_question Schedule before now = before
+epoch_behind_question Save before now = before
+epoch_behind_question Inner before now = before
 
 abbrev pub with_reply : Defining → Service → Answer → Objects → Defining
 with_reply run service answer after =
-    record run { answers = run.answers ++ answer ∷ []; epoch = epoch_behind service run.epoch after.blueprint.epoch }
+    record run { answers = run.answers ++ answer ∷ []; epoch = epoch_behind_question service run.epoch after.blueprint.epoch }
 
 -- What is told of a run that has ended so. Neither a question nor want of memory is an end: the last two lines are told of nothing.
 abbrev pub define_line : ℕ → Outcome → Line

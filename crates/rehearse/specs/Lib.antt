@@ -16,3 +16,4 @@ pub mod Numbers
 pub mod Reading
 pub mod Intakes
 pub mod Playing
+pub mod Advancing

@@ -11,11 +11,11 @@ use Rattle.outside.specs.declared.question.Service.TheVariants.{Page, Nsv, Sched
 use Rattle.nsv_bucket.specs.Buckets.{no_arrays, buckets_step}
 use Rattle.sched_core.specs.Allowed.{Allowed}
 use Rattle.sched_core.specs.Entries.{State as ScheduleState}
-use Rattle.sched_core.specs.Steps.{Steps as ScheduleSteps}
+use Rattle.sched_core.specs.Steps.{ScheduleSteps}
 use Rattle.sched_core.specs.declared.call.SchedReply.{SchedReply}
 use Rattle.sched_core.specs.declared.call.SchedReply.TheVariants as sched_replies
 use Rattle.blueprint.specs.States.{State as BlueprintState, fresh}
-use Rattle.blueprint.specs.Objects.{Steps as BlueprintSteps}
+use Rattle.blueprint.specs.Objects.{BlueprintSteps}
 use Rattle.blueprint.specs.declared.reply.BlueCall.{BlueCall}
 use Rattle.blueprint.specs.declared.reply.BlueReply.TheVariants as blue_replies
 use Rattle.blueprint.specs.declared.reply.Published.{Published}

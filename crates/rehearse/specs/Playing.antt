@@ -13,10 +13,9 @@ use Rattle.blueprint.specs.declared.reply.BlueCall.{BlueCall}
 use Rattle.blueprint.specs.declared.reply.BlueCall.TheVariants as calls
 use Rattle.outside.specs.Writing.{Gains}
 use Rattle.outside.specs.declared.question.Answer.{Answer}
-use Rattle.outside.specs.declared.question.Question.{Question}
 use Rattle.http_req.specs.declared.request.Request.{Request}
 use Rattle.tcl_eval.specs.declared.outcome.Outcome.{Outcome}
-use Rattle.ictl.specs.Falls.{StandsAt, IsEnd, Falls, number_of, first_number}
+use Rattle.ictl.specs.Falls.{IsEnd, Falls, number_of, first_number}
 use Rattle.ictl.specs.Interps.{IsNew, IsSound, IsSameRun, UnlessNoMemory, Stands, StandsOn, interp_state}
 use Rattle.ictl.specs.Interps as interps
 use Rattle.ictl.specs.Visits.{visit_of}
@@ -60,7 +59,7 @@ use Rattle.rehearse.specs.Steps.{Position, Step, IsBetween, IsServing}
 use Rattle.rehearse.specs.Intakes.{IntakeState}
 use Rattle.rehearse.specs.Reading.{is_other}
 use Rattle.rehearse.specs.Summary.{tally_of, with_lines}
-use Rattle.rehearse.specs.World.{Open, Connection, Worker, idle, new_connection, begun_request, Script, Scheduler, World}
+use Rattle.rehearse.specs.World.{Open, Connection, Worker, idle, new_connection, begun_request, OpenScript, Scheduler, World}
 
 -- ---- what the program shows
 
@@ -101,57 +100,51 @@ abbrev pub KeepsOn : Names → State → Keeper → Type 0
 KeepsOn natives now keeper =
     (now.natives ≡ natives) × MatchOption keeper.interp (Unit {0}) (λ interp. IsNew natives interp × IsOn natives now interp)
 
--- One that is under way can be made as newly made, and stands at what it answered.
-pub record IsUnderWay (natives : Names) (now : State) (next : Next) (interp : Interp) : Type 0 where
+-- One that is under way can be made as newly made.
+pub record IsUnderWay (natives : Names) (now : State) (interp : Interp) : Type 0 where
   pub sound : IsSound natives interp
   pub on : IsOn natives now interp
-  pub «at» : StandsAt next interp
 
 -- An interpreter that answered this, and was given these answers, stands for a run, where the runs inside wrote something.
 abbrev pub RunsFor : Names → (List Answer → Progress) → Next → Interp → List Answer → Type 0
 RunsFor natives run next interp given = (inside : ℕ) × Stands natives run next inside interp given
 
 -- The run of a request began in an interpreter, which came to this.
-pub record BeginsRequest (natives : Names) (request : Request) (moment : Moment) (next : Next) (made old : Interp) : Type 0 where
+pub record RequestBegan (natives : Names) (request : Request) (moment : Moment) (next : Next) (made old : Interp) : Type 0 where
   pub runs : (took : ℕ) × Stands natives (Main natives old.blueprint.value request moment) next took made []
   pub visit : UnlessNoMemory next ((made.visit ≡ visit_of natives old.blueprint.value request) × (made.moment ≡ moment))
   pub blueprint : made.blueprint.value ≡ old.blueprint.value
   pub sound : IsSound natives made
-  pub stands : StandsAt next made
   pub falls : Falls next made first_number
 
 -- The same of a scheduled script.
-pub record BeginsScript (natives : Names) (script : Bytes) (moment : Moment) (next : Next) (made old : Interp) : Type 0 where
+pub record ScriptBegan (natives : Names) (script : Bytes) (moment : Moment) (next : Next) (made old : Interp) : Type 0 where
   pub runs : (took : ℕ) × Stands natives (runs_of.Script natives old.blueprint.value script moment) next took made []
   pub blueprint : made.blueprint.value ≡ old.blueprint.value
   pub sound : IsSound natives made
-  pub stands : StandsAt next made
   pub falls : Falls next made first_number
 
 -- The same of a definition run.
-pub record BeginsDefine (natives : Names) (block : Bytes) (moment : Moment) (next : Next) (made old : Interp) : Type 0 where
+pub record DefineBegan (natives : Names) (block : Bytes) (moment : Moment) (next : Next) (made old : Interp) : Type 0 where
   pub runs : (took : ℕ) × Stands natives (Define natives old.blueprint.value block moment) next took made []
   pub blueprint : made.blueprint.value ≡ old.blueprint.value
   pub sound : IsSound natives made
-  pub stands : StandsAt next made
   pub falls : Falls next made first_number
 
 -- An interpreter went on from its question with this answer, and came to this.
-pub record Resumes (natives : Names) (answer : Answer) (next : Next) (made old : Interp) : Type 0 where
+pub record Resumed (natives : Names) (answer : Answer) (next : Next) (made old : Interp) : Type 0 where
   pub runs : (took : ℕ) × StandsOn natives next took made old answer
   pub same : IsSameRun made old
   pub blueprint : made.blueprint.value ≡ old.blueprint.value
   pub sound : IsSound natives old → IsSound natives made
-  pub stands : StandsAt next made
   pub falls : Falls next made (number_of old)
 
 -- An interpreter went on behind its response, which was written whole, and came to this.
-pub record GoesBehind (natives : Names) (next : Next) (made old : Interp) : Type 0 where
+pub record WentBehind (natives : Names) (next : Next) (made old : Interp) : Type 0 where
   pub runs : (request : Request) → IsSound natives old → old.visit ≡ visit_of natives old.blueprint.value request
       → (took : ℕ) × ((inside : ℕ) → Stands natives (behind natives old.blueprint.value old.moment true request (interps.ending_of old.task) (interp_state old) inside) next (inside + took) made [])
   pub blueprint : made.blueprint.value ≡ old.blueprint.value
   pub sound : IsSound natives old → IsSound natives made
-  pub stands : StandsAt next made
   pub falls : Falls next made first_number
 
 -- ---- workers
@@ -174,22 +167,22 @@ Visits natives request interp false next =
     UnlessNoMemory next ((interp.visit ≡ visit_of natives request.blueprint request.request) × (interp.moment ≡ request.moment))
 
 -- The program serves this request.
-pub record Serves (natives : Names) (serving : UnderWay) (next : Next) (request : Open) : Type 0 where
-  pub blueprint : request.blueprint ≡ serving.interp.blueprint.value
+pub record Serves (natives : Names) (serving : UnderWay) (request : Open) : Type 0 where
+  pub blueprint : request.blueprint ≡ serving.run.interp.blueprint.value
   pub moment : request.moment ≡ serving.moment
   pub asks_close : asks_close request.request ≡ serving.asks_close
   pub head_only : is_head_only request.request ≡ serving.head_only
   pub written : request.written ≡ serving.written
-  pub visits : Visits natives request serving.interp serving.written next
-  pub runs : RunsFor natives (request_progress natives request) next serving.interp request.answers
+  pub visits : Visits natives request serving.run.interp serving.written serving.run.next
+  pub runs : RunsFor natives (request_progress natives request) serving.run.next serving.run.interp request.answers
 
 abbrev pub ShowsTask : Names → Task → Worker → Type 0
 ShowsTask natives tasks.Idle worker = worker ≡ idle
 ShowsTask natives (tasks.Between code) worker =
     (connection : Connection) × IsBetween worker connection × ShowsConnection code connection
-ShowsTask natives (tasks.Serving code serving next) worker =
+ShowsTask natives (tasks.Serving code serving) worker =
     (connection : Connection) × (request : Open) × IsServing worker connection request × ShowsConnection code connection
-    × Serves natives serving next request
+    × Serves natives serving request
 
 -- A worker of the program shows this one.
 abbrev pub ShowsWorker : Names → code_worker.Worker → Worker → Type 0
@@ -219,8 +212,8 @@ one_more connection = record connection { requests = connection.requests + 1 }
 -- The worker serves this request of the connection, which began now.
 abbrev pub HasBegun : Names → Setting → Objects → code_connection.Connection → Request → code_worker.Worker → Type 0
 HasBegun natives setting objects connection request worker =
-    (serving : UnderWay) × (next : Next) × (worker.task ≡ tasks.Serving (one_more connection) serving next)
-    × Serves natives serving next (begun_request setting objects request)
+    (serving : UnderWay) × (worker.task ≡ tasks.Serving (one_more connection) serving)
+    × Serves natives serving (begun_request setting objects request)
 
 -- ---- a worker's steps
 
@@ -246,15 +239,15 @@ serving_steps false next interp = first_steps next interp
 abbrev pub most_steps : ℕ
 most_steps = first_number + first_number + 4
 
--- Where a request is under way its interpreter can go on and stands for some request, and few steps are left to it; and one more may
+-- Where a request is under way its run can go on and stands for some request, and few steps are left to it; and one more may
 -- begin only where the connection may have one.
 abbrev pub IsTaskReady : Names → State → Task → Type 0
 IsTaskReady natives now tasks.Idle = Unit {0}
 IsTaskReady natives now (tasks.Between connection) = connection.requests < most_requests
-IsTaskReady natives now (tasks.Serving connection serving next) =
-    (connection.requests ≤ most_requests) × IsUnderWay natives now next serving.interp
-    × ((request : Open) × Serves natives serving next request)
-    × (serving_steps serving.written next serving.interp ≤ most_steps)
+IsTaskReady natives now (tasks.Serving connection serving) =
+    (connection.requests ≤ most_requests) × IsUnderWay natives now serving.run.interp
+    × ((request : Open) × Serves natives serving request)
+    × (serving_steps serving.written serving.run.next serving.run.interp ≤ most_steps)
 
 -- A worker is ready, where the blueprint is this now.
 abbrev pub IsReady : Names → State → code_worker.Worker → Type 0
@@ -265,13 +258,13 @@ IsReady natives now worker = KeepsOn natives now worker.keeper × IsTaskReady na
 abbrev pub requests_left : Task → ℕ
 requests_left tasks.Idle = 0
 requests_left (tasks.Between connection) = (most_requests - connection.requests) + 1
-requests_left (tasks.Serving connection serving next) = (most_requests - connection.requests) + 1
+requests_left (tasks.Serving connection serving) = (most_requests - connection.requests) + 1
 
 -- The number that falls is that of the requests first, and then that of the steps.
 abbrev pub task_steps : Task → ℕ
 task_steps tasks.Idle = 0
 task_steps (tasks.Between connection) = 0
-task_steps (tasks.Serving connection serving next) = serving_steps serving.written next serving.interp
+task_steps (tasks.Serving connection serving) = serving_steps serving.written serving.run.next serving.run.interp
 
 abbrev pub StepsDown : code_worker.Worker → code_worker.Worker → Type 0
 StepsDown before after =
@@ -308,40 +301,40 @@ Stepped setting worker objects listing worker_after objects_after listed =
 abbrev pub IsResting : code_scheduler.Scheduler → Type 0
 IsResting scheduler = (scheduler.running ≡ None) × (length scheduler.due ≤ scheduler.begun)
 
-pub record ShowsScript (natives : Names) (running : Running) (next : Next) (script : Script) : Type 0 where
+pub record ShowsScript (natives : Names) (running : Running) (script : OpenScript) : Type 0 where
   pub id : script.id ≡ running.id
-  pub blueprint : script.blueprint ≡ running.interp.blueprint.value
+  pub blueprint : script.blueprint ≡ running.run.interp.blueprint.value
   pub moment : script.moment ≡ running.moment
-  pub runs : RunsFor natives (script_progress natives script) next running.interp script.answers
+  pub runs : RunsFor natives (script_progress natives script) running.run.next running.run.interp script.answers
 
-abbrev pub ShowsRunning : Names → Option (Running × Next) → Option Script → Type 0
+abbrev pub ShowsRunning : Names → Option Running → Option OpenScript → Type 0
 ShowsRunning natives None None = Unit {0}
 ShowsRunning natives None (Some script) = ⊥
 ShowsRunning natives (Some running) None = ⊥
-ShowsRunning natives (Some running) (Some script) = ShowsScript natives running.0 running.1 script
+ShowsRunning natives (Some running) (Some script) = ShowsScript natives running script
 
 pub record ShowsScheduler (natives : Names) (code : code_scheduler.Scheduler) (scheduler : Scheduler) : Type 0 where
   pub waiting : scheduler.waiting ≡ drop code.begun code.due
   pub running : ShowsRunning natives code.running scheduler.running
 
--- The interpreter of a script can go on and stands for some scheduled script, and few steps are left to it.
-abbrev pub IsScriptReady : Names → State → Running × Next → Type 0
+-- The run of a script can go on and stands for some scheduled script, and few steps are left to it.
+abbrev pub IsScriptReady : Names → State → Running → Type 0
 IsScriptReady natives now running =
-    IsUnderWay natives now running.1 running.0.interp
-    × ((script : Script) × ShowsScript natives running.0 running.1 script)
-    × (last_steps running.1 running.0.interp ≤ most_steps)
+    IsUnderWay natives now running.run.interp
+    × ((script : OpenScript) × ShowsScript natives running script)
+    × (last_steps running.run.next running.run.interp ≤ most_steps)
 
 abbrev pub IsSchedulerReady : Names → State → code_scheduler.Scheduler → Type 0
 IsSchedulerReady natives now scheduler =
     KeepsOn natives now scheduler.keeper × MatchOption scheduler.running (Unit {0}) (IsScriptReady natives now)
 
 -- the scheduler, as this is under way
-abbrev pub with_running : code_scheduler.Scheduler → Option (Running × Next) → code_scheduler.Scheduler
+abbrev pub with_running : code_scheduler.Scheduler → Option Running → code_scheduler.Scheduler
 with_running scheduler running = record scheduler { running = running }
 
-abbrev pub running_steps : Option (Running × Next) → ℕ
+abbrev pub running_steps : Option Running → ℕ
 running_steps None = 0
-running_steps (Some running) = last_steps running.1 running.0.interp
+running_steps (Some running) = last_steps running.run.next running.run.interp
 
 abbrev pub SchedulerDown : code_scheduler.Scheduler → code_scheduler.Scheduler → Type 0
 SchedulerDown before after =
@@ -369,36 +362,37 @@ ScheduleStepped setting code objects listing code_after objects_after listed =
 -- ---- definition runs
 
 -- A run of the program stands for this one and the answers that it has had.
-pub record DefinesAs (natives : Names) (next : Next) (run : Run) (seen : Defining) : Type 0 where
-  pub blueprint : seen.blueprint ≡ run.interp.blueprint.value
+pub record DefinesAs (natives : Names) (run : Run) (seen : Defining) : Type 0 where
+  pub blueprint : seen.blueprint ≡ run.run.interp.blueprint.value
   pub moment : seen.moment ≡ run.moment
   pub epoch : seen.epoch ≡ run.epoch
-  pub runs : RunsFor natives (define_progress natives seen) next run.interp seen.answers
+  pub runs : RunsFor natives (define_progress natives seen) run.run.next run.run.interp seen.answers
 
 -- Whatever is told of the later run, from these objects on, is what is told of the earlier one.
 abbrev pub Continues : Setting → Defining → Objects → Defining → Objects → Type 0
 Continues setting earlier before later between =
     (line : Line) (after : Objects) → Settles setting later between line after → Settles setting earlier before line after
 
--- A question of a run was answered: whatever run it stood for, it stands now for one that goes on from there.
-pub record WentOn (setting : Setting) (question : Question) (run : Run) (objects : Objects) (next : Next) (run_after : Run) (objects_after : Objects) : Type 0 where
-  pub goes : (seen : Defining) → DefinesAs setting.natives (nexts.Asks question) run seen
-      → (later : Defining) × DefinesAs setting.natives next run_after later × Continues setting seen objects later objects_after
-  pub ready : IsUnderWay setting.natives objects_after.blueprint next run_after.interp
+-- The question of a run was answered: whatever run it stood for, it stands now for one that goes on from there.
+pub record WentOn (setting : Setting) (run : Run) (objects : Objects) (run_after : Run) (objects_after : Objects) : Type 0 where
+  pub goes : (seen : Defining) → DefinesAs setting.natives run seen
+      → (later : Defining) × DefinesAs setting.natives run_after later × Continues setting seen objects later objects_after
+  pub ready : IsUnderWay setting.natives objects_after.blueprint run_after.run.interp
   pub reaches : Reaches objects.blueprint objects_after.blueprint
-  pub falls : Falls next run_after.interp (number_of run.interp)
+  pub falls : Falls run_after.run.next run_after.run.interp (number_of run.run.interp)
 
 -- A run went on to its end: whatever run it stood for, this is told of it.
-pub record Finished (setting : Setting) (first : Next) (run : Run) (objects : Objects) (outcome : Outcome) (run_after : Run) (objects_after : Objects) : Type 0 where
-  pub settles : (seen : Defining) → DefinesAs setting.natives first run seen
+pub record Finished (setting : Setting) (run : Run) (objects : Objects) (outcome : Outcome) (run_after : Run) (objects_after : Objects) : Type 0 where
+  pub settles : (seen : Defining) → DefinesAs setting.natives run seen
       → Settles setting seen objects (define_line run_after.epoch outcome) objects_after
+  pub end_is : run_after.run.next ≡ nexts.Ended outcome
   pub is_end : IsEnd outcome
-  pub ready : IsUnderWay setting.natives objects_after.blueprint (nexts.Ended outcome) run_after.interp
+  pub ready : IsUnderWay setting.natives objects_after.blueprint run_after.run.interp
   pub reaches : Reaches objects.blueprint objects_after.blueprint
 
 -- A run was played to its end, which was told.
-abbrev pub Settled : Setting → Defining → Objects → Listing → Objects → Listing → Type 0
-Settled setting run before listing after listed =
+abbrev pub PlayedToItsEnd : Setting → Defining → Objects → Listing → Objects → Listing → Type 0
+PlayedToItsEnd setting run before listing after listed =
     (line : Line) × Settles setting run before line after × Reaches before.blueprint after.blueprint × Tells listing (line ∷ []) listed
 
 -- ---- events
@@ -445,10 +439,10 @@ abbrev pub by_left : Bytes → ℕ → Rehearsal
 by_left [] event = answers.Done
 by_left (byte ∷ left) event = answers.BadEvent event
 
-abbrev pub ending_of : Option Stopped → Bytes → ℕ → Rehearsal
-ending_of None left event = answers.BadEvent event
-ending_of (Some stops.AtEnd) left event = by_left left event
-ending_of (Some stops.AtFault) left event = answers.ReadFault
+abbrev pub rehearsal_end : Option Stopped → Bytes → ℕ → Rehearsal
+rehearsal_end None left event = answers.BadEvent event
+rehearsal_end (Some stops.AtEnd) left event = by_left left event
+rehearsal_end (Some stops.AtFault) left event = answers.ReadFault
 
 -- why a read is the last one
 abbrev pub stop_of : ReadAnswer → Option Stopped

@@ -5,9 +5,8 @@ use Rattle.outside.specs.declared.question.Answer.{Answer}
 use Rattle.outside.specs.declared.question.Question.{Question}
 use Rattle.http_resp.specs.declared.response.Response.{Response}
 use Rattle.tcl_eval.specs.declared.outcome.Outcome.{Outcome}
-use Rattle.ictl.specs.Main.{Progress, asks, writes, ends, Main, behind}
-use Rattle.ictl.specs.Main as runs
-use Rattle.rehearse.specs.World.{Open, Script}
+use Rattle.ictl.specs.Main.{Progress, asks, writes, ends, Main, Script, behind_response}
+use Rattle.rehearse.specs.World.{Open, OpenScript}
 
 -- Where a run stands.
 pub data Stand : Type 0 where
@@ -26,14 +25,8 @@ stand_of (ends outcome state inside left) = over outcome
 -- ---- requests
 
 -- where its response was written, whole, it goes on with what comes behind it, on the answers that are left
-abbrev pub behind_response : Names → Open → Progress → Progress
-behind_response natives request (asks question state inside) = asks question state inside
-behind_response natives request (writes response ending state inside left) =
-    behind natives request.blueprint request.moment true request.request ending state inside left
-behind_response natives request (ends outcome state inside left) = ends outcome state inside left
-
 abbrev pub by_written : Names → Bool → Open → Progress → Progress
-by_written natives true request progress = behind_response natives request progress
+by_written natives true request progress = behind_response natives request.blueprint request.moment true request.request progress
 by_written natives false request progress = progress
 
 -- How far a request comes with these answers, on natives of these names: its run begins in the fresh state of the blueprint and the
@@ -48,8 +41,8 @@ request_stand natives request = stand_of (request_progress natives request reque
 -- ---- scheduled scripts
 
 -- the same of a scheduled script, which has no response
-abbrev pub script_progress : Names → Script → List Answer → Progress
-script_progress natives script answers = runs.Script natives script.blueprint script.script script.moment answers
+abbrev pub script_progress : Names → OpenScript → List Answer → Progress
+script_progress natives script answers = Script natives script.blueprint script.script script.moment answers
 
-abbrev pub script_stand : Names → Script → Stand
+abbrev pub script_stand : Names → OpenScript → Stand
 script_stand natives script = stand_of (script_progress natives script script.answers)

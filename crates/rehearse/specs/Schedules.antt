@@ -5,7 +5,7 @@ use Rattle.outside.specs.declared.question.Answer.{Answer}
 use Rattle.outside.specs.declared.question.Question.{Question}
 use Rattle.sched_core.specs.Allowed.{Allowed}
 use Rattle.sched_core.specs.Entries.{State}
-use Rattle.sched_core.specs.Steps.{Steps}
+use Rattle.sched_core.specs.Steps.{ScheduleSteps}
 use Rattle.sched_core.specs.declared.call.DueScript.{DueScript}
 use Rattle.sched_core.specs.declared.call.SchedCall.TheVariants as calls
 use Rattle.sched_core.specs.declared.call.SchedReply.{SchedReply}
@@ -17,7 +17,7 @@ use Rattle.rehearse.specs.Lines.{Line, script, script_spent, script_deep}
 use Rattle.rehearse.specs.Objects.{Setting, Answers}
 use Rattle.rehearse.specs.declared.objects.Objects.{Objects}
 use Rattle.rehearse.specs.Runs.{asking, over, script_stand}
-use Rattle.rehearse.specs.World.{Script, Scheduler, resting, begun_script, with_script_answer}
+use Rattle.rehearse.specs.World.{OpenScript, Scheduler, resting, begun_script, with_script_answer}
 
 -- The scheduler, and the objects.
 pub record Agenda : Type 0 where
@@ -39,7 +39,7 @@ due_scripts replies.NoMemory = []
 pub record TakesDue (moment : Moment) (before after : Agenda) : Type 0 where
   pub reply : SchedReply
   pub schedule : State
-  pub steps : Steps before.objects.schedule (calls.Due moment) reply schedule
+  pub steps : ScheduleSteps before.objects.schedule (calls.Due moment) reply schedule
   pub allowed : Allowed schedule
   pub memory : reply ≢ replies.NoMemory
   pub after_is : after ≡ record {
@@ -66,7 +66,7 @@ pub data ScheduleStep (setting : Setting) (before : Agenda) (lines : List Line) 
       → after ≡ record { scheduler = record { waiting = waiting; running = Some (begun_script setting before.objects due) }; objects = before.objects }
       → ScheduleStep setting before lines after
   -- it answers the open question
-  answers : (running : Script) (question : Question) (answer : Answer) (objects : Objects)
+  answers : (running : OpenScript) (question : Question) (answer : Answer) (objects : Objects)
       → before.scheduler.running ≡ Some running
       → script_stand setting.natives running ≡ asking question
       → Answers setting running.moment question before.objects answer objects
@@ -74,7 +74,7 @@ pub data ScheduleStep (setting : Setting) (before : Agenda) (lines : List Line) 
       → after ≡ record { scheduler = record { waiting = before.scheduler.waiting; running = Some (with_script_answer running answer) }; objects = objects }
       → ScheduleStep setting before lines after
   -- it ends a script whose run has ended; want of memory is no end
-  ends : (running : Script) (outcome : Outcome)
+  ends : (running : OpenScript) (outcome : Outcome)
       → before.scheduler.running ≡ Some running
       → script_stand setting.natives running ≡ over outcome
       → IsEnd outcome

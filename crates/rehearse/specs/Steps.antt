@@ -30,8 +30,8 @@ with_worker place worker = record { worker = worker; objects = place.objects }
 
 -- The bytes of a response of the request under way. It says that the connection closes where the request asked so, where it is the
 -- last that a connection may have, and where the answers have passed what a connection may have.
-abbrev pub bytes_of : Connection → Open → Response → Bytes
-bytes_of connection request reply =
+abbrev pub reply_bytes : Connection → Open → Response → Bytes
+reply_bytes connection request reply =
     response_bytes reply request.moment (connections.is_head_only request.request)
     (connections.closes (connections.asks_close request.request) connection.requests connection.answer_bytes)
 
@@ -74,7 +74,7 @@ pub data Step (number : ℕ) (setting : Setting) (before : Position) (lines : Li
   writes : (connection : Connection) (request : Open) (reply : Response)
       → IsServing before.worker connection request
       → request_stand setting.natives request ≡ ready reply
-      → lines ≡ response number (Some request.blueprint.epoch) reply.status (bytes_of connection request reply) ∷ []
+      → lines ≡ response number (Some request.blueprint.epoch) reply.status (reply_bytes connection request reply) ∷ []
       → after ≡ with_worker before (connected (with_written connection request))
       → Step number setting before lines after
   -- it ends a request whose run has ended, and closes the connection where that is to close; want of memory is no end

@@ -77,7 +77,7 @@ without_request connection = record connection { request = None }
 -- ---- the scheduler
 
 -- A scheduled script under way.
-pub record Script : Type 0 where
+pub record OpenScript : Type 0 where
   pub id : ℕ
   pub script : Bytes
   -- the blueprint and the moment at which it began
@@ -90,18 +90,18 @@ pub record Scheduler : Type 0 where
   -- the scripts that were taken and haven't begun, in their order
   pub waiting : List DueScript
   -- the script under way, if any
-  pub running : Option Script
+  pub running : Option OpenScript
 
 -- it has no script
 abbrev pub resting : Scheduler
 resting = record { waiting = []; running = None }
 
 -- a script begins, on the blueprint and at the moment as they are now
-abbrev pub begun_script : Setting → Objects → DueScript → Script
+abbrev pub begun_script : Setting → Objects → DueScript → OpenScript
 begun_script setting objects due =
     record { id = due.id; script = due.script; blueprint = published_now objects; moment = setting.moment; answers = [] }
 
-abbrev pub with_script_answer : Script → Answer → Script
+abbrev pub with_script_answer : OpenScript → Answer → OpenScript
 with_script_answer script answer = record script { answers = script.answers ++ answer ∷ [] }
 
 -- ---- all together

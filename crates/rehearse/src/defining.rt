@@ -1,10 +1,11 @@
 //! Definition runs.
 
-ghost use Rattle.std.specs.Prelude.{◌≡◌, None, OnOk, IfOk};
+ghost use Rattle.std.specs.Prelude.{◌≡◌, None, OnOk};
 ghost use Rattle.natives.specs.Names.{names_of};
-ghost use Rattle.ictl.specs.declared.next.Next.TheVariants as nexts;
-ghost use Rattle.rehearse.specs.Defining.{Defining as Seen, begun_block, epoch_behind};
-ghost use Rattle.rehearse.specs.Playing.{setting_of, KeepsOn, IsUnderWay, DefinesAs, WentOn, Finished, Settled};
+ghost use Rattle.ictl.specs.Came.{IsAtQuestion};
+ghost use Rattle.tcl_eval.specs.declared.outcome.Outcome.{Outcome as Outcomes};
+ghost use Rattle.rehearse.specs.Defining.{Defining as Seen, begun_block, epoch_behind_question};
+ghost use Rattle.rehearse.specs.Playing.{setting_of, KeepsOn, IsUnderWay, DefinesAs, WentOn, Finished, PlayedToItsEnd};
 
 use crate::keeper::Keeper;
 use crate::listing::Listing;
@@ -12,12 +13,11 @@ use crate::objects::Objects;
 use crate::running::{begin_define, resume};
 use crate::setting::Setting;
 use cmd_table::Steps;
-use ictl::{Interp, Next, one_response};
+use ictl::{Next, one_response};
 use natives::Natives;
-use outside::{Question, Service};
+use outside::Service;
 use std::alloc::Global;
 use std::sync::ledger::Ledger;
-use tcl_eval::Outcome;
 use turn_cell::Obj;
 use txt_core::{NoMemory, Text};
 
@@ -28,17 +28,17 @@ pub struct Definer {
     alloc: Global,
 }
 
-/// A definition run: its interpreter, its moment, and the epoch that is told where it ends well.
+/// A definition run, its moment, and the epoch that is told where it ends well.
 #[derive(Drop)]
 pub struct Run {
-    interp: Interp,
+    run: ictl::Run,
     moment: u64,
     epoch: u64,
 }
 
 /// The epoch that is told behind a question to this service, with which the blueprint has that epoch.
 fn epoch_behind(service: Service, before: u64, now: u64) -> u64
-    ensures { result ≡ epoch_behind service before now }
+    ensures { result ≡ epoch_behind_question service before now }
 {
     match service {
         Service::Publish => now,
@@ -54,20 +54,24 @@ impl Run {
         natives: &Natives,
         setting: &Setting,
         objects: &mut Objects,
-        question: Question,
         steps: &mut Steps<L>,
-    ) -> Result<Next, NoMemory>
-        requires { IsUnderWay (names_of natives.now) objects.old.blueprint (nexts.Asks question)
-            self.old.interp }
-        ensures { IfOk result (λ next.
-            WentOn (setting_of (names_of natives.now) setting.now) question self.old objects.old
-            next self.new objects.new) }
+    ) -> Result<(), NoMemory>
+        requires asks { IsAtQuestion self.old.run }
+        requires ready { IsUnderWay (names_of natives.now) objects.old.blueprint
+            self.old.run.interp }
+        ensures { OnOk result
+            (WentOn (setting_of (names_of natives.now) setting.now) self.old objects.old self.new
+            objects.new) }
     {
+        let Some(question) = self.run.take_question() else {
+            unreachable!()
+        };
         objects.blueprint.shown();
         let service = question.service;
         let answer = objects.answer(alloc, setting, self.moment, question)?;
         self.epoch = epoch_behind(service, self.epoch, objects.blueprint.epoch());
-        Ok(resume(&mut self.interp, natives, answer, steps))
+        resume(&mut self.run, natives, answer, steps);
+        Ok(())
     }
 
     /// Goes on to its end, and answers its questions at once.
@@ -77,23 +81,20 @@ impl Run {
         natives: &Natives,
         setting: &Setting,
         objects: &mut Objects,
-        first: Next,
         steps: &mut Steps<L>,
-    ) -> Result<Outcome, NoMemory>
-        requires ready { IsUnderWay (names_of natives.now) objects.old.blueprint first
-            self.old.interp }
-        requires stands { (seen : Seen) × DefinesAs (names_of natives.now) first self.old seen }
-        ensures { IfOk result (λ outcome.
-            Finished (setting_of (names_of natives.now) setting.now) first self.old objects.old
-            outcome self.new objects.new) }
+    ) -> Result<(), NoMemory>
+        requires ready { IsUnderWay (names_of natives.now) objects.old.blueprint
+            self.old.run.interp }
+        requires stands { (seen : Seen) × DefinesAs (names_of natives.now) self.old seen }
+        ensures { OnOk result
+            ((outcome : Outcomes)
+            × Finished (setting_of (names_of natives.now) setting.now) self.old objects.old outcome
+            self.new objects.new) }
     {
-        let mut next = first;
         'questions: loop {
-            match next {
-                Next::Asks(question) => {
-                    next = self.answer(alloc, natives, setting, objects, question, steps)?;
-                }
-                Next::Ended(outcome) => return Ok(outcome),
+            match self.run.next() {
+                Next::Asks(_) => self.answer(alloc, natives, setting, objects, steps)?,
+                Next::Ended(_) => return Ok(()),
                 Next::Write(_) => {
                     one_response();
                     unreachable!()
@@ -129,25 +130,29 @@ impl Definer {
         requires { KeepsOn (names_of natives.now) objects.old.blueprint self.old.keeper }
         ensures settled { let setting = setting_of (names_of natives.now) setting.now in
             OnOk result
-            (Settled setting (begun_block setting objects.old block.now) objects.old listing.old
-            objects.new listing.new) }
+            (PlayedToItsEnd setting (begun_block setting objects.old block.now) objects.old
+            listing.old objects.new listing.new) }
         ensures keeps { OnOk result
             (KeepsOn (names_of natives.now) objects.new.blueprint self.new.keeper) }
     {
-        let mut interp = self
+        let interp = self
             .keeper
             .take(self.alloc, natives, &objects.blueprint, steps)?;
         let moment = setting.moment;
-        let first = begin_define(&mut interp, natives, block, moment, steps);
+        let begun = begin_define(interp, natives, block, moment, steps);
         let mut run = Run {
-            epoch: interp.epoch(),
-            interp,
+            epoch: begun.epoch(),
+            run: begun,
             moment,
         };
-        match run.finish(self.alloc, natives, setting, objects, first, steps) {
-            Ok(outcome) => {
-                let Run { interp, epoch, .. } = run;
+        match run.finish(self.alloc, natives, setting, objects, steps) {
+            Ok(()) => {
+                let Run { run, epoch, .. } = run;
+                let (next, interp) = run.into_parts();
                 self.keeper.keep(interp, steps);
+                let Next::Ended(outcome) = next else {
+                    unreachable!()
+                };
                 listing.push_define(epoch, outcome)
             }
             Err(want) => {

@@ -3,7 +3,7 @@
 ghost use Rattle.std.specs.Prelude.{◌≡◌, ◌≤◌, ◌<◌, ◌+◌, [], length, take, drop, IfOk, None};
 ghost use Rattle.outside.specs.Reading.{Reads};
 ghost use Rattle.rehearse.specs.Events.{most_file};
-ghost use Rattle.rehearse.specs.Playing.{stop_of, Fetches, Took, FindsLine, HasBytes, FindsEvent, ending_of};
+ghost use Rattle.rehearse.specs.Playing.{stop_of, Fetches, Took, FindsLine, HasBytes, FindsEvent, rehearsal_end};
 
 use crate::answer::Rehearsal;
 use crate::cut::cut_at;
@@ -192,7 +192,7 @@ impl Intake {
     /// How a rehearsal ends of which the event of this number, from 1, didn't come: a fault of the source
     /// goes before a bad event.
     pub fn ending(&self, event: u64) -> Rehearsal
-        ensures { result ≡ ending_of self.now.stopped self.now.left event }
+        ensures { result ≡ rehearsal_end self.now.stopped self.now.left event }
     {
         match self.stopped {
             Some(Stopped::AtFault) => Rehearsal::ReadFault,

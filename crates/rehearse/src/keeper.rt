@@ -12,7 +12,7 @@ use blueprint::{
     Blueprint, Look, equal_epochs_are_one_state, since_applies, since_is_added, whole_is_all,
 };
 use cmd_table::Steps;
-use ictl::Interp;
+use ictl::BoxedInterp;
 use natives::Natives;
 use std::alloc::Global;
 use std::mem;
@@ -22,7 +22,7 @@ use txt_core::NoMemory;
 /// Keeps the interpreter of the last run, as newly made.
 #[derive(Drop)]
 pub struct Keeper {
-    pub interp: Option<Interp>,
+    pub interp: Option<BoxedInterp>,
 }
 
 /// An interpreter made from the blueprint as it is published now.
@@ -31,7 +31,7 @@ fn build<L: Ledger>(
     natives: &Natives,
     blueprint: &Blueprint,
     steps: &mut Steps<L>,
-) -> Result<Interp, NoMemory>
+) -> Result<BoxedInterp, NoMemory>
     requires { blueprint.now.natives ≡ names_of natives.now }
     ensures { let names = names_of natives.now in
         IfOk result (λ interp.
@@ -39,7 +39,7 @@ fn build<L: Ledger>(
         × IsOn names blueprint.now interp) }
 {
     let defs = blueprint.definitions()?;
-    Interp::build(alloc, natives, blueprint.epoch(), &defs, steps)
+    BoxedInterp::build(alloc, natives, blueprint.epoch(), &defs, steps)
 }
 
 /// An interpreter, as newly made, on the blueprint as it is published now: it stays as it is where nothing
@@ -47,10 +47,10 @@ fn build<L: Ledger>(
 fn renew<L: Ledger>(
     alloc: Global,
     natives: &Natives,
-    mut interp: Interp,
+    mut interp: BoxedInterp,
     blueprint: &Blueprint,
     steps: &mut Steps<L>,
-) -> Result<Interp, NoMemory>
+) -> Result<BoxedInterp, NoMemory>
     requires { IsOn (names_of natives.now) blueprint.now interp
         × IsNew (names_of natives.now) interp }
     ensures { let names = names_of natives.now in
@@ -77,7 +77,7 @@ fn renew<L: Ledger>(
         Look::Whole { epoch, defs } => {
             whole_is_all();
             drop(interp);
-            Interp::build(alloc, natives, epoch, &defs, steps)
+            BoxedInterp::build(alloc, natives, epoch, &defs, steps)
         }
         Look::NoMemory => {
             drop(interp);
@@ -102,7 +102,7 @@ impl Keeper {
         natives: &Natives,
         blueprint: &Blueprint,
         steps: &mut Steps<L>,
-    ) -> Result<Interp, NoMemory>
+    ) -> Result<BoxedInterp, NoMemory>
         requires { KeepsOn (names_of natives.now) blueprint.now self.old }
         ensures is_new { let names = names_of natives.now in
             IfOk result (λ interp.
@@ -121,7 +121,7 @@ impl Keeper {
     }
 
     /// Takes the interpreter of a run that has ended, and makes it as newly made.
-    pub fn keep<L: Ledger>(&mut self, mut interp: Interp, steps: &mut Steps<L>)
+    pub fn keep<L: Ledger>(&mut self, mut interp: BoxedInterp, steps: &mut Steps<L>)
         ensures { (names : Names) (now : State) → now.natives ≡ names
             → IsSound names interp → IsOn names now interp
             → KeepsOn names now self.new }

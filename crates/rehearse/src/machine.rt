@@ -1,6 +1,6 @@
 //! The machine of one thread.
 
-ghost use Rattle.std.specs.Prelude.{◌≡◌, ◌≤◌, length, IfOk, OnOk};
+ghost use Rattle.std.specs.Prelude.{◌≡◌, ◌≤◌, ◌↔◌, length, IfOk, OnOk, IsTrue};
 ghost use Rattle.txt_core.specs.Names.{Names};
 ghost use Rattle.blueprint.specs.States.{State};
 ghost use Rattle.natives.specs.Names.{names_of};
@@ -8,6 +8,7 @@ ghost use Rattle.rehearse.specs.Events.{workers, clock, page as spelled_page, de
 ghost use Rattle.rehearse.specs.Reading.{event_of, actor_of, IsShort};
 ghost use Rattle.rehearse.specs.World.{opening, all_idle};
 ghost use Rattle.rehearse.specs.Playing.{Shows, ShowsWorkers, AreReady, IsMachineReady, Did, Played};
+ghost use Rattle.rehearse.specs.Advancing.{HasActor, Advanced};
 ghost use Rattle.rehearse.specs.declared.listing.Listing.{Listing as Told};
 
 use crate::defining::Definer;
@@ -175,6 +176,46 @@ impl Machine {
         Ok(true)
     }
 
+    /// Whether there is an actor of this name.
+    fn has(&self, actor: Actor) -> bool
+        ensures { IsTrue result ↔ HasActor self.now (actor_of actor) }
+    {
+        match actor {
+            Actor::Scheduler => true,
+            Actor::Worker(number) => number < self.workers.len() as u64,
+        }
+    }
+
+    /// Lets an actor take one step, and tells whether it is idle behind it.
+    fn advance<L: Ledger>(
+        &mut self,
+        natives: &Natives,
+        actor: Actor,
+        listing: &mut Listing,
+        steps: &mut Steps<L>,
+    ) -> Result<bool, NoMemory>
+        requires ready { IsMachineReady (names_of natives.now) self.old }
+        requires there { HasActor self.old (actor_of actor) }
+        ensures { IfOk result (λ idle.
+            Advanced (names_of natives.now) (actor_of actor) idle self.old listing.old self.new
+            listing.new) }
+    {
+        let setting = &self.setting;
+        let objects = &mut self.objects;
+        match actor {
+            Actor::Scheduler => {
+                self.scheduler
+                    .step(natives, setting, objects, listing, steps)?;
+                Ok(self.scheduler.is_idle())
+            }
+            Actor::Worker(number) => {
+                let worker = &mut self.workers[number as usize];
+                worker.step(natives, setting, objects, listing, steps)?;
+                Ok(worker.is_idle())
+            }
+        }
+    }
+
     /// Lets an actor take one step, where there is one of this name.
     fn step<L: Ledger>(
         &mut self,
@@ -189,25 +230,14 @@ impl Machine {
             listing.new) }
         ensures ready { OnOk result (IsMachineReady (names_of natives.now) self.new) }
     {
-        let setting = &self.setting;
-        let objects = &mut self.objects;
-        match actor {
-            Actor::Scheduler => {
-                self.scheduler
-                    .step(natives, setting, objects, listing, steps)?;
-                Ok(true)
-            }
-            Actor::Worker(number) => {
-                if number >= self.workers.len() as u64 {
-                    return Ok(false);
-                }
-                self.workers[number as usize].step(natives, setting, objects, listing, steps)?;
-                Ok(true)
-            }
+        if !self.has(actor) {
+            return Ok(false);
         }
+        self.advance(natives, actor, listing, steps)?;
+        Ok(true)
     }
 
-    /// Lets an actor take steps until it is idle, where there is one of this name.
+    /// Lets an actor take steps, at least one, until it is idle, where there is one of this name.
     fn run<L: Ledger>(
         &mut self,
         natives: &Natives,
@@ -221,22 +251,14 @@ impl Machine {
             listing.new) }
         ensures ready { OnOk result (IsMachineReady (names_of natives.now) self.new) }
     {
-        let setting = &self.setting;
-        let objects = &mut self.objects;
-        match actor {
-            Actor::Scheduler => {
-                self.scheduler
-                    .run(natives, setting, objects, listing, steps)?;
-                Ok(true)
-            }
-            Actor::Worker(number) => {
-                if number >= self.workers.len() as u64 {
-                    return Ok(false);
-                }
-                self.workers[number as usize].run(natives, setting, objects, listing, steps)?;
-                Ok(true)
-            }
+        if !self.has(actor) {
+            return Ok(false);
         }
+        let mut idle = self.advance(natives, actor, listing, steps)?;
+        'steps: while !idle {
+            idle = self.advance(natives, actor, listing, steps)?;
+        }
+        Ok(true)
     }
 
     /// Does what an event says, where it may come, and tells whether it may.

@@ -1,13 +1,13 @@
-//! Runs of an interpreter: how they begin, and how they go on.
+//! Runs: how they begin, and how they go on.
 
 ghost use Rattle.natives.specs.Names.{names_of};
-ghost use Rattle.ictl.specs.Falls.{IsAsking, IsWriting};
+ghost use Rattle.ictl.specs.Came.{IsAtQuestion, IsAtResponse};
 ghost use Rattle.ictl.specs.Interps.{IsNew};
-ghost use Rattle.rehearse.specs.Playing.{BeginsRequest, BeginsScript, BeginsDefine, Resumes, GoesBehind};
+ghost use Rattle.rehearse.specs.Playing.{RequestBegan, ScriptBegan, DefineBegan, Resumed, WentBehind};
 
 use cmd_table::Steps;
 use http_req::Request;
-use ictl::{Interp, Next};
+use ictl::{BoxedInterp, Run};
 use natives::Natives;
 use outside::Answer;
 use std::sync::ledger::Ledger;
@@ -15,63 +15,60 @@ use txt_core::Text;
 
 /// Begins the run of a request in an interpreter that is as newly made.
 pub fn begin_request<L: Ledger>(
-    interp: &mut Interp,
+    interp: BoxedInterp,
     natives: &Natives,
     request: Request,
     moment: u64,
     steps: &mut Steps<L>,
-) -> Next
-    requires { IsNew (names_of natives.now) interp.old }
-    ensures { BeginsRequest (names_of natives.now) request moment result interp.new interp.old }
+) -> Run
+    requires { IsNew (names_of natives.now) interp }
+    ensures { RequestBegan (names_of natives.now) request moment result.next result.interp interp }
 {
-    interp.start_request(natives, request, moment, steps)
+    Run::start_request(interp, natives, request, moment, steps)
 }
 
 /// Begins the run of a scheduled script in an interpreter that is as newly made.
 pub fn begin_script<L: Ledger>(
-    interp: &mut Interp,
+    interp: BoxedInterp,
     natives: &Natives,
     script: &Text,
     moment: u64,
     steps: &mut Steps<L>,
-) -> Next
-    requires { IsNew (names_of natives.now) interp.old }
-    ensures { BeginsScript (names_of natives.now) script.now moment result interp.new interp.old }
+) -> Run
+    requires { IsNew (names_of natives.now) interp }
+    ensures { ScriptBegan (names_of natives.now) script.now moment result.next result.interp
+        interp }
 {
-    interp.start_script(natives, script, moment, steps)
+    Run::start_script(interp, natives, script, moment, steps)
 }
 
 /// Begins the definition run of a block in an interpreter that is as newly made.
 pub fn begin_define<L: Ledger>(
-    interp: &mut Interp,
+    interp: BoxedInterp,
     natives: &Natives,
     block: &Text,
     moment: u64,
     steps: &mut Steps<L>,
-) -> Next
-    requires { IsNew (names_of natives.now) interp.old }
-    ensures { BeginsDefine (names_of natives.now) block.now moment result interp.new interp.old }
+) -> Run
+    requires { IsNew (names_of natives.now) interp }
+    ensures { DefineBegan (names_of natives.now) block.now moment result.next result.interp
+        interp }
 {
-    interp.start_define(natives, block, moment, steps)
+    Run::start_define(interp, natives, block, moment, steps)
 }
 
 /// Goes on with the answer to the question at which the run stands.
-pub fn resume<L: Ledger>(
-    interp: &mut Interp,
-    natives: &Natives,
-    answer: Answer,
-    steps: &mut Steps<L>,
-) -> Next
-    requires { IsAsking interp.old }
-    ensures { Resumes (names_of natives.now) answer result interp.new interp.old }
+pub fn resume<L: Ledger>(run: &mut Run, natives: &Natives, answer: Answer, steps: &mut Steps<L>)
+    requires { IsAtQuestion run.old }
+    ensures { Resumed (names_of natives.now) answer run.new.next run.new.interp run.old.interp }
 {
-    interp.resume(natives, answer, steps)
+    run.resume(natives, answer, steps);
 }
 
 /// Goes on behind a response that was written whole.
-pub fn go_behind<L: Ledger>(interp: &mut Interp, natives: &Natives, steps: &mut Steps<L>) -> Next
-    requires { IsWriting interp.old }
-    ensures { GoesBehind (names_of natives.now) result interp.new interp.old }
+pub fn go_behind<L: Ledger>(run: &mut Run, natives: &Natives, steps: &mut Steps<L>)
+    requires { IsAtResponse run.old }
+    ensures { WentBehind (names_of natives.now) run.new.next run.new.interp run.old.interp }
 {
-    interp.written(natives, true, steps)
+    run.written(natives, true, steps);
 }

@@ -3,11 +3,12 @@
 ghost use Rattle.std.specs.Prelude.{◌≡◌, ◌≢◌, ◌↔◌, IfOk, OnOk, IsTrue, None, Some};
 ghost use Rattle.sched_core.specs.declared.call.SchedReply.TheVariants as replies;
 ghost use Rattle.natives.specs.Names.{names_of};
-ghost use Rattle.ictl.specs.Falls.{IsEnd};
+ghost use Rattle.ictl.specs.Came.{IsAtQuestion};
 ghost use Rattle.ictl.specs.declared.next.Next.TheVariants as nexts;
+ghost use Rattle.tcl_eval.specs.declared.outcome.Outcome.{Outcome};
 ghost use Rattle.rehearse.specs.Objects.{Setting as SeenSetting};
-ghost use Rattle.rehearse.specs.Schedules.{due_scripts, ScheduleRuns};
-ghost use Rattle.rehearse.specs.Playing.{setting_of, IsResting, IsSchedulerReady, with_running, ScheduleStepped, Turned};
+ghost use Rattle.rehearse.specs.Schedules.{due_scripts};
+ghost use Rattle.rehearse.specs.Playing.{setting_of, IsResting, IsSchedulerReady, with_running, ScheduleStepped};
 ghost use Rattle.rehearse.specs.declared.listing.Listing.{Listing as Told};
 ghost use Rattle.rehearse.specs.declared.objects.Objects.{Objects as SeenObjects};
 
@@ -17,22 +18,20 @@ use crate::objects::Objects;
 use crate::running::{begin_script, resume};
 use crate::setting::Setting;
 use cmd_table::Steps;
-use ictl::{Interp, Next, one_response};
+use ictl::{Next, Run, one_response};
 use natives::Natives;
-use outside::Question;
 use sched_core::{DueList, SchedCall, SchedReply};
 use std::alloc::Global;
 use std::mem;
 use std::sync::ledger::Ledger;
-use tcl_eval::Outcome;
 use turn_cell::Obj;
 use txt_core::NoMemory;
 
-/// A script under way: the interpreter that runs it, and the moment at which it began.
+/// A script under way: its run, and the moment at which it began.
 #[derive(Drop)]
 pub struct Running {
     id: u64,
-    interp: Interp,
+    run: Run,
     moment: u64,
 }
 
@@ -44,8 +43,8 @@ pub struct Scheduler {
     /// The scripts that were taken last, and how many of them began.
     due: DueList,
     begun: usize,
-    /// The script under way, and what its interpreter came to.
-    running: Option<(Running, Next)>,
+    /// The script under way.
+    running: Option<Running>,
 }
 
 /// The scripts that a reply lists. The only error is want of memory, exactly where the reply says so.
@@ -100,10 +99,10 @@ impl Scheduler {
     }
 
     /// Turns to a script, and lets go of what it was at.
-    fn turn_to(&mut self, running: Running, next: Next)
-        ensures { self.new ≡ with_running self.old (Some (running, next)) }
+    fn turn_to(&mut self, running: Running)
+        ensures { self.new ≡ with_running self.old (Some running) }
     {
-        drop(mem::replace(&mut self.running, Some((running, next))));
+        drop(mem::replace(&mut self.running, Some(running)));
     }
 
     /// Begins the next script, where there is one, on the blueprint and at the moment as they are now; else
@@ -129,17 +128,17 @@ impl Scheduler {
         let Some(due) = self.due.get(self.begun) else {
             unreachable!()
         };
-        let mut interp = self
+        let interp = self
             .keeper
             .take(self.alloc, natives, &objects.blueprint, steps)?;
-        let next = begin_script(&mut interp, natives, &due.script, moment, steps);
+        let run = begin_script(interp, natives, &due.script, moment, steps);
         let running = Running {
             id: due.id,
-            interp,
+            run,
             moment,
         };
         self.begun += 1;
-        self.turn_to(running, next);
+        self.turn_to(running);
         Ok(())
     }
 
@@ -149,58 +148,51 @@ impl Scheduler {
         natives: &Natives,
         setting: &Setting,
         objects: &mut Objects,
-        running: Running,
-        question: Question,
+        mut running: Running,
         steps: &mut Steps<L>,
     ) -> Result<(), NoMemory>
-        requires { IsSchedulerReady (names_of natives.now) objects.old.blueprint
-            (with_running self.old (Some (running, nexts.Asks question))) }
+        requires asks { IsAtQuestion running.run }
+        requires ready { IsSchedulerReady (names_of natives.now) objects.old.blueprint
+            (with_running self.old (Some running)) }
         ensures { (listing : Told)
             → OnOk result
             (ScheduleStepped (setting_of (names_of natives.now) setting.now)
-            (with_running self.old (Some (running, nexts.Asks question))) objects.old listing
-            self.new objects.new listing) }
+            (with_running self.old (Some running)) objects.old listing self.new objects.new
+            listing) }
     {
-        let Running {
-            id,
-            mut interp,
-            moment,
-        } = running;
+        let Some(question) = running.run.take_question() else {
+            unreachable!()
+        };
         objects.blueprint.shown();
-        match objects.answer(self.alloc, setting, moment, question) {
-            Ok(answer) => {
-                let next = resume(&mut interp, natives, answer, steps);
-                let running = Running { id, interp, moment };
-                self.turn_to(running, next);
-                Ok(())
-            }
-            Err(want) => {
-                drop(interp);
-                Err(want)
-            }
-        }
+        let answer = objects.answer(self.alloc, setting, running.moment, question)?;
+        resume(&mut running.run, natives, answer, steps);
+        self.turn_to(running);
+        Ok(())
     }
 
     /// Keeps the interpreter of a script that has ended, and tells how it ended.
     fn end<L: Ledger>(
         &mut self,
         running: Running,
-        outcome: Outcome,
         listing: &mut Listing,
         steps: &mut Steps<L>,
     ) -> Result<(), NoMemory>
         requires none { self.old.running ≡ None }
-        requires is_end { IsEnd outcome }
+        requires ended { (outcome : Outcome) × (running.run.next ≡ nexts.Ended outcome) }
         ensures { (setting : SeenSetting) (objects : SeenObjects)
             → IsSchedulerReady setting.natives objects.blueprint
-            (with_running self.old (Some (running, nexts.Ended outcome)))
+            (with_running self.old (Some running))
             → OnOk result
-            (ScheduleStepped setting (with_running self.old (Some (running, nexts.Ended outcome)))
-            objects listing.old self.new objects listing.new) }
+            (ScheduleStepped setting (with_running self.old (Some running)) objects listing.old
+            self.new objects listing.new) }
     {
-        let Running { id, interp, .. } = running;
+        let Running { id, run, .. } = running;
+        let (next, interp) = run.into_parts();
         let epoch = interp.epoch();
         self.keeper.keep(interp, steps);
+        let Next::Ended(outcome) = next else {
+            unreachable!()
+        };
         listing.push_script(id, epoch, outcome)
     }
 
@@ -211,23 +203,20 @@ impl Scheduler {
         setting: &Setting,
         objects: &mut Objects,
         running: Running,
-        next: Next,
         listing: &mut Listing,
         steps: &mut Steps<L>,
     ) -> Result<(), NoMemory>
         requires none { self.old.running ≡ None }
         requires ready { IsSchedulerReady (names_of natives.now) objects.old.blueprint
-            (with_running self.old (Some (running, next))) }
+            (with_running self.old (Some running)) }
         ensures { OnOk result
             (ScheduleStepped (setting_of (names_of natives.now) setting.now)
-            (with_running self.old (Some (running, next))) objects.old listing.old self.new
-            objects.new listing.new) }
+            (with_running self.old (Some running)) objects.old listing.old self.new objects.new
+            listing.new) }
     {
-        match next {
-            Next::Asks(question) => {
-                self.answer(natives, setting, objects, running, question, steps)
-            }
-            Next::Ended(outcome) => self.end(running, outcome, listing, steps),
+        match running.run.next() {
+            Next::Asks(_) => self.answer(natives, setting, objects, running, steps),
+            Next::Ended(_) => self.end(running, listing, steps),
             Next::Write(_) => {
                 one_response();
                 unreachable!()
@@ -254,31 +243,8 @@ impl Scheduler {
             listing.old self.new objects.new listing.new) }
     {
         match self.running.take() {
-            Some((running, next)) => self.go_on(
-                natives, setting, objects, running, next, listing, steps,
-            ),
+            Some(running) => self.go_on(natives, setting, objects, running, listing, steps),
             None => self.begin(natives, setting, objects, steps),
         }
-    }
-
-    /// Takes steps, at least one, until it has no script.
-    pub fn run<L: Ledger>(
-        &mut self,
-        natives: &Natives,
-        setting: &Setting,
-        objects: &mut Objects,
-        listing: &mut Listing,
-        steps: &mut Steps<L>,
-    ) -> Result<(), NoMemory>
-        requires { IsSchedulerReady (names_of natives.now) objects.old.blueprint self.old }
-        ensures { OnOk result
-            (Turned ScheduleRuns (setting_of (names_of natives.now) setting.now) self.old
-            objects.old listing.old self.new objects.new listing.new) }
-    {
-        self.step(natives, setting, objects, listing, steps)?;
-        'steps: while !self.is_idle() {
-            self.step(natives, setting, objects, listing, steps)?;
-        }
-        Ok(())
     }
 }

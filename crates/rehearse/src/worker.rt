@@ -4,13 +4,13 @@ ghost use Rattle.std.specs.Prelude.{◌≡◌, ◌↔◌, ◌∷◌, [], None, S
 ghost use Rattle.natives.specs.Names.{names_of};
 ghost use Rattle.http_resp.specs.ResponseBytes.{response_bytes};
 ghost use Rattle.serving.specs.Connections.{closes};
-ghost use Rattle.ictl.specs.Falls.{IsWriting};
+ghost use Rattle.ictl.specs.Came.{IsAtQuestion, IsAtResponse};
 ghost use Rattle.ictl.specs.declared.next.Next.TheVariants as nexts;
 ghost use Rattle.tcl_eval.specs.declared.outcome.Outcome.{Outcome};
 ghost use Rattle.rehearse.specs.Lines.{response, closed, refused};
 ghost use Rattle.rehearse.specs.Objects.{Setting as SeenSetting};
-ghost use Rattle.rehearse.specs.Steps.{RunsUntilIdle, refusal_bytes};
-ghost use Rattle.rehearse.specs.Playing.{setting_of, with_task, HasNew, HasBegun, IsReady, Stepped, Moved, Tells};
+ghost use Rattle.rehearse.specs.Steps.{refusal_bytes};
+ghost use Rattle.rehearse.specs.Playing.{setting_of, with_task, HasNew, HasBegun, IsReady, Stepped, Tells};
 ghost use Rattle.rehearse.specs.declared.listing.Listing.{Listing as Told};
 ghost use Rattle.rehearse.specs.declared.objects.Objects.{Objects as SeenObjects};
 ghost use Rattle.rehearse.specs.declared.worker.Task.TheVariants as tasks;
@@ -24,9 +24,8 @@ use crate::supply::Supply;
 use cmd_table::Steps;
 use http_req::{Carry, Got, Request, read_request};
 use http_resp::{Response, plain, response_bytes};
-use ictl::{Interp, Next, one_response};
+use ictl::{Next, Run, one_response};
 use natives::Natives;
-use outside::Question;
 use serving::{Behind, after_request, asks_close, closes, counted, is_head_only};
 use std::alloc::Global;
 use std::mem;
@@ -47,11 +46,11 @@ pub struct Connection {
     answer_bytes: u64,
 }
 
-/// A request under way: the interpreter that serves it, the moment at which it began, and what it asks of
-/// its connection and of its response.
+/// A request under way: its run, the moment at which it began, and what it asks of its connection and of
+/// its response.
 #[derive(Drop)]
 pub struct UnderWay {
-    interp: Interp,
+    run: Run,
     moment: u64,
     asks_close: bool,
     head_only: bool,
@@ -66,8 +65,8 @@ pub enum Task {
     Idle,
     /// It has a connection, and no request is under way.
     Between(Connection),
-    /// It serves a request, whose interpreter came to this.
-    Serving(Connection, UnderWay, Next),
+    /// It serves a request.
+    Serving(Connection, UnderWay),
 }
 
 /// A worker of a number, with the interpreter that it keeps.
@@ -107,7 +106,7 @@ impl Worker {
     {
         match self.task {
             Task::Idle => true,
-            Task::Between(_) | Task::Serving(_, _, _) => false,
+            Task::Between(_) | Task::Serving(_, _) => false,
         }
     }
 
@@ -153,22 +152,22 @@ impl Worker {
             (IsReady (names_of natives.now) objects.now.blueprint self.new) }
         ensures number { self.new.number ≡ self.old.number }
     {
-        let mut interp = self
+        let interp = self
             .keeper
             .take(self.alloc, natives, &objects.blueprint, steps)?;
         let asks_close = asks_close(&request);
         let head_only = is_head_only(&request);
         let moment = setting.moment;
-        let next = begin_request(&mut interp, natives, request, moment, steps);
+        let run = begin_request(interp, natives, request, moment, steps);
         connection.requests += 1;
         let serving = UnderWay {
-            interp,
+            run,
             moment,
             asks_close,
             head_only,
             written: false,
         };
-        self.turn_to(Task::Serving(connection, serving, next));
+        self.turn_to(Task::Serving(connection, serving));
         Ok(())
     }
 
@@ -225,22 +224,25 @@ impl Worker {
         objects: &mut Objects,
         mut connection: Connection,
         mut serving: UnderWay,
-        question: Question,
         steps: &mut Steps<L>,
     ) -> Result<(), NoMemory>
+        requires asks { IsAtQuestion serving.run }
         requires ready { IsReady (names_of natives.now) objects.old.blueprint
-            (with_task self.old (tasks.Serving connection serving (nexts.Asks question))) }
+            (with_task self.old (tasks.Serving connection serving)) }
         ensures { (listing : Told)
             → OnOk result
             (Stepped (setting_of (names_of natives.now) setting.now)
-            (with_task self.old (tasks.Serving connection serving (nexts.Asks question)))
-            objects.old listing self.new objects.new listing) }
+            (with_task self.old (tasks.Serving connection serving)) objects.old listing self.new
+            objects.new listing) }
     {
+        let Some(question) = serving.run.take_question() else {
+            unreachable!()
+        };
         objects.blueprint.shown();
         let answer = objects.answer(self.alloc, setting, serving.moment, question)?;
         connection.answer_bytes = counted(connection.answer_bytes, &answer);
-        let next = resume(&mut serving.interp, natives, answer, steps);
-        self.turn_to(Task::Serving(connection, serving, next));
+        resume(&mut serving.run, natives, answer, steps);
+        self.turn_to(Task::Serving(connection, serving));
         Ok(())
     }
 
@@ -254,7 +256,7 @@ impl Worker {
     ) -> Result<(), NoMemory>
         ensures { OnOk result
             (Tells listing.old
-            (response self.now.number (Some serving.now.interp.blueprint.value.epoch)
+            (response self.now.number (Some serving.now.run.interp.blueprint.value.epoch)
             reply.now.status
             (response_bytes reply.now serving.now.moment serving.now.head_only
             (closes serving.now.asks_close connection.now.requests connection.now.answer_bytes))
@@ -264,7 +266,7 @@ impl Worker {
         let (requests, answer_bytes) = (connection.requests, connection.answer_bytes);
         let closes = closes(serving.asks_close, requests, answer_bytes);
         let bytes = response_bytes(self.alloc, reply, serving.moment, serving.head_only, closes)?;
-        let epoch = serving.interp.epoch();
+        let epoch = serving.run.epoch();
         listing.push_response(self.number, Some(epoch), reply.status, bytes.bytes())
     }
 
@@ -274,25 +276,26 @@ impl Worker {
         natives: &Natives,
         connection: Connection,
         mut serving: UnderWay,
-        response: Response,
         listing: &mut Listing,
         steps: &mut Steps<L>,
     ) -> Result<(), NoMemory>
-        requires writing { IsWriting serving.interp }
+        requires writing { IsAtResponse serving.run }
         ensures { (setting : SeenSetting) (objects : SeenObjects)
             → setting.natives ≡ names_of natives.now
             → IsReady setting.natives objects.blueprint
-            (with_task self.old (tasks.Serving connection serving (nexts.Write response)))
+            (with_task self.old (tasks.Serving connection serving))
             → OnOk result
-            (Stepped setting
-            (with_task self.old (tasks.Serving connection serving (nexts.Write response))) objects
+            (Stepped setting (with_task self.old (tasks.Serving connection serving)) objects
             listing.old self.new objects listing.new) }
     {
         one_response();
-        self.tell(&connection, &serving, &response, listing)?;
-        let next = go_behind(&mut serving.interp, natives, steps);
+        let Next::Write(response) = serving.run.next() else {
+            unreachable!()
+        };
+        self.tell(&connection, &serving, response, listing)?;
+        go_behind(&mut serving.run, natives, steps);
         serving.written = true;
-        self.turn_to(Task::Serving(connection, serving, next));
+        self.turn_to(Task::Serving(connection, serving));
         Ok(())
     }
 
@@ -306,18 +309,19 @@ impl Worker {
     ) -> Result<(), NoMemory>
         requires { self.old.task ≡ tasks.Idle }
         ensures { (setting : SeenSetting) (objects : SeenObjects) (outcome : Outcome)
+            → serving.run.next ≡ nexts.Ended outcome
             → IsReady setting.natives objects.blueprint
-            (with_task self.old (tasks.Serving connection serving (nexts.Ended outcome)))
+            (with_task self.old (tasks.Serving connection serving))
             → OnOk result
-            (Stepped setting
-            (with_task self.old (tasks.Serving connection serving (nexts.Ended outcome))) objects
+            (Stepped setting (with_task self.old (tasks.Serving connection serving)) objects
             listing.old self.new objects listing.new) }
     {
         let UnderWay {
-            interp,
+            run,
             asks_close,
             ..
         } = serving;
+        let (_, interp) = run.into_parts();
         let behind = after_request(asks_close, connection.requests, connection.answer_bytes);
         self.keeper.keep(interp, steps);
         match behind {
@@ -339,25 +343,20 @@ impl Worker {
         objects: &mut Objects,
         connection: Connection,
         serving: UnderWay,
-        next: Next,
         listing: &mut Listing,
         steps: &mut Steps<L>,
     ) -> Result<(), NoMemory>
         requires idle { self.old.task ≡ tasks.Idle }
         requires ready { IsReady (names_of natives.now) objects.old.blueprint
-            (with_task self.old (tasks.Serving connection serving next)) }
+            (with_task self.old (tasks.Serving connection serving)) }
         ensures { OnOk result
             (Stepped (setting_of (names_of natives.now) setting.now)
-            (with_task self.old (tasks.Serving connection serving next)) objects.old listing.old
-            self.new objects.new listing.new) }
+            (with_task self.old (tasks.Serving connection serving)) objects.old listing.old self.new
+            objects.new listing.new) }
     {
-        match next {
-            Next::Asks(question) => self.answer(
-                natives, setting, objects, connection, serving, question, steps,
-            ),
-            Next::Write(response) => {
-                self.write(natives, connection, serving, response, listing, steps)
-            }
+        match serving.run.next() {
+            Next::Asks(_) => self.answer(natives, setting, objects, connection, serving, steps),
+            Next::Write(_) => self.write(natives, connection, serving, listing, steps),
             Next::Ended(_) => self.end(connection, serving, listing, steps),
             Next::NoMemory => {
                 drop(serving);
@@ -385,30 +384,9 @@ impl Worker {
             Task::Between(connection) => {
                 self.go_on(natives, setting, objects, connection, listing, steps)
             }
-            Task::Serving(connection, serving, next) => self.serve(
-                natives, setting, objects, connection, serving, next, listing, steps,
+            Task::Serving(connection, serving) => self.serve(
+                natives, setting, objects, connection, serving, listing, steps,
             ),
         }
-    }
-
-    /// Takes steps, at least one, until it is idle.
-    pub fn run<L: Ledger>(
-        &mut self,
-        natives: &Natives,
-        setting: &Setting,
-        objects: &mut Objects,
-        listing: &mut Listing,
-        steps: &mut Steps<L>,
-    ) -> Result<(), NoMemory>
-        requires { IsReady (names_of natives.now) objects.old.blueprint self.old }
-        ensures { OnOk result
-            (Moved RunsUntilIdle (setting_of (names_of natives.now) setting.now) self.old
-            objects.old listing.old self.new objects.new listing.new) }
-    {
-        self.step(natives, setting, objects, listing, steps)?;
-        'steps: while !self.is_idle() {
-            self.step(natives, setting, objects, listing, steps)?;
-        }
-        Ok(())
     }
 }

@@ -6,6 +6,5 @@ returns g c = record {
   runs = (0, c.start_define.ensures.stands);
   blueprint = c.start_define.ensures.holds.blueprint;
   sound = c.start_define.ensures.sound (names_of c.args.natives.now) c.requires.0;
-  stands = c.start_define.ensures.next;
   falls = c.start_define.ensures.falls;
 }

@@ -4,9 +4,8 @@ use Rattle.rehearse.proofs.running.begin_script.Goals as goal
 
 pub returns : goal.returns
 returns g c = record {
-  runs = (taken (names_of c.args.natives.now) c.start_script.new.steps c.args.steps.now c.start_script.new.self c.args.interp.now, c.start_script.ensures.stands);
+  runs = (taken (names_of c.args.natives.now) c.start_script.new.steps c.args.steps.now c.start_script.result.interp c.args.interp, c.start_script.ensures.stands);
   blueprint = c.start_script.ensures.holds.blueprint;
   sound = c.start_script.ensures.sound (names_of c.args.natives.now) c.requires.0;
-  stands = c.start_script.ensures.next;
   falls = c.start_script.ensures.falls;
 }

@@ -1,15 +1,20 @@
-use Rattle.std.proofs.Common.{ℕ, refl, ◌∙◌, ap}
+use Rattle.std.proofs.Common.{ℕ, refl, ◌∙◌, ap, subst}
 use Rattle.natives.specs.Names.{names_of}
-use Rattle.rehearse.specs.Defining.{epoch_behind}
-use Rattle.rehearse.specs.Playing.{setting_of}
+use Rattle.ictl.specs.Came.{Came}
+use Rattle.rehearse.specs.Defining.{epoch_behind_question}
+use Rattle.rehearse.specs.Playing.{setting_of, Resumed}
 use Rattle.rehearse.proofs.Settling.{went_on}
 use Rattle.rehearse.proofs.defining.Run.answer.Goals as goal
 
+pub unreachable-requires : goal.unreachable-requires
+unreachable-requires g c = (rw c.in_default.is at c.take_question.ensures).0 c.requires.asks.0 c.requires.asks.1
+
 pub resume-requires : goal.resume-requires
-resume-requires g c = c.requires.«at»
+resume-requires g c = (_, ap (λ (came : Came). came.next) c.in-Some.ensures.1)
 
 pub returns : goal.returns
 returns g c =
-    went_on (setting_of (names_of c.args.natives.now) c.args.setting.now) c.args.question c.args.self.now _ c.args.objects.now _ _ c.resume.result
-    c.shown.ensures c.requires (c.in_ok-answer.ensures (names_of c.args.natives.now)) c.resume.ensures refl
-    (c.epoch_behind-self.ensures ∙ ap (λ (e : ℕ). epoch_behind c.args.question.service c.args.self.now.epoch e) c.epoch.ensures.epoch)
+    went_on (setting_of (names_of c.args.natives.now) c.args.setting.now) c.in-Some.question c.args.self.now _ c.args.objects.now _ c.in_ok-answer.answer
+    c.in-Some.ensures.0 c.shown.ensures c.requires.ready (c.in_ok-answer.ensures (names_of c.args.natives.now))
+    (subst (λ (came : Came). Resumed (names_of c.args.natives.now) c.in_ok-answer.answer c.resume.new.run.next c.resume.new.run.interp came.interp) c.in-Some.ensures.1 c.resume.ensures) refl
+    (c.epoch_behind-self.ensures ∙ ap (λ (e : ℕ). epoch_behind_question c.in-Some.question.service c.args.self.now.epoch e) c.epoch.ensures.epoch)

@@ -1,42 +1,43 @@
-use Rattle.std.proofs.Common.{refl, arith}
+use Rattle.std.proofs.Common.{◌≡◌, true}
 use Rattle.natives.specs.Names.{names_of}
-use Rattle.rehearse.specs.Playing.{setting_of}
-use Rattle.rehearse.specs.Steps.{RunsUntilIdle}
-use Rattle.rehearse.proofs.Moving.{runs_did, no_run_there, schedule_ran, found_at, ready_there, ready_moved, ready_on}
-use Rattle.rehearse.proofs.Standing.{keeps_later}
+use Rattle.rehearse.specs.Reading.{actor_of}
+use Rattle.rehearse.proofs.Advancing.{no_run, so_far_begins, so_far_more, so_far_over, so_far_ready, so_far_there, steps_fall}
 use Rattle.rehearse.proofs.machine.Machine.run.Goals as goal
 
-pub returns-then-number-len-clause-did : goal.returns-then-number-len-clause-did
-returns-then-number-len-clause-did g c = rw c.in-Worker.is (no_run_there (names_of c.args.natives.now) c.args.self.now c.in-Worker.number c.args.listing.now (omega arith))
+pub returns-then-not-has-clause-did : goal.returns-then-not-has-clause-did
+returns-then-not-has-clause-did g c =
+    no_run (names_of c.args.natives.now) (actor_of c.args.actor) c.args.self.now c.args.listing.now
+    (λ there. let yes : c.has.result ≡ true = c.has.ensures.1 there in absurd (cc (yes, c.if-not-has.true)))
 
-pub run-requires-in-Worker : goal.run-requires-in-Worker
-run-requires-in-Worker g c =
-    let items = c.args.self.now.workers.items in
-    let taken = c.index_mut.result.now in
-    ready_there (names_of c.args.natives.now) c.args.self.now.objects.blueprint items c.in-Worker.number taken c.requires.ready.workers
-    (found_at items c.in-Worker.number taken (omega arith) c.index_mut.ensures.value)
+pub advance-requires-clause-there : goal.advance-requires-clause-there
+advance-requires-clause-there g c = c.has.ensures.0 c.if-not-has.false
 
-pub returns-in_ok-run-in-Scheduler-clause-did : goal.returns-in_ok-run-in-Scheduler-clause-did
-returns-in_ok-run-in-Scheduler-clause-did g c =
-    rw c.in-Scheduler.is (schedule_ran (names_of c.args.natives.now) c.args.self.now _ c.args.listing.now c.run.new.listing c.in_ok-run-in-Scheduler.ensures refl refl refl)
+pub steps-init : goal.steps-init
+steps-init g c =
+    so_far_begins (names_of c.args.natives.now) (actor_of c.args.actor) _ c.args.self.now c.args.listing.now c.advance.new.self c.advance.new.listing c.in_ok-idle.ensures
 
-pub returns-in_ok-run-in-Scheduler-clause-ready : goal.returns-in_ok-run-in-Scheduler-clause-ready
-returns-in_ok-run-in-Scheduler-clause-ready g c =
-    let turned = c.in_ok-run-in-Scheduler.ensures in
-    ready_on (names_of c.args.natives.now) c.args.self.now _ c.requires.ready turned.reaches
-    (keeps_later (names_of c.args.natives.now) c.args.self.now.objects.blueprint c.run.new.objects.blueprint c.args.self.now.definer.keeper turned.reaches c.requires.ready.definer)
-    turned.ready refl
+pub advance-requires-in-steps-clause-ready : goal.advance-requires-in-steps-clause-ready
+advance-requires-in-steps-clause-ready g c =
+    so_far_ready (names_of c.args.natives.now) (actor_of c.args.actor) c.steps.idle c.args.self.now c.args.listing.now c.steps.self c.steps.listing c.requires.ready c.steps.invariant
 
-pub returns-in_ok-run-in-Worker-clause-did : goal.returns-in_ok-run-in-Worker-clause-did
-returns-in_ok-run-in-Worker-clause-did g c =
-    let items = c.args.self.now.workers.items in
-    let taken = c.index_mut.result.now in
-    rw c.in-Worker.is
-    (runs_did (names_of c.args.natives.now) c.args.self.now _ c.in-Worker.number c.args.listing.now c.run-in-Worker.new.listing taken c.run-in-Worker.new.self
-    (found_at items c.in-Worker.number taken (omega arith) c.index_mut.ensures.value) c.in_ok-run-in-Worker.ensures refl refl refl refl)
+pub advance-requires-in-steps-clause-there : goal.advance-requires-in-steps-clause-there
+advance-requires-in-steps-clause-there g c =
+    so_far_there (names_of c.args.natives.now) (actor_of c.args.actor) c.steps.idle c.args.self.now c.args.listing.now c.steps.self c.steps.listing c.steps.invariant
 
-pub returns-in_ok-run-in-Worker-clause-ready : goal.returns-in_ok-run-in-Worker-clause-ready
-returns-in_ok-run-in-Worker-clause-ready g c =
-    let taken = c.index_mut.result.now in
-    ready_moved (names_of c.args.natives.now) RunsUntilIdle (setting_of (names_of c.args.natives.now) c.args.self.now.setting) c.args.self.now _ c.in-Worker.number c.args.listing.now c.run-in-Worker.new.listing taken c.run-in-Worker.new.self
-    c.requires.ready refl c.in_ok-run-in-Worker.ensures refl refl refl
+pub steps-preserved : goal.steps-preserved
+steps-preserved g c =
+    so_far_more (names_of c.args.natives.now) (actor_of c.args.actor) c.steps.idle _ c.args.self.now c.steps.self c.advance-in-steps.new.self
+    c.args.listing.now c.steps.listing c.advance-in-steps.new.listing c.steps-test.true c.steps.invariant c.in_ok-idle-2.ensures
+
+pub steps-smaller : goal.steps-smaller
+steps-smaller g c =
+    steps_fall (names_of c.args.natives.now) (actor_of c.args.actor) c.steps.idle _ c.args.self.now c.steps.self c.advance-in-steps.new.self
+    c.args.listing.now c.steps.listing c.advance-in-steps.new.listing c.steps-test.true c.steps.invariant c.in_ok-idle-2.ensures
+
+pub returns-clause-did : goal.returns-clause-did
+returns-clause-did g c =
+    so_far_over (names_of c.args.natives.now) (actor_of c.args.actor) c.steps.idle c.args.self.now c.args.listing.now c.steps.self c.steps.listing c.steps-test.false c.steps.invariant
+
+pub returns-clause-ready : goal.returns-clause-ready
+returns-clause-ready g c =
+    so_far_ready (names_of c.args.natives.now) (actor_of c.args.actor) c.steps.idle c.args.self.now c.args.listing.now c.steps.self c.steps.listing c.requires.ready c.steps.invariant

@@ -19,15 +19,13 @@ pub returns : goal.returns
 returns g c = rw c.turn_to.ensures (λ listing.
     let setting : Setting = setting_of (names_of c.args.natives.now) c.args.setting.now in
     let made = c.in_ok-interp.interp in
-    let next = c.begin_script-next.result in
-    let begun = c.begin_script-next.ensures in
-    let running : Running = record { id = c.in-Some.due.now.id; interp = c.begin_script-next.new.interp; moment = c.args.setting.now.moment } in
-    begins_stepped setting c.args.self.now _ c.args.objects.now listing c.in-Some.due.now running next c.requires.none (sym c.in-Some.ensures)
-    (begun_shows setting.natives setting c.args.objects.now c.in-Some.due.now running next made c.in_ok-interp.ensures.is_new.1 begun refl refl)
+    let begun = c.begin_script-run.ensures in
+    let running : Running = record { id = c.in-Some.due.now.id; run = c.begin_script-run.result; moment = c.args.setting.now.moment } in
+    begins_stepped setting c.args.self.now _ c.args.objects.now listing c.in-Some.due.now running c.requires.none (sym c.in-Some.ensures)
+    (begun_shows setting.natives setting c.args.objects.now c.in-Some.due.now running made c.in_ok-interp.ensures.is_new.1 begun refl refl)
     (record {
       sound = begun.sound;
-      on = on_same setting.natives c.args.objects.now.blueprint running.interp made begun.blueprint c.in_ok-interp.ensures.is_new.2;
-      «at» = begun.stands;
+      on = on_same setting.natives c.args.objects.now.blueprint running.run.interp made begun.blueprint c.in_ok-interp.ensures.is_new.2;
     })
     begun.falls
     (keeps_none setting.natives c.args.objects.now.blueprint c.take.new.self c.take.ensures.none c.requires.ready.0.0) refl refl refl)

@@ -1,8 +1,7 @@
 use Rattle.std.proofs.Common.{Option, ap}
-use Rattle.ictl.specs.declared.next.Next.{Next}
 use Rattle.rehearse.specs.declared.scheduler.Running.{Running}
 use Rattle.rehearse.specs.Playing.{with_running}
 use Rattle.rehearse.proofs.scheduler.Scheduler.turn_to.Goals as goal
 
 pub returns : goal.returns
-returns c = ap (λ (r : Option (Running × Next)). with_running c.args.self.now r) c.replace.ensures.after
+returns c = ap (λ (r : Option Running). with_running c.args.self.now r) c.replace.ensures.after

@@ -1,13 +1,19 @@
+use Rattle.std.proofs.Common.{subst, ap}
 use Rattle.natives.specs.Names.{names_of}
-use Rattle.rehearse.specs.Playing.{setting_of}
-use Rattle.rehearse.proofs.Working.{answers_stepped}
+use Rattle.ictl.specs.Came.{Came}
+use Rattle.rehearse.specs.Playing.{setting_of, Resumed}
+use Rattle.rehearse.proofs.Working.{answers_from}
 use Rattle.rehearse.proofs.worker.Worker.answer.Goals as goal
 
-pub resume-next-requires : goal.resume-next-requires
-resume-next-requires g c = c.requires.ready.1.1.«at»
+pub unreachable-requires : goal.unreachable-requires
+unreachable-requires g c = (rw c.in_default.is at c.take_question.ensures).0 c.requires.asks.0 c.requires.asks.1
+
+pub resume-requires : goal.resume-requires
+resume-requires g c = (_, ap (λ (came : Came). came.next) c.in-Some.ensures.1)
 
 pub returns : goal.returns
 returns g c = λ listing. rw c.turn_to.ensures
-    (answers_stepped (setting_of (names_of c.args.natives.now) c.args.setting.now) c.args.self.now c.args.objects.now c.answer.new.self listing
-    c.args.connection c.args.serving c.args.question c.in_ok-answer.answer c.resume-next.result c.resume-next.new.interp c.counted.result
-    c.shown.ensures c.requires.ready (c.in_ok-answer.ensures (names_of c.args.natives.now)) c.counted.ensures c.resume-next.ensures)
+    (answers_from (setting_of (names_of c.args.natives.now) c.args.setting.now) c.args.self.now c.args.objects.now c.answer.new.self listing
+    c.args.connection c.args.serving c.in-Some.question c.in_ok-answer.answer c.resume.new.run.next c.resume.new.run.interp c.counted.result
+    c.in-Some.ensures.0 c.shown.ensures c.requires.ready (c.in_ok-answer.ensures (names_of c.args.natives.now)) c.counted.ensures
+    (subst (λ (came : Came). Resumed (names_of c.args.natives.now) c.in_ok-answer.answer c.resume.new.run.next c.resume.new.run.interp came.interp) c.in-Some.ensures.1 c.resume.ensures))

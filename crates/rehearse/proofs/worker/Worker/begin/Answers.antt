@@ -10,20 +10,19 @@ use Rattle.rehearse.proofs.worker.Worker.begin.Goals as goal
 
 pub returns-clause-begun : goal.returns-clause-begun
 returns-clause-begun g c = rw c.turn_to.ensures
-    (let serving : UnderWay = record { interp = c.begin_request-next.new.interp; moment = c.args.setting.now.moment; asks_close = c.asks_close-asks_close.result; head_only = c.is_head_only-head_only.result; written = false } in (
+    (let serving : UnderWay = record { run = c.begin_request-run.result; moment = c.args.setting.now.moment; asks_close = c.asks_close-asks_close.result; head_only = c.is_head_only-head_only.result; written = false } in (
       serving,
-      c.begin_request-next.result,
       refl,
-      begun_serves (names_of c.args.natives.now) (setting_of (names_of c.args.natives.now) c.args.setting.now) c.args.objects.now c.args.request serving c.begin_request-next.result c.in_ok-interp.interp
-          c.in_ok-interp.ensures.is_new.1 c.begin_request-next.ensures refl c.asks_close-asks_close.ensures c.is_head_only-head_only.ensures refl,
+      begun_serves (names_of c.args.natives.now) (setting_of (names_of c.args.natives.now) c.args.setting.now) c.args.objects.now c.args.request serving c.in_ok-interp.interp
+          c.in_ok-interp.ensures.is_new.1 c.begin_request-run.ensures refl c.asks_close-asks_close.ensures c.is_head_only-head_only.ensures refl,
     ))
 
 pub returns-clause-ready : goal.returns-clause-ready
 returns-clause-ready g c = rw c.turn_to.ensures
-    (let serving : UnderWay = record { interp = c.begin_request-next.new.interp; moment = c.args.setting.now.moment; asks_close = c.asks_close-asks_close.result; head_only = c.is_head_only-head_only.result; written = false } in
+    (let serving : UnderWay = record { run = c.begin_request-run.result; moment = c.args.setting.now.moment; asks_close = c.asks_close-asks_close.result; head_only = c.is_head_only-head_only.result; written = false } in
     let request : Open = begun_request (setting_of (names_of c.args.natives.now) c.args.setting.now) c.args.objects.now c.args.request in
-    let after : Worker = record c.args.self.now { keeper = c.take.new.self; task = tasks.Serving (one_more c.args.connection) serving c.begin_request-next.result } in
-    begun_ready (names_of c.args.natives.now) c.args.objects.now.blueprint after c.args.connection serving c.begin_request-next.result request request c.in_ok-interp.interp
-    c.requires.ready.0.0 c.in_ok-interp.ensures.none refl c.requires.ready.1 c.begin_request-next.ensures c.in_ok-interp.ensures.is_new.2 refl
-    (begun_serves (names_of c.args.natives.now) (setting_of (names_of c.args.natives.now) c.args.setting.now) c.args.objects.now c.args.request serving c.begin_request-next.result c.in_ok-interp.interp
-    c.in_ok-interp.ensures.is_new.1 c.begin_request-next.ensures refl c.asks_close-asks_close.ensures c.is_head_only-head_only.ensures refl))
+    let after : Worker = record c.args.self.now { keeper = c.take.new.self; task = tasks.Serving (one_more c.args.connection) serving } in
+    begun_ready (names_of c.args.natives.now) c.args.objects.now.blueprint after c.args.connection serving request request c.in_ok-interp.interp
+    c.requires.ready.0.0 c.in_ok-interp.ensures.none refl c.requires.ready.1 c.begin_request-run.ensures c.in_ok-interp.ensures.is_new.2 refl
+    (begun_serves (names_of c.args.natives.now) (setting_of (names_of c.args.natives.now) c.args.setting.now) c.args.objects.now c.args.request serving c.in_ok-interp.interp
+    c.in_ok-interp.ensures.is_new.1 c.begin_request-run.ensures refl c.asks_close-asks_close.ensures c.is_head_only-head_only.ensures refl))

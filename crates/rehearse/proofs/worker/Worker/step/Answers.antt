@@ -30,6 +30,6 @@ serve-requires-clause-ready g c =
 pub returns-in-Serving : goal.returns-in-Serving
 returns-in-Serving g c =
     on_ok c.serve.result
-    (stepped_from (setting_of (names_of c.args.natives.now) c.args.setting.now) (with_task c.args.self.now (tasks.Serving c.in-Serving.connection c.in-Serving.serving c.in-Serving.next)) c.args.self.now c.serve.new.self
+    (stepped_from (setting_of (names_of c.args.natives.now) c.args.setting.now) (with_task c.args.self.now (tasks.Serving c.in-Serving.connection c.in-Serving.serving)) c.args.self.now c.serve.new.self
     c.args.objects.now c.serve.new.objects c.args.listing.now c.serve.new.listing (ap (λ (t : Task). with_task c.args.self.now t) (sym c.in-Serving.ensures.value)))
     c.serve.ensures
