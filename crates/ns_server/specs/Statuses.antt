@@ -10,10 +10,10 @@ use Rattle.ns_server.specs.declared.status.Status.TheVariants.{Done, BadEvent, B
 abbrev pub number_of : Status → ℕ
 number_of Done = 0
 number_of (BadEvent event) = 1
-number_of BadWords = 2
+number_of BadWords = serving.number_of served.BadWords
 number_of ReadFault = 3
 number_of WriteFault = 4
-number_of NoMemory = 5
+number_of NoMemory = serving.number_of served.NoMemory
 
 -- the line that is written on errors, with its newline; none where all went well
 abbrev pub line_of : Status → Bytes

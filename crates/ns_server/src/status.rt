@@ -6,6 +6,7 @@ ghost use Rattle.ns_server.specs.Statuses.{number_of, line_of};
 use arrayvec::ArrayString;
 use itoa::Buffer;
 use rehearse::Rehearsal;
+use serve_run::{BAD_WORDS, OUT_OF_MEMORY};
 
 /// The bytes of the longest line: `bad event `, a number of 64 bits and a newline.
 const LONGEST_LINE: usize = 31;
@@ -55,10 +56,10 @@ impl Status {
                 line.push_str(digits.format(event));
                 line.push_str("\n");
             }
-            Status::BadWords => line.push_str("bad words\n"),
+            Status::BadWords => line.push_str(BAD_WORDS),
             Status::ReadFault => line.push_str("read fault\n"),
             Status::WriteFault => line.push_str("write fault\n"),
-            Status::NoMemory => line.push_str("out of memory\n"),
+            Status::NoMemory => line.push_str(OUT_OF_MEMORY),
         }
         line
     }

@@ -1,4 +1,6 @@
-ghost use Rattle.std.specs.Prelude.{◌≡◌, ◌<◌};
+ghost use Rattle.std.specs.Prelude.{◌≡◌, ◌<◌, IfSome, length};
+ghost use Rattle.outside.specs.Halls.{state_of};
+ghost use Rattle.outside.specs.Nets.{IsNew};
 
 use crate::program::run;
 use cmd_table::Steps;
@@ -7,12 +9,10 @@ use outside::{MemClock, MemConn, MemNet, MemPages, MemSink, MemSource, OpenGate,
 use std::alloc::Global;
 use std::marker::Brand;
 use std::net::{TcpListener, TcpStream};
-use std::process::Abort;
 use std::sync::Wait;
 use std::sync::ledger::{Blank, Ledger};
-use std::test::*;
 use std::thread::Threads;
-use txt_core::{NoMemory, Text, Words};
+use txt_core::{Text, Words};
 
 /// The most bytes that a call of the input gives, that one of the output takes and that one of errors takes.
 const READ_PIECE: usize = 80;
@@ -20,9 +20,6 @@ const READ_PIECE: usize = 80;
 const WRITE_PIECE: usize = 100;
 
 const ERROR_PIECE: usize = 5;
-
-/// How many bytes are told of the first event.
-const DEFINED: usize = 10;
 
 /// A procedure, its URL and a GET of it. The first event has 79 bytes.
 const HI: &[u8] = b"define 68\n\
@@ -85,27 +82,85 @@ struct Case {
     errors: &'static [u8],
 }
 
-/// The status, the output and the errors of a run.
+/// What a run reads and writes.
 #[derive(Drop)]
-struct Came {
-    status: u8,
+struct Streams {
+    input: MemSource,
     output: MemSink,
     errors: MemSink,
-    /// What the connections were sent.
-    replies: Replies,
 }
 
-fn words_of(alloc: Global, texts: &[&[u8]]) -> Result<Words, NoMemory> {
-    let mut words = Words::new(alloc);
-    for text in texts {
-        if words.push(Text::new(alloc, text)?).is_err() {
-            return Err(NoMemory);
-        }
+/// A text; the empty one where memory wants.
+fn text(alloc: Global, bytes: &[u8]) -> Text {
+    match Text::new(alloc, bytes) {
+        Ok(text) => text,
+        Err(_) => Text::empty(alloc),
     }
-    Ok(words)
 }
 
-fn play<
+/// The numbers of calls; none where memory wants.
+fn calls_of(alloc: Global, calls: &[u64]) -> Vec<u64> {
+    match Vec::from_slice(alloc, calls) {
+        Ok(list) => list,
+        Err(_) => Vec::new(alloc),
+    }
+}
+
+/// Words; fewer where memory wants.
+fn words_of(alloc: Global, texts: &[&[u8]]) -> Words {
+    let mut words = Words::new(alloc);
+    for word in texts {
+        let _added = words.add(text(alloc, word));
+    }
+    words
+}
+
+/// What the run of a case reads, and what takes what it writes.
+fn streams_of(alloc: Global, case: &Case) -> Streams {
+    let content = text(alloc, case.input);
+    Streams {
+        input: MemSource::new(content, READ_PIECE, calls_of(alloc, case.read_fails)),
+        output: MemSink::new(alloc, WRITE_PIECE, calls_of(alloc, case.write_fails)),
+        errors: MemSink::new(alloc, ERROR_PIECE, calls_of(alloc, case.error_fails)),
+    }
+}
+
+/// A connection of one request.
+fn greeting(alloc: Global) -> MemConn {
+    MemConn {
+        input: text(alloc, b"GET /hi HTTP/1.1\r\nHost: l\r\n\r\n"),
+        peer: text(alloc, b"127.0.0.1"),
+        piece: 64,
+        reads: Vec::new(alloc),
+        writes: Vec::new(alloc),
+    }
+}
+
+/// Two connections of one request; fewer where memory wants.
+fn greetings(alloc: Global) -> Vec<MemConn> {
+    let mut conns = Vec::new(alloc);
+    let _first = conns.push(greeting(alloc));
+    let _second = conns.push(greeting(alloc));
+    conns
+}
+
+/// A new net of these connections, whose replies go there; `None` where memory wants.
+fn net_of<R: Copy>(rt: R, alloc: Global, replies: &Replies) -> Option<MemNet<R>>
+    ensures { IfSome result (λ net. IsNew (state_of net)) }
+{
+    let replies = replies.copy().ok()?;
+    Some(MemNet::new(rt, replies, greetings(alloc), Vec::new(alloc)))
+}
+
+/// The start page, where there is memory for it.
+fn pages_of(alloc: Global) -> MemPages {
+    let mut pages = MemPages::new(alloc, Vec::new(alloc));
+    let _set = pages.set(text(alloc, b"/s"), text(alloc, PAGE));
+    pages
+}
+
+/// Runs the program.
+fn run_on<
     L: Ledger,
     R: Threads
         + Wait
@@ -115,113 +170,40 @@ fn play<
         + Copy
         + Send
         + Drop,
->(rt: &R, alloc: Global, natives: &Natives, blank: Blank, case: &Case) -> Result<Came, NoMemory>
-    requires name { blank.name ≡ L.name }
-    requires parts { blank.parts ≡ L.parts }
-    requires some { 0 < blank.parts }
+>(
+    rt: &R,
+    alloc: Global,
+    natives: &Natives,
+    words: &Words,
+    streams: &mut Streams,
+    net: &mut MemNet<R>,
+    pages: &mut MemPages,
+    clock: &mut MemClock,
+    steps: &mut [Steps<L>],
+) -> u8
+    requires counters { 0 < length steps.old }
+    requires new { IsNew (state_of net.old) }
 {
-    let words = words_of(alloc, case.words)?;
-    let content = Text::new(alloc, case.input)?;
-    let reads = Vec::from_slice(alloc, case.read_fails)?;
-    let writes = Vec::from_slice(alloc, case.write_fails)?;
-    let tells = Vec::from_slice(alloc, case.error_fails)?;
-    let mut input = MemSource::new(content, READ_PIECE, reads);
-    let mut output = MemSink::new(alloc, WRITE_PIECE, writes);
-    let mut errors = MemSink::new(alloc, ERROR_PIECE, tells);
-    let replies = Replies::new(alloc)?;
-    let mut net = MemNet::new(*rt, replies.copy()?, greetings(alloc)?, Vec::new(alloc));
-    let mut pages = MemPages::new(alloc, Vec::new(alloc));
-    pages.set(Text::new(alloc, b"/s")?, Text::new(alloc, PAGE)?)?;
-    let mut clock = MemClock::new(0, 0);
-    let mut steps = [Steps::<L>::new(blank)];
-    let status = run(
+    run(
         rt,
         alloc,
         natives,
-        &words,
-        &mut input,
-        &mut output,
-        &mut errors,
-        &mut net,
-        &mut pages,
-        &mut clock,
-        &OpenGate,
-        &mut steps,
-    );
-    Ok(Came {
-        status,
-        output,
-        errors,
-        replies,
-    })
-}
-
-/// Two connections of one request.
-fn greetings(alloc: Global) -> Result<Vec<MemConn>, NoMemory> {
-    let mut conns = Vec::new(alloc);
-    for _number in 0..2 {
-        conns.push(MemConn {
-            input: Text::new(alloc, b"GET /hi HTTP/1.1\r\nHost: l\r\n\r\n")?,
-            peer: Text::new(alloc, b"127.0.0.1")?,
-            piece: 64,
-            reads: Vec::new(alloc),
-            writes: Vec::new(alloc),
-        })?;
-    }
-    Ok(conns)
-}
-
-fn rehearsal(
-    input: &'static [u8],
-    status: u8,
-    output: &'static [u8],
-    errors: &'static [u8],
-) -> Case {
-    Case {
-        words: &[b"rehearse"],
-        input,
-        read_fails: &[],
-        write_fails: &[],
-        error_fails: &[],
-        status,
-        output,
-        errors,
-    }
-}
-
-/// A load of one request, which reads nothing.
-fn load_of_one(status: u8, output: &'static [u8], errors: &'static [u8]) -> Case {
-    Case {
-        words: &[b"load", b"1"],
-        read_fails: &[0],
-        ..rehearsal(HI, status, output, errors)
-    }
-}
-
-/// A load of so many requests that each of its numbers has several digits.
-fn load_of_2000() -> Case {
-    Case {
-        words: &[b"load", b"2000"],
-        ..load_of_one(
-            0,
-            b"requests 2000\nstatus 200 1302\nstatus 404 698\nbytes 328055\n",
-            b"",
-        )
-    }
-}
-
-fn others(words: &'static [&'static [u8]]) -> Case {
-    Case {
         words,
-        ..rehearsal(HI, 2, b"", b"bad words\n")
-    }
+        &mut streams.input,
+        &mut streams.output,
+        &mut streams.errors,
+        net,
+        pages,
+        clock,
+        &OpenGate,
+        steps,
+    )
 }
 
-/// Runs the program for each case, and looks at what came.
-fn check_cases<
-    R: Abort
-        + AllocGlobal
-        + Threads
+/// The status of the run of a case, with the counter that a blank makes.
+fn run_counted<
+    L: Ledger,
+    R: Threads
         + Wait
         + Sync
         + std::rt::Clock
@@ -229,106 +211,370 @@ fn check_cases<
         + Copy
         + Send
         + Drop,
->(rt: &R, cases: &[Case]) -> Result<(), Fail> {
-    let natives = Natives::new(rt.alloc());
-    for (number, case) in cases.iter().enumerate() {
-        let came = play::<Brand, R>(rt, rt.alloc(), &natives, Blank::new(1), case)?;
-        assert_eq!(rt; came.status, case.status, "status of case {number}");
-        assert!(rt;
-            came.output.taken().bytes() == case.output,
-            "output of case {number}"
-        );
-        assert!(rt;
-            came.errors.taken().bytes() == case.errors,
-            "errors of case {number}"
-        );
+>(
+    rt: &R,
+    alloc: Global,
+    natives: &Natives,
+    case: &Case,
+    streams: &mut Streams,
+    net: &mut MemNet<R>,
+    blank: Blank,
+) -> u8
+    requires name { blank.name ≡ L.name }
+    requires parts { blank.parts ≡ L.parts }
+    requires some { 0 < blank.parts }
+    requires new { IsNew (state_of net.old) }
+{
+    let words = words_of(alloc, case.words);
+    let mut pages = pages_of(alloc);
+    let mut clock = MemClock::new(0, 0);
+    let mut steps = [Steps::<L>::new(blank)];
+    run_on(
+        rt, alloc, natives, &words, streams, net, &mut pages, &mut clock, &mut steps,
+    )
+}
+
+/// The status of the run of a case; `None` where memory wants for its net.
+fn status_of<
+    R: Threads
+        + Wait
+        + Sync
+        + std::rt::Clock
+        + std::net::Net<Listener = TcpListener, Stream = TcpStream>
+        + Copy
+        + Send
+        + Drop,
+>(
+    rt: &R,
+    alloc: Global,
+    natives: &Natives,
+    case: &Case,
+    streams: &mut Streams,
+    replies: &Replies,
+) -> Option<u8> {
+    let mut net = net_of(*rt, alloc, replies)?;
+    let blank = Blank::new(1);
+    let status = run_counted::<Brand, R>(rt, alloc, natives, case, streams, &mut net, blank);
+    drop(net);
+    Some(status)
+}
+
+/// Whether the output and the errors are those of a case.
+fn are_written(streams: &Streams, case: &Case) -> bool {
+    let is_written = streams.output.taken().bytes() == case.output;
+    is_written && streams.errors.taken().bytes() == case.errors
+}
+
+/// Whether the run of a case comes to what it says. What the connections are sent goes to the replies.
+fn is_right_with<
+    R: Threads
+        + Wait
+        + Sync
+        + std::rt::Clock
+        + std::net::Net<Listener = TcpListener, Stream = TcpStream>
+        + Copy
+        + Send
+        + Drop,
+>(rt: &R, alloc: Global, natives: &Natives, case: &Case, replies: &Replies) -> bool {
+    let mut streams = streams_of(alloc, case);
+    let status = status_of(rt, alloc, natives, case, &mut streams, replies);
+    let right = status == Some(case.status) && are_written(&streams, case);
+    drop(streams);
+    right
+}
+
+/// Whether the run of a case comes to what it says.
+fn is_right<
+    R: Threads
+        + Wait
+        + Sync
+        + std::rt::Clock
+        + std::net::Net<Listener = TcpListener, Stream = TcpStream>
+        + Copy
+        + Send
+        + Drop,
+>(rt: &R, alloc: Global, natives: &Natives, case: &Case) -> bool {
+    match Replies::new(alloc) {
+        Ok(replies) => {
+            let right = is_right_with(rt, alloc, natives, case, &replies);
+            drop(replies);
+            right
+        }
+        Err(_) => false,
     }
-    Ok(())
 }
 
-#[test]
-fn each_status_has_its_cause_and_its_line(rt: HostRuntime) -> Result<(), Fail> {
-    let cases = [
-        rehearsal(HI, 0, HI_LISTING, b""),
-        rehearsal(NONE, 0, NONE_LISTING, b""),
-        rehearsal(b"", 0, b"", b""),
-        rehearsal(b"connect 5 0\n\n", 1, b"", b"bad event 1\n"),
-        rehearsal(HI_AND_MORE, 1, HI_LISTING, b"bad event 4\n"),
-        others(&[]),
-        others(&[b"rehearse", b""]),
-        others(&[b"rehears"]),
-        others(&[b"rehearsed"]),
-        others(&[b"--help"]),
-        others(&[b"serve"]),
-        others(&[b"serve", b"--root", b"r"]),
-        Case {
-            read_fails: &[1],
-            ..rehearsal(HI, 3, b"defined 1\n", b"read fault\n")
-        },
-        Case {
-            write_fails: &[1],
-            ..rehearsal(HI, 4, &HI_LISTING[..DEFINED], b"write fault\n")
-        },
-        Case {
-            error_fails: &[0],
-            ..rehearsal(HI_AND_MORE, 1, HI_LISTING, b"")
-        },
-        Case {
-            error_fails: &[1],
-            ..rehearsal(b"\n", 1, b"", b"bad e")
-        },
-    ];
-    check_cases(&rt, &cases)
-}
-
-#[test]
-fn loads_tell_what_is_counted(rt: HostRuntime) -> Result<(), Fail> {
-    let cases = [
-        load_of_one(
-            0,
-            b"requests 1\nstatus 200 1\nstatus 404 0\nbytes 156\n",
-            b"",
-        ),
-        load_of_2000(),
-        load_of_2000(),
-        Case {
-            write_fails: &[0],
-            ..load_of_one(4, b"", b"write fault\n")
-        },
-        others(&[b"load"]),
-        others(&[b"load", b"0"]),
-        others(&[b"load", b"01"]),
-        others(&[b"load", b"+1"]),
-        others(&[b"load", b"100001"]),
-        others(&[b"load", b"1", b"1"]),
-        others(&[b"Load", b"1"]),
-    ];
-    check_cases(&rt, &cases)
-}
-
-#[test]
-fn what_a_net_gives_is_served(rt: HostRuntime) -> Result<(), Fail> {
-    let natives = Natives::new(rt.alloc());
-    let case = Case {
-        words: &[
-            b"serve",
-            b"--root",
-            b"r",
-            b"--start",
-            b"/s",
-            b"--listen",
-            b"127.0.0.1:0",
-            b"--connections",
-            b"2",
-        ],
-        ..rehearsal(HI, 0, b"", b"")
-    };
-    let came = play::<Brand, _>(&rt, rt.alloc(), &natives, Blank::new(1), &case)?;
-    assert_eq!(rt; came.status, 0);
-    assert!(rt; came.output.taken().is_empty() && came.errors.taken().is_empty());
-    for connection in 0..2 {
-        let text = came.replies.taken(&rt, connection)?;
-        assert!(rt; text.is_some_and(|text| text.len() == REPLY));
+/// The place of the first case that is wrong, if there is one.
+fn first_wrong<
+    R: Threads
+        + Wait
+        + Sync
+        + std::rt::Clock
+        + std::net::Net<Listener = TcpListener, Stream = TcpStream>
+        + Copy
+        + Send
+        + Drop,
+>(rt: &R, alloc: Global, natives: &Natives, cases: &[Case]) -> Option<usize> {
+    for (at, case) in cases.iter().enumerate() {
+        if !is_right(rt, alloc, natives, case) {
+            return Some(at);
+        }
     }
-    Ok(())
+    None
+}
+
+/// The same without natives.
+fn first_wrong_alone<
+    R: Threads
+        + Wait
+        + Sync
+        + std::rt::Clock
+        + std::net::Net<Listener = TcpListener, Stream = TcpStream>
+        + Copy
+        + Send
+        + Drop,
+>(rt: &R, alloc: Global, cases: &[Case]) -> Option<usize> {
+    let natives = Natives::new(alloc);
+    let wrong = first_wrong(rt, alloc, &natives, cases);
+    drop(natives);
+    wrong
+}
+
+/// A rehearsal.
+const REHEARSAL: Case = Case {
+    words: &[b"rehearse"],
+    input: HI,
+    read_fails: &[],
+    write_fails: &[],
+    error_fails: &[],
+    status: 0,
+    output: HI_LISTING,
+    errors: b"",
+};
+
+/// What is refused, but for its words.
+const REFUSED: Case = Case {
+    status: 2,
+    output: b"",
+    errors: b"bad words\n",
+    ..REHEARSAL
+};
+
+/// Each status, with what is told of its cause.
+const STATUSES: &[Case] = &[
+    REHEARSAL,
+    Case {
+        input: NONE,
+        output: NONE_LISTING,
+        ..REHEARSAL
+    },
+    Case {
+        input: b"",
+        output: b"",
+        ..REHEARSAL
+    },
+    Case {
+        input: b"connect 5 0\n\n",
+        status: 1,
+        output: b"",
+        errors: b"bad event 1\n",
+        ..REHEARSAL
+    },
+    Case {
+        input: HI_AND_MORE,
+        status: 1,
+        errors: b"bad event 4\n",
+        ..REHEARSAL
+    },
+    Case {
+        words: &[],
+        ..REFUSED
+    },
+    Case {
+        words: &[b"rehearse", b""],
+        ..REFUSED
+    },
+    Case {
+        words: &[b"rehears"],
+        ..REFUSED
+    },
+    Case {
+        words: &[b"rehearsed"],
+        ..REFUSED
+    },
+    Case {
+        words: &[b"--help"],
+        ..REFUSED
+    },
+    Case {
+        words: &[b"serve"],
+        ..REFUSED
+    },
+    Case {
+        words: &[b"serve", b"--root", b"r"],
+        ..REFUSED
+    },
+    Case {
+        read_fails: &[1],
+        status: 3,
+        output: b"defined 1\n",
+        errors: b"read fault\n",
+        ..REHEARSAL
+    },
+    // The first line alone is told of the first event.
+    Case {
+        write_fails: &[1],
+        status: 4,
+        output: b"defined 1\n",
+        errors: b"write fault\n",
+        ..REHEARSAL
+    },
+    Case {
+        input: HI_AND_MORE,
+        error_fails: &[0],
+        status: 1,
+        ..REHEARSAL
+    },
+    Case {
+        input: b"\n",
+        error_fails: &[1],
+        status: 1,
+        output: b"",
+        errors: b"bad e",
+        ..REHEARSAL
+    },
+];
+
+#[test]
+fn each_status_has_its_cause_and_its_line(rt: HostRuntime) {
+    assert_eq!(rt; first_wrong_alone(&rt, rt.alloc(), STATUSES), None);
+}
+
+/// A load of one request, which reads nothing.
+const LOAD_OF_ONE: Case = Case {
+    words: &[b"load", b"1"],
+    read_fails: &[0],
+    output: b"requests 1\nstatus 200 1\nstatus 404 0\nbytes 156\n",
+    ..REHEARSAL
+};
+
+/// A load of so many requests that each of its numbers has several digits.
+const LOAD_OF_2000: Case = Case {
+    words: &[b"load", b"2000"],
+    output: b"requests 2000\nstatus 200 1302\nstatus 404 698\nbytes 328055\n",
+    ..LOAD_OF_ONE
+};
+
+/// Loads, and words that ask for none.
+const LOADS: &[Case] = &[
+    LOAD_OF_ONE,
+    LOAD_OF_2000,
+    LOAD_OF_2000,
+    Case {
+        write_fails: &[0],
+        status: 4,
+        output: b"",
+        errors: b"write fault\n",
+        ..LOAD_OF_ONE
+    },
+    Case {
+        words: &[b"load"],
+        ..REFUSED
+    },
+    Case {
+        words: &[b"load", b"0"],
+        ..REFUSED
+    },
+    Case {
+        words: &[b"load", b"01"],
+        ..REFUSED
+    },
+    Case {
+        words: &[b"load", b"+1"],
+        ..REFUSED
+    },
+    Case {
+        words: &[b"load", b"100001"],
+        ..REFUSED
+    },
+    Case {
+        words: &[b"load", b"1", b"1"],
+        ..REFUSED
+    },
+    Case {
+        words: &[b"Load", b"1"],
+        ..REFUSED
+    },
+];
+
+#[test]
+fn loads_tell_what_is_counted(rt: HostRuntime) {
+    assert_eq!(rt; first_wrong_alone(&rt, rt.alloc(), LOADS), None);
+}
+
+/// A server of two connections, which writes nothing.
+const SERVED: Case = Case {
+    words: &[
+        b"serve",
+        b"--root",
+        b"r",
+        b"--start",
+        b"/s",
+        b"--listen",
+        b"127.0.0.1:0",
+        b"--connections",
+        b"2",
+    ],
+    output: b"",
+    ..REHEARSAL
+};
+
+/// Whether the connection of this number was sent as many bytes as its reply has.
+fn is_replied<R: Wait>(rt: &R, replies: &Replies, connection: u64) -> bool {
+    match replies.taken(rt, connection) {
+        Ok(Some(text)) => text.len() == REPLY,
+        _ => false,
+    }
+}
+
+/// Whether the server ends as it must, and both connections are replied to.
+fn are_served<
+    R: Threads
+        + Wait
+        + Sync
+        + std::rt::Clock
+        + std::net::Net<Listener = TcpListener, Stream = TcpStream>
+        + Copy
+        + Send
+        + Drop,
+>(rt: &R, alloc: Global, natives: &Natives, replies: &Replies) -> bool {
+    let right = is_right_with(rt, alloc, natives, &SERVED, replies);
+    right && is_replied(rt, replies, 0) && is_replied(rt, replies, 1)
+}
+
+/// The same without natives.
+fn are_served_alone<
+    R: Threads
+        + Wait
+        + Sync
+        + std::rt::Clock
+        + std::net::Net<Listener = TcpListener, Stream = TcpStream>
+        + Copy
+        + Send
+        + Drop,
+>(rt: &R, alloc: Global) -> bool {
+    let natives = Natives::new(alloc);
+    match Replies::new(alloc) {
+        Ok(replies) => {
+            let right = are_served(rt, alloc, &natives, &replies);
+            drop(replies);
+            right
+        }
+        Err(_) => false,
+    }
+}
+
+#[test]
+fn what_a_net_gives_is_served(rt: HostRuntime) {
+    assert!(rt; are_served_alone(&rt, rt.alloc()));
 }

@@ -5,14 +5,15 @@ use Rattle.turn_cell.specs.declared.view.View.{View}
 use Rattle.turn_cell.specs.Cells.{pass_view}
 use Rattle.turn_cell.specs.Chains.{TakesTurns}
 use Rattle.turn_cell.specs.History.{after_of, IsHistory}
-use Rattle.turn_cell.specs.Passes.{WHOLE, fresh, with_turn}
+use Rattle.txt_core.specs.Shares.{WHOLE}
+use Rattle.turn_cell.specs.Passes.{fresh, with_turn}
 use Rattle.blueprint.specs.States as blueprints
 use Rattle.blueprint.specs.Objects as blueprint_steps
-use Rattle.nsv_bucket.specs.Steps as array_steps
+use Rattle.nsv_bucket.specs.Steps.{ArraySteps}
 use Rattle.sched_core.specs.Allowed as schedule_states
-use Rattle.sched_core.specs.Steps as schedule_steps
+use Rattle.sched_core.specs.Steps.{ScheduleSteps}
 use Rattle.shared_state.specs.Cells.{AreOpening}
-use Rattle.shared_state.specs.Views.{BlueEntry, no_schedule}
+use Rattle.shared_state.specs.Views.{BlueEntry, empty_schedule}
 use Rattle.shared_state.specs.declared.shared.Passes.{Passes}
 use Rattle.std.specs.FinMap as map
 use Rattle.nsv_shared.specs.Views.{BucketView, opening}
@@ -52,7 +53,7 @@ module _ {S C R : Type 0} (allowed : S → Type 0) (reaches : S → S → Type 0
   first_then v m w e es g h = (g.0, subst (λ (z : View S C R). TakesTurns allowed reaches step z es w) g.1 h)
 
 bucket_alone : (v m w : BucketView) (es : List BucketEntry) → v ≡ opening → m ≡ v → TakesOnBucket m es w → IsBucketAlone es
-bucket_alone v m w es opens same g = history (λ s. Unit {0}) (λ s t. Unit {0}) array_steps.Steps map.empty m w es (same ∙ opens) g
+bucket_alone v m w es opens same g = history (λ s. Unit {0}) (λ s t. Unit {0}) ArraySteps map.empty m w es (same ∙ opens) g
 
 -- a look and then turns, by passes that were the only ones, and knew the opening
 pub alone : (names : List (List ℕ)) (p m q : Passes) (look : BlueEntry) (turns : List Turn) → AreOpening names p → GainsLook p look m → GainsTurns m turns q
@@ -61,9 +62,9 @@ alone names p m q look turns opens looks gains =
     let l = looks.1 in
     let o = opens.1 in
     record {
-      blueprint = history blueprints.Allowed blueprint_steps.Reaches blueprint_steps.Steps (blueprints.fresh names) (pass_view p.blueprint) (pass_view q.blueprint)
+      blueprint = history blueprints.Allowed blueprint_steps.Reaches blueprint_steps.BlueprintSteps (blueprints.fresh names) (pass_view p.blueprint) (pass_view q.blueprint)
           (look ∷ blueprint_turns turns) opens.0
-          (first_then blueprints.Allowed blueprint_steps.Reaches blueprint_steps.Steps (pass_view p.blueprint) (pass_view m.blueprint) (pass_view q.blueprint) look (blueprint_turns turns) l.0 gains.0);
+          (first_then blueprints.Allowed blueprint_steps.Reaches blueprint_steps.BlueprintSteps (pass_view p.blueprint) (pass_view m.blueprint) (pass_view q.blueprint) look (blueprint_turns turns) l.0 gains.0);
       b0 = bucket_alone (pass_view p.nsv.b0) (pass_view m.nsv.b0) (pass_view q.nsv.b0) (array_turns 0 turns) o.0 l.1.0 gains.1.0;
       b1 = bucket_alone (pass_view p.nsv.b1) (pass_view m.nsv.b1) (pass_view q.nsv.b1) (array_turns 1 turns) o.1 l.1.1 gains.1.1;
       b2 = bucket_alone (pass_view p.nsv.b2) (pass_view m.nsv.b2) (pass_view q.nsv.b2) (array_turns 2 turns) o.2 l.1.2 gains.1.2;
@@ -72,6 +73,6 @@ alone names p m q look turns opens looks gains =
       b5 = bucket_alone (pass_view p.nsv.b5) (pass_view m.nsv.b5) (pass_view q.nsv.b5) (array_turns 5 turns) o.5 l.1.5 gains.1.5;
       b6 = bucket_alone (pass_view p.nsv.b6) (pass_view m.nsv.b6) (pass_view q.nsv.b6) (array_turns 6 turns) o.6 l.1.6 gains.1.6;
       b7 = bucket_alone (pass_view p.nsv.b7) (pass_view m.nsv.b7) (pass_view q.nsv.b7) (array_turns 7 turns) o.7 l.1.7 gains.1.7;
-      schedule = history schedule_states.Allowed (λ s t. Unit {0}) schedule_steps.Steps no_schedule (pass_view m.schedule) (pass_view q.schedule) (schedule_turns turns)
+      schedule = history schedule_states.Allowed (λ s t. Unit {0}) ScheduleSteps empty_schedule (pass_view m.schedule) (pass_view q.schedule) (schedule_turns turns)
           (l.2 ∙ opens.2) gains.2;
     }

@@ -2,7 +2,7 @@
 use Rattle.std.proofs.Common.{◌≡◌, ◌+◌, ◌-◌, ◌<◌, ◌≤◌, ℕ, zero, suc, refl, sym, ap, subst, arith}
 use Rattle.turn_cell.specs.declared.view.View.{View}
 use Rattle.turn_cell.specs.Cells.{pass_view}
-use Rattle.turn_cell.specs.Passes.{WHOLE}
+use Rattle.txt_core.specs.Shares.{WHOLE}
 use Rattle.shared_state.specs.Cells.{HaveJust, HaveUnits, Leave, AreWhole}
 use Rattle.shared_state.specs.declared.shared.Passes.{Passes}
 

@@ -9,18 +9,18 @@ use Rattle.outside.specs.Paging.{PageMap}
 use Rattle.outside.specs.declared.question.Answer.{Answer}
 use Rattle.turn_cell.specs.History.{IsHistory}
 use Rattle.blueprint.specs.States as blueprints
-use Rattle.blueprint.specs.Objects as blueprint_steps
-use Rattle.nsv_bucket.specs.Steps as array_steps
+use Rattle.blueprint.specs.Objects.{BlueprintSteps}
+use Rattle.nsv_bucket.specs.Steps.{ArraySteps}
 use Rattle.sched_core.specs.Allowed as schedule_states
-use Rattle.sched_core.specs.Steps as schedule_steps
+use Rattle.sched_core.specs.Steps.{ScheduleSteps}
 use Rattle.server_host.specs.Hosts.{HostState}
 use Rattle.tcl_eval.specs.State.{State}
 use Rattle.tcl_eval.specs.declared.outcome.Outcome.{Outcome}
 use Rattle.tcl_eval.specs.declared.outcome.Outcome.TheVariants as outcomes
 use Rattle.ictl.specs.Main.{ends}
-use Rattle.shared_state.specs.Views.{BlueEntry, no_schedule}
+use Rattle.shared_state.specs.Views.{BlueEntry, empty_schedule}
 use Rattle.shared_state.specs.Lines.{BucketEntry}
-use Rattle.worker.specs.Turns.{Turn, IsLook, IsTold, AreAsked, blueprint_turns, array_turns, schedule_turns}
+use Rattle.worker.specs.Turns.{Turn, IsLook, IsAnsweredLook, AreAsked, blueprint_turns, array_turns, schedule_turns}
 use Rattle.worker.specs.Runs.{define_run}
 use Rattle.worker.specs.Outside.{AreHeld, page_faults, RoseBy}
 use Rattle.serve_run.specs.declared.ended.StartFault.{StartFault}
@@ -30,13 +30,13 @@ use Rattle.serve_run.specs.declared.ended.StartFault.TheVariants as start
 
 -- Turns on one bucket of the shared arrays from its opening, in which no array is: each finds the arrays as the one before left them.
 abbrev pub IsBucketAlone : List BucketEntry → Type 0
-IsBucketAlone = IsHistory (λ s. Unit {0}) array_steps.Steps 0 map.empty
+IsBucketAlone = IsHistory (λ s. Unit {0}) ArraySteps 0 map.empty
 
 -- A look at the blueprint, and then these turns, are all that was ever done with the objects: on each, the first turn finds the opening
 -- (nothing was published on natives of these names, no array is there, nothing is scheduled), each next one what the one before it
 -- left, and each is a legal step.
 pub record AreAlone (names : Names) (look : BlueEntry) (turns : List Turn) : Type 0 where
-  pub blueprint : IsHistory blueprints.Allowed blueprint_steps.Steps 0 (blueprints.fresh names) (look ∷ blueprint_turns turns)
+  pub blueprint : IsHistory blueprints.Allowed BlueprintSteps 0 (blueprints.fresh names) (look ∷ blueprint_turns turns)
   pub b0 : IsBucketAlone (array_turns 0 turns)
   pub b1 : IsBucketAlone (array_turns 1 turns)
   pub b2 : IsBucketAlone (array_turns 2 turns)
@@ -45,7 +45,7 @@ pub record AreAlone (names : Names) (look : BlueEntry) (turns : List Turn) : Typ
   pub b5 : IsBucketAlone (array_turns 5 turns)
   pub b6 : IsBucketAlone (array_turns 6 turns)
   pub b7 : IsBucketAlone (array_turns 7 turns)
-  pub schedule : IsHistory schedule_states.Allowed schedule_steps.Steps 0 no_schedule (schedule_turns turns)
+  pub schedule : IsHistory schedule_states.Allowed ScheduleSteps 0 empty_schedule (schedule_turns turns)
 
 -- The definition run of a script at a moment, on the opening objects, alone, ends so. Its questions are answered by turns on the
 -- objects and by the pages; a page's answer is the one that is held, where that is told, or that it couldn't be read, and the count of
@@ -55,7 +55,7 @@ pub record DefinesAlone (names : Names) (held : Option PageMap) (script : Bytes)
   pub look : BlueEntry
   pub turns : List Turn
   pub answers : List Answer
-  pub is_look : IsLook look.call × IsTold look
+  pub is_look : IsLook look.call × IsAnsweredLook look
   pub alone : AreAlone names look turns
   pub asked : AreAsked moment (define_run names (blueprints.fresh names) script moment) turns answers
   pub pages : AreHeld held turns

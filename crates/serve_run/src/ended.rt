@@ -11,6 +11,12 @@ use std::alloc::Global;
 use txt_core::error_text::{no_page, page_fault, page_too_long};
 use txt_core::{NoMemory, Text};
 
+/// The line that is written on errors where the words of the command line are no command.
+pub const BAD_WORDS: &str = "bad words\n";
+
+/// The line that is written on errors where memory ran out.
+pub const OUT_OF_MEMORY: &str = "out of memory\n";
+
 /// What kept the start script from its good end.
 #[derive(Debug, Drop)]
 pub enum StartFault {
@@ -79,16 +85,13 @@ impl Ended {
     {
         match self {
             Ended::Done => Ok(Text::empty(alloc)),
-            Ended::BadWords => Text::new(alloc, b"bad words\n"),
-            Ended::NoMemory => Text::new(alloc, OUT_OF_MEMORY),
+            Ended::BadWords => Text::new(alloc, BAD_WORDS.as_bytes()),
+            Ended::NoMemory => Text::new(alloc, OUT_OF_MEMORY.as_bytes()),
             Ended::BadStart { path, fault } => start_line(alloc, path, fault),
             Ended::NetFault => Text::new(alloc, b"net fault\n"),
         }
     }
 }
-
-/// The line for want of memory.
-const OUT_OF_MEMORY: &[u8] = b"out of memory\n";
 
 /// The line for what kept the start script at this path from its good end.
 fn start_line(alloc: Global, path: &Text, fault: &StartFault) -> Result<Text, NoMemory>
@@ -116,7 +119,7 @@ pub(crate) fn report<E: Sink>(alloc: Global, ended: &Ended, errors: &mut E) -> u
             ended.number()
         }
         Err(_) => {
-            let _ = write_all(errors, OUT_OF_MEMORY);
+            let _ = write_all(errors, OUT_OF_MEMORY.as_bytes());
             Ended::NoMemory.number()
         }
     }

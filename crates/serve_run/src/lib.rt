@@ -12,5 +12,5 @@ mod ended;
 mod running;
 mod start;
 
-pub use ended::{Ended, StartFault};
+pub use ended::{BAD_WORDS, Ended, OUT_OF_MEMORY, StartFault};
 pub use running::run_serve;

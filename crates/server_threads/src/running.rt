@@ -2,7 +2,7 @@
 
 ghost use Rattle.std.specs.Prelude.{◌≡◌, ◌<◌, ◌≤◌, ◌+◌, vec_len, IfOk, OnErr};
 ghost use Rattle.std.specs.List.{All};
-ghost use Rattle.conn_queue.specs.Passes.{WHOLE};
+ghost use Rattle.txt_core.specs.Shares.{WHOLE};
 ghost use Rattle.conn_queue.specs.Queues.{IsOf, pass_view};
 ghost use Rattle.outside.specs.Nets.{IsNew};
 ghost use Rattle.server_threads.specs.Stops.{Stops};

@@ -1,13 +1,14 @@
 //! Long pages, and a folder that is changed while its pages are asked.
 
 use super::*;
+use crate::tests::{make_folders, remove_folder, write_files};
+use crate::tests_visit::text;
 use outside::{PageAnswer, Pages};
-use std::alloc::Allocator;
+use std::alloc::{Allocator, Global};
 use std::fs::{self, File, Metadata, OpenOptions};
 use std::io;
 use std::os::unix::fs::symlink;
 use std::rt::Files;
-use std::test::*;
 use txt_core::{MOST_BYTES, Text};
 
 /// The page at whose look its folder is exchanged.
@@ -86,31 +87,33 @@ const FOLDERS: &[&str] = &[
     "system_exchanged/out",
 ];
 
-/// Makes the folders, the page, and a file outside of the root.
-fn make_folders(rt: &HostRuntime) -> io::Result<()> {
-    let _old = fs::remove_dir_all(rt, "system_exchanged");
-    for folder in FOLDERS {
-        fs::create_dir(rt, folder)?;
-    }
-    fs::write(rt, PAGE, b"page".as_slice())?;
-    fs::write(rt, "system_exchanged/out/b.adp", b"secret".as_slice())
+/// The page, and a file outside of the root.
+const FILES: &[(&str, &[u8])] = &[(PAGE, b"page"), ("system_exchanged/out/b.adp", b"secret")];
+
+/// Makes the folders and the files.
+fn make_site(rt: &HostRuntime) -> bool {
+    let _old = remove_folder(rt, "system_exchanged");
+    make_folders(rt, FOLDERS) && write_files(rt, FILES)
 }
 
 /// Whether there is no page in the folder that is exchanged when it is looked at.
-fn is_absent(rt: HostRuntime) -> Result<bool, Fail> {
+fn is_absent(rt: HostRuntime) -> bool {
     let mut pages = FolderPages::new(Exchanging { files: rt }, rt.alloc());
-    pages.root(&Text::new(rt.alloc(), b"system_exchanged/site")?)?;
-    let answer = pages.page(&Text::new(rt.alloc(), b"/in/b.adp")?);
-    Ok(matches!(answer, PageAnswer::NoPage))
+    let _rooted = pages.root(&text(rt.alloc(), b"system_exchanged/site"));
+    let answer = pages.page(&text(rt.alloc(), b"/in/b.adp"));
+    matches!(answer, PageAnswer::NoPage)
+}
+
+/// Whether the folder was exchanged.
+fn is_exchanged(rt: &HostRuntime) -> bool {
+    fs::exists(rt, "system_exchanged/kept").unwrap_or(false)
 }
 
 #[test]
-fn no_page_through_an_exchanged_folder(rt: HostRuntime) -> Result<(), Fail> {
-    make_folders(&rt)?;
-    assert!(rt; is_absent(rt)?);
-    assert!(rt; fs::exists(&rt, "system_exchanged/kept")?);
-    fs::remove_dir_all(&rt, "system_exchanged")?;
-    Ok(())
+fn no_page_through_an_exchanged_folder(rt: HostRuntime) {
+    assert!(rt; make_site(&rt));
+    assert!(rt; is_absent(rt) && is_exchanged(&rt));
+    assert!(rt; remove_folder(&rt, "system_exchanged"));
 }
 
 /// How many bytes the page at a path has; `None` where there is none.
@@ -132,34 +135,38 @@ const LENGTHS: &[(u64, usize)] = &[
     (3_000_000, MOST_BYTES + 1),
 ];
 
-/// The pages of a new folder.
-fn long_pages(rt: HostRuntime) -> Result<FolderPages<HostRuntime>, Fail> {
-    let _old = fs::remove_dir_all(&rt, "system_long");
-    fs::create_dir(&rt, "system_long")?;
+/// The pages of a folder; those of another where memory wants.
+fn long_pages(rt: HostRuntime) -> FolderPages<HostRuntime> {
     let mut pages = FolderPages::new(rt, rt.alloc());
-    pages.root(&Text::new(rt.alloc(), b"system_long")?)?;
-    Ok(pages)
+    let _rooted = pages.root(&text(rt.alloc(), b"system_long"));
+    pages
 }
 
-/// How many lengths of a file are given as they must be, up to the first that isn't.
-fn right_lengths(rt: &HostRuntime, pages: &mut FolderPages<HostRuntime>) -> Result<usize, Fail> {
-    let path = Text::new(rt.alloc(), b"/a.adp")?;
-    let file = File::create(rt, "system_long/a.adp")?;
+/// How many lengths of a file are given as they must be.
+fn right_lengths(alloc: Global, pages: &mut FolderPages<HostRuntime>, file: &File) -> usize {
+    let path = text(alloc, b"/a.adp");
     let mut right = 0usize;
     for (size, given) in LENGTHS {
-        file.set_len(*size)?;
-        if length_of(pages, &path) != Some(*given) {
-            return Ok(right);
-        }
-        right = right.saturating_add(1);
+        let is_set = file.set_len(*size).is_ok();
+        let is_given = length_of(pages, &path) == Some(*given);
+        right = right.saturating_add(usize::from(is_set && is_given));
     }
-    Ok(right)
+    right
+}
+
+/// The same of a new file.
+fn new_right_lengths(rt: HostRuntime) -> usize {
+    let mut pages = long_pages(rt);
+    match File::create(&rt, "system_long/a.adp") {
+        Ok(file) => right_lengths(rt.alloc(), &mut pages, &file),
+        Err(_) => 0,
+    }
 }
 
 #[test]
-fn a_long_page_is_cut_behind_the_limit(rt: HostRuntime) -> Result<(), Fail> {
-    let mut pages = long_pages(rt)?;
-    assert_eq!(rt; right_lengths(&rt, &mut pages)?, 4);
-    fs::remove_dir_all(&rt, "system_long")?;
-    Ok(())
+fn a_long_page_is_cut_behind_the_limit(rt: HostRuntime) {
+    let _old = remove_folder(&rt, "system_long");
+    assert!(rt; make_folders(&rt, &["system_long"]));
+    assert!(rt; new_right_lengths(rt) == 4);
+    assert!(rt; remove_folder(&rt, "system_long"));
 }

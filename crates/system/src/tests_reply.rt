@@ -1,16 +1,14 @@
 //! Replies that their peer takes slowly, where another connection waits and where none does.
 
-use crate::conn::TcpSink;
+use crate::conn::{TcpSink, TcpSource};
 use crate::reply::Reply;
-use crate::tests_visit::Visit;
-use crate::tests_waiting::behind;
+use crate::tests_visit::{Other, Visit, sends};
+use crate::tests_waiting::{UNTOLD, behind, now};
 use crate::waiting::Waiting;
 use outside::{ReadAnswer, Sink, WriteAnswer};
 use std::alloc::Global;
-use std::io::Write;
 use std::net::{TcpListener, TcpStream};
 use std::sync::Wait;
-use std::test::*;
 use std::thread;
 use std::time::{Duration, Instant};
 
@@ -32,12 +30,13 @@ struct Taker {
 }
 
 /// At the how manieth time the reply to a peer gives way, where it is asked at each.
-fn way_at(waiting: &Waiting, begun: Instant, taker: Taker) -> Result<Option<u64>, Fail> {
+fn way_at(waiting: &Waiting, begun: Instant, taker: Taker) -> Option<u64> {
     let mut reply = Reply::new();
+    let mut way = None;
     for time in 0..taker.times {
-        let moment = behind(begun, time.saturating_mul(taker.apart))?;
-        if reply.gives_way(moment, waiting) {
-            return Ok(Some(time));
+        let moment = behind(begun, time.saturating_mul(taker.apart));
+        if way.is_none() && reply.gives_way(moment, waiting) {
+            way = Some(time);
         }
         if taker.bytes == 0 {
             reply.note_pause();
@@ -45,22 +44,35 @@ fn way_at(waiting: &Waiting, begun: Instant, taker: Taker) -> Result<Option<u64>
             reply.note_piece(taker.bytes, REST);
         }
     }
-    Ok(None)
+    way
 }
 
 /// The same, where nobody waits.
-fn way_alone(alloc: Global, begun: Instant, taker: Taker) -> Result<Option<u64>, Fail> {
-    let waiting = Waiting::new(alloc)?;
-    way_at(&waiting, begun, taker)
+fn way_alone(alloc: Global, begun: Instant, taker: Taker) -> Option<u64> {
+    match Waiting::new(alloc) {
+        Ok(waiting) => way_at(&waiting, begun, taker),
+        Err(_) => UNTOLD,
+    }
+}
+
+/// The same, where one more waits.
+fn way_at_one_more(waiting: &Waiting, begun: Instant, taker: Taker) -> Option<u64> {
+    match waiting.enter() {
+        Ok(place) => {
+            let way = way_at(waiting, begun, taker);
+            drop(place);
+            way
+        }
+        Err(_) => UNTOLD,
+    }
 }
 
 /// The same, where another connection waits.
-fn way_beside(alloc: Global, begun: Instant, taker: Taker) -> Result<Option<u64>, Fail> {
-    let waiting = Waiting::new(alloc)?;
-    let place = waiting.enter()?;
-    let way = way_at(&waiting, begun, taker);
-    drop(place);
-    way
+fn way_beside(alloc: Global, begun: Instant, taker: Taker) -> Option<u64> {
+    match Waiting::new(alloc) {
+        Ok(waiting) => way_at_one_more(&waiting, begun, taker),
+        Err(_) => UNTOLD,
+    }
 }
 
 /// A byte each 29 seconds, as of a peer that wants to keep a worker.
@@ -91,18 +103,31 @@ const NOTHING: Taker = Taker {
     times: 2_000,
 };
 
+/// Takers beside whom another connection waits, and at the how manieth time the reply gives way. The time
+/// begins behind the first round, and those who wait must be seen to do so twice.
+const BESIDE: &[(Taker, Option<u64>)] = &[
+    (DRIP, Some(4)),
+    (LITTLE, Some(302)),
+    (ENOUGH, None),
+    (NOTHING, Some(302)),
+];
+
+/// How many takers are right: these, and behind them one beside whom nobody waits.
+fn right_takers(alloc: Global, begun: Option<Instant>) -> usize {
+    let Some(begun) = begun else {
+        return 0;
+    };
+    let mut right = usize::from(way_alone(alloc, begun, DRIP).is_none());
+    for &(taker, want) in BESIDE {
+        let is_right = way_beside(alloc, begun, taker) == want;
+        right = right.saturating_add(usize::from(is_right));
+    }
+    right
+}
+
 #[test]
-fn a_reply_that_is_taken_slowly(rt: HostRuntime) -> Result<(), Fail> {
-    let begun = Instant::now(&rt)?;
-    let alone = way_alone(rt.alloc(), begun, DRIP)?;
-    let drip = way_beside(rt.alloc(), begun, DRIP)?;
-    let little = way_beside(rt.alloc(), begun, LITTLE)?;
-    let enough = way_beside(rt.alloc(), begun, ENOUGH)?;
-    let nothing = way_beside(rt.alloc(), begun, NOTHING)?;
-    // The time begins behind the first round, and those who wait must be seen to do so twice.
-    assert_eq!(rt; (alone, drip, little), (None, Some(4), Some(302)));
-    assert_eq!(rt; (enough, nothing), (None, Some(302)));
-    Ok(())
+fn a_reply_that_is_taken_slowly(rt: HostRuntime) {
+    assert!(rt; right_takers(rt.alloc(), now(&rt)) == 5);
 }
 
 /// Whether a reply has to be told the moment: at first, when a part was taken, and when all was.
@@ -115,25 +140,39 @@ fn needs(waiting: &Waiting) -> [bool; 3] {
     [first, part, reply.needs_moment(waiting)]
 }
 
+/// Whether a reply has to be told the moment only while a part of it is taken, where one more waits.
+fn needs_in_part(waiting: &Waiting) -> bool {
+    match waiting.enter() {
+        Ok(place) => {
+            let needs = needs(waiting);
+            drop(place);
+            needs == [false, true, false]
+        }
+        Err(_) => false,
+    }
+}
+
+/// The same, where another connection waits.
+fn needs_in_part_beside(alloc: Global) -> bool {
+    match Waiting::new(alloc) {
+        Ok(waiting) => needs_in_part(&waiting),
+        Err(_) => false,
+    }
+}
+
 #[test]
-fn a_reply_that_is_taken_at_once_needs_no_clock(rt: HostRuntime) -> Result<(), Fail> {
-    let waiting = Waiting::new(rt.alloc())?;
-    let place = waiting.enter()?;
-    assert_eq!(rt; needs(&waiting), [false, true, false]);
-    drop(place);
-    Ok(())
+fn a_reply_that_is_taken_at_once_needs_no_clock(rt: HostRuntime) {
+    assert!(rt; needs_in_part_beside(rt.alloc()));
 }
 
 /// At the how manieth tenth second the replies to requests that came together give way, where the peer takes
 /// a byte of one, and the rest of it ten seconds later.
-fn way_of_many(alloc: Global, begun: Instant) -> Result<Option<u64>, Fail> {
-    let waiting = Waiting::new(alloc)?;
-    let place = waiting.enter()?;
+fn way_of_many(waiting: &Waiting, begun: Instant) -> Option<u64> {
     let mut reply = Reply::new();
     let mut way = None;
     for time in 0..20 {
-        let moment = behind(begun, time * 10_000)?;
-        if way.is_none() && reply.needs_moment(&waiting) && reply.gives_way(moment, &waiting) {
+        let moment = behind(begun, time * 10_000);
+        if way.is_none() && reply.needs_moment(waiting) && reply.gives_way(moment, waiting) {
             way = Some(time);
         }
         if time % 2 == 0 {
@@ -142,16 +181,32 @@ fn way_of_many(alloc: Global, begun: Instant) -> Result<Option<u64>, Fail> {
             reply.note_piece(199_999, 199_999);
         }
     }
-    drop(place);
-    Ok(way)
+    way
+}
+
+/// The same, where one more waits.
+fn way_of_many_at_one_more(waiting: &Waiting, begun: Instant) -> Option<u64> {
+    match waiting.enter() {
+        Ok(place) => {
+            let way = way_of_many(waiting, begun);
+            drop(place);
+            way
+        }
+        Err(_) => UNTOLD,
+    }
+}
+
+/// The same, where another connection waits.
+fn way_of_many_beside(alloc: Global, begun: Option<Instant>) -> Option<u64> {
+    match (begun, Waiting::new(alloc)) {
+        (Some(begun), Ok(waiting)) => way_of_many_at_one_more(&waiting, begun),
+        _ => UNTOLD,
+    }
 }
 
 #[test]
-fn replies_that_are_taken_slowly(rt: HostRuntime) -> Result<(), Fail> {
-    let begun = Instant::now(&rt)?;
-    let way = way_of_many(rt.alloc(), begun)?;
-    assert_eq!(rt; way, Some(7));
-    Ok(())
+fn replies_that_are_taken_slowly(rt: HostRuntime) {
+    assert!(rt; way_of_many_beside(rt.alloc(), now(&rt)) == Some(7));
 }
 
 /// Whether a sink fails, where it is written to for a peer that takes nothing, and its reply is held up since
@@ -172,29 +227,70 @@ fn fails_when_held<R: std::rt::Clock>(
 }
 
 /// A moment a second longer ago than a peer has where another connection waits.
-fn long_ago<R: std::rt::Clock>(rt: &R) -> Result<Instant, Fail> {
-    match Instant::now(rt)?.checked_sub(Duration::from_secs(31)) {
-        Some(moment) => Ok(moment),
-        None => Err(Fail::from("no such moment")),
+fn long_ago(moment: Instant) -> Option<Instant> {
+    moment.checked_sub(Duration::from_secs(31))
+}
+
+/// Two connections: of the first a request was read, and the other waits.
+type Both<R> = (Visit<R>, Other<R>);
+
+/// The same; `None` where they can't be made.
+fn read_beside<
+    R: Wait
+        + std::net::Net<Listener = TcpListener, Stream = TcpStream>
+        + std::rt::Clock
+        + Copy
+        + Send
+        + Drop,
+>(rt: &R, alloc: Global) -> Option<Both<R>> {
+    let mut visit = Visit::new(rt, alloc)?;
+    let reads = visit.reads(b"request");
+    match visit.another(rt) {
+        Some(other) if reads => Some((visit, other)),
+        _ => None,
+    }
+}
+
+/// Whether the reply on the first connection fails, held up since a moment, and that is one fault.
+fn gives_way_once(both: Both<HostRuntime>, earlier: Instant) -> bool {
+    let (mut visit, other) = both;
+    let fails = fails_when_held(&mut visit.sink, &visit.source.waiting, earlier);
+    let once = visit.sink.faults.count == 1;
+    drop(visit);
+    drop(other);
+    fails && once
+}
+
+/// Whether it does before it would take a peer's whole time: one that takes nothing at all fails after
+/// 30 seconds.
+fn gives_way_early(
+    rt: &HostRuntime,
+    both: Option<Both<HostRuntime>>,
+    earlier: Option<Instant>,
+) -> bool {
+    let (Some(both), Some(earlier)) = (both, earlier) else {
+        return false;
+    };
+    let fails = gives_way_once(both, earlier);
+    match now(rt) {
+        Some(end) => fails && end.duration_since(earlier) < Duration::from_secs(31 + 20),
+        None => false,
     }
 }
 
 #[test]
-fn a_held_reply_gives_way(rt: HostRuntime) -> Result<(), Fail> {
-    let earlier = long_ago(&rt)?;
-    let mut visit = Visit::new(&rt, rt.alloc())?;
-    assert!(rt; visit.reads(b"request")?);
-    let other = visit.another(&rt)?;
-    assert!(rt; fails_when_held(&mut visit.sink, &visit.source.waiting, earlier));
-    assert_eq!(rt; visit.sink.faults.count, 1);
-    // One that takes nothing at all fails after 30 seconds.
-    let took = Instant::now(&rt)?.duration_since(earlier);
-    assert!(rt; took < Duration::from_secs(31 + 20));
-    drop(other);
-    Ok(())
+fn a_held_reply_gives_way(rt: HostRuntime) {
+    let earlier = now(&rt).and_then(long_ago);
+    let both = read_beside(&rt, rt.alloc());
+    assert!(rt; gives_way_early(&rt, both, earlier));
 }
 
-/// A connection that is served for long.
+/// Notes that a connection is served since a moment.
+fn note_long<R>(source: &mut TcpSource<R>, earlier: Instant) {
+    let _over = source.session.gives_way(earlier, &source.waiting);
+}
+
+/// A connection that is served for long; `None` where none can be made.
 fn long_visit<
     R: Wait
         + std::net::Net<Listener = TcpListener, Stream = TcpStream>
@@ -202,72 +298,117 @@ fn long_visit<
         + Copy
         + Send
         + Drop,
->(rt: &R, alloc: Global) -> Result<Visit<R>, Fail> {
-    let earlier = long_ago(rt)?;
-    let Visit {
-        net,
-        place,
-        peer,
-        mut source,
-        sink,
-    } = Visit::new(rt, alloc)?;
-    let _over = source.session.gives_way(earlier, &source.waiting);
-    Ok(Visit {
-        net,
-        place,
-        peer,
-        source,
-        sink,
-    })
+>(rt: &R, alloc: Global) -> Option<Visit<R>> {
+    let earlier = now(rt).and_then(long_ago)?;
+    let mut visit = Visit::new(rt, alloc)?;
+    note_long(&mut visit.source, earlier);
+    Some(visit)
 }
 
 /// Whether a request that comes in two pieces is read and replied to.
-fn in_pieces<R: std::rt::Clock + Drop>(visit: &mut Visit<R>) -> Result<bool, Fail> {
-    Ok(visit.reads(b"fir")? && visit.reads(b"st")? && visit.replies())
+fn in_pieces<R: std::rt::Clock + Drop>(visit: &mut Visit<R>) -> bool {
+    visit.reads(b"fir") && visit.reads(b"st") && visit.replies()
 }
 
 /// The same of a request whose second piece comes later.
-fn in_late_pieces<R: std::rt::Clock + Drop>(rt: &R, visit: &mut Visit<R>) -> Result<bool, Fail> {
-    if !visit.reads(b"next")? {
-        return Ok(false);
-    }
+fn in_late_pieces<R: std::rt::Clock + Drop>(rt: &R, visit: &mut Visit<R>) -> bool {
+    let reads = visit.reads(b"next");
     thread::sleep(rt, Duration::from_millis(110));
-    Ok(visit.reads(b"rest")? && visit.replies())
+    reads && visit.reads(b"rest") && visit.replies()
 }
 
 /// Whether the input ends before what the peer sends is read, and that is no fault.
-fn is_over<R: std::rt::Clock + Drop>(visit: &mut Visit<R>) -> Result<bool, Fail> {
-    visit.peer.write_all(b"last")?;
-    Ok(visit.read() == ReadAnswer::Bytes(0) && visit.source.faults.count == 0)
+fn is_over<R: std::rt::Clock + Drop>(visit: &mut Visit<R>) -> bool {
+    let goes = sends(&mut visit.peer, b"last");
+    goes && visit.read() == ReadAnswer::Bytes(0) && visit.source.faults.count == 0
+}
+
+/// A connection that is served for long, and another one that waits.
+fn long_beside<
+    R: Wait
+        + std::net::Net<Listener = TcpListener, Stream = TcpStream>
+        + std::rt::Clock
+        + Copy
+        + Send
+        + Drop,
+>(rt: &R, mut visit: Visit<R>) -> Option<Both<R>> {
+    match visit.another(rt) {
+        Some(other) => Some((visit, other)),
+        None => None,
+    }
+}
+
+/// The same, behind a request that came in pieces.
+fn long_behind_pieces<
+    R: Wait
+        + std::net::Net<Listener = TcpListener, Stream = TcpStream>
+        + std::rt::Clock
+        + Copy
+        + Send
+        + Drop,
+>(rt: &R, alloc: Global) -> Option<Both<R>> {
+    let mut visit = long_visit(rt, alloc)?;
+    if in_pieces(&mut visit) {
+        long_beside(rt, visit)
+    } else {
+        None
+    }
+}
+
+/// Whether the first of them is served for one more request that comes in pieces, and no further.
+fn ends_between(rt: &HostRuntime, both: Option<Both<HostRuntime>>) -> bool {
+    let Some((mut visit, other)) = both else {
+        return false;
+    };
+    let is_right = in_late_pieces(rt, &mut visit) && is_over(&mut visit);
+    drop(visit);
+    drop(other);
+    is_right
 }
 
 #[test]
-fn a_long_session_ends_between_requests(rt: HostRuntime) -> Result<(), Fail> {
-    let mut visit = long_visit(&rt, rt.alloc())?;
-    assert!(rt; in_pieces(&mut visit)?);
-    let other = visit.another(&rt)?;
-    assert!(rt; in_late_pieces(&rt, &mut visit)?);
-    assert!(rt; is_over(&mut visit)?);
-    drop(other);
-    Ok(())
+fn a_long_session_ends_between_requests(rt: HostRuntime) {
+    let both = long_behind_pieces(&rt, rt.alloc());
+    assert!(rt; ends_between(&rt, both));
 }
 
-/// How many requests that come whole are read and replied to, up to the first that isn't, of three.
-fn whole_requests<R: std::rt::Clock + Drop>(rt: &R, visit: &mut Visit<R>) -> Result<u32, Fail> {
-    for request in 0..3 {
-        if !visit.reads(b"whole")? || !visit.replies() {
-            return Ok(request);
-        }
+/// How many requests that come whole are read and replied to, of three.
+fn whole_requests(rt: &HostRuntime, visit: &mut Visit<HostRuntime>) -> u32 {
+    let mut whole = 0u32;
+    for _request in 0..3 {
+        let is_served = visit.reads(b"whole") && visit.replies();
+        whole = whole.saturating_add(u32::from(is_served));
         thread::sleep(rt, Duration::from_millis(60));
     }
-    Ok(3)
+    whole
+}
+
+/// A connection that is served for long, and beside it another one.
+fn new_long_beside<
+    R: Wait
+        + std::net::Net<Listener = TcpListener, Stream = TcpStream>
+        + std::rt::Clock
+        + Copy
+        + Send
+        + Drop,
+>(rt: &R, alloc: Global) -> Option<Both<R>> {
+    let visit = long_visit(rt, alloc)?;
+    long_beside(rt, visit)
+}
+
+/// Whether the first of them is served for three requests that come whole.
+fn goes_on(rt: &HostRuntime, both: Option<Both<HostRuntime>>) -> bool {
+    let Some((mut visit, other)) = both else {
+        return false;
+    };
+    let whole = whole_requests(rt, &mut visit);
+    drop(visit);
+    drop(other);
+    whole == 3
 }
 
 #[test]
-fn a_session_of_whole_requests_goes_on(rt: HostRuntime) -> Result<(), Fail> {
-    let mut visit = long_visit(&rt, rt.alloc())?;
-    let other = visit.another(&rt)?;
-    assert_eq!(rt; whole_requests(&rt, &mut visit)?, 3);
-    drop(other);
-    Ok(())
+fn a_session_of_whole_requests_goes_on(rt: HostRuntime) {
+    let both = new_long_beside(&rt, rt.alloc());
+    assert!(rt; goes_on(&rt, both));
 }

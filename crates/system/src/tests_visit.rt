@@ -7,10 +7,25 @@ use std::alloc::Global;
 use std::io::{Read, Write};
 use std::net::{SocketAddr, TcpListener, TcpStream};
 use std::sync::Wait;
-use std::test::*;
 use txt_core::Text;
 
-/// A net that listens at a free port of this machine, and its address.
+/// A text; the empty one where memory wants.
+pub(crate) fn text(alloc: Global, bytes: &[u8]) -> Text {
+    match Text::new(alloc, bytes) {
+        Ok(text) => text,
+        Err(_) => Text::empty(alloc),
+    }
+}
+
+/// The address at which a net listens; `None` where it doesn't.
+fn place_of<R>(net: &TcpNet<R>) -> Option<SocketAddr> {
+    match &net.listener {
+        Some(listener) => listener.local_addr().ok(),
+        None => None,
+    }
+}
+
+/// A net that listens at a free port of this machine, and its address; `None` where it doesn't.
 pub(crate) fn listening<
     R: Wait
         + std::net::Net<Listener = TcpListener, Stream = TcpStream>
@@ -18,19 +33,19 @@ pub(crate) fn listening<
         + Copy
         + Send
         + Drop,
->(rt: &R, alloc: Global) -> Result<(TcpNet<R>, SocketAddr), Fail> {
-    let mut net = TcpNet::new(*rt, alloc)?;
-    let listens = net.listen(rt, &Text::new(alloc, b"127.0.0.1:0")?);
-    match &net.listener {
-        Some(listener) if listens => {
-            let place = listener.local_addr()?;
-            Ok((net, place))
-        }
-        _ => Err(Fail::from("it doesn't listen")),
+>(rt: &R, alloc: Global) -> Option<(TcpNet<R>, SocketAddr)> {
+    let mut net = TcpNet::new(*rt, alloc).ok()?;
+    let _listens = net.listen(rt, &text(alloc, b"127.0.0.1:0"));
+    match place_of(&net) {
+        Some(place) => Some((net, place)),
+        None => None,
     }
 }
 
-/// The two ends of the next connection, which is one from this machine.
+/// The two ends of a connection.
+pub(crate) type Ends<R> = (TcpSource<R>, TcpSink<R>);
+
+/// The two ends of the next connection, which is one from this machine; `None` where it isn't.
 pub(crate) fn next_ends<
     R: Wait
         + std::net::Net<Listener = TcpListener, Stream = TcpStream>
@@ -38,17 +53,18 @@ pub(crate) fn next_ends<
         + Copy
         + Send
         + Drop,
->(rt: &R, net: &mut TcpNet<R>) -> Result<(TcpSource<R>, TcpSink<R>), Fail> {
+>(rt: &R, net: &mut TcpNet<R>) -> Option<Ends<R>> {
     match net.accept(rt) {
-        Accepted::Conn { source, sink, peer } => {
-            if peer.bytes() == b"127.0.0.1".as_slice() {
-                Ok((source, sink))
-            } else {
-                Err(Fail::from("another peer"))
-            }
+        Accepted::Conn { source, sink, peer } if peer.bytes() == b"127.0.0.1".as_slice() => {
+            Some((source, sink))
         }
-        _ => Err(Fail::from("no connection")),
+        _ => None,
     }
+}
+
+/// Sends bytes from a peer, and tells whether they went.
+pub(crate) fn sends(peer: &mut TcpStream, bytes: &[u8]) -> bool {
+    peer.write_all(bytes).is_ok()
 }
 
 /// A connection from this machine: the net that took it, the net's address, the peer's end, and the two ends
@@ -63,7 +79,7 @@ pub(crate) struct Visit<R> {
 }
 
 /// A connection beside a visit, which waits: the peer's end, and the two ends of it.
-pub(crate) type Other<R> = (TcpStream, (TcpSource<R>, TcpSink<R>));
+pub(crate) type Other<R> = (TcpStream, Ends<R>);
 
 impl<
     R: Wait
@@ -73,12 +89,22 @@ impl<
         + Send
         + Drop,
 > Visit<R> {
-    /// One that was just taken.
-    pub fn new(rt: &R, alloc: Global) -> Result<Visit<R>, Fail> {
-        let (mut net, place) = listening(rt, alloc)?;
-        let peer: TcpStream = TcpStream::connect(rt, place)?;
+    /// One that was just taken; `None` where none can be made.
+    pub fn new(rt: &R, alloc: Global) -> Option<Visit<R>> {
+        let (net, place) = listening(rt, alloc)?;
+        Visit::to(rt, net, place)
+    }
+
+    /// One to this net.
+    fn to(rt: &R, net: TcpNet<R>, place: SocketAddr) -> Option<Visit<R>> {
+        let peer: TcpStream = TcpStream::connect(rt, place).ok()?;
+        Visit::taken(rt, net, place, peer)
+    }
+
+    /// The one that this peer makes.
+    fn taken(rt: &R, mut net: TcpNet<R>, place: SocketAddr, peer: TcpStream) -> Option<Visit<R>> {
         let (source, sink) = next_ends(rt, &mut net)?;
-        Ok(Visit {
+        Some(Visit {
             net,
             place,
             peer,
@@ -87,10 +113,13 @@ impl<
         })
     }
 
-    /// Takes another connection.
-    pub fn another(&mut self, rt: &R) -> Result<Other<R>, Fail> {
-        let other: TcpStream = TcpStream::connect(rt, self.place)?;
-        Ok((other, next_ends(rt, &mut self.net)?))
+    /// Takes another connection; `None` where there is none.
+    pub fn another(&mut self, rt: &R) -> Option<Other<R>> {
+        let other: TcpStream = TcpStream::connect(rt, self.place).ok()?;
+        match next_ends(rt, &mut self.net) {
+            Some(ends) => Some((other, ends)),
+            None => None,
+        }
     }
 }
 
@@ -102,11 +131,11 @@ impl<R: std::rt::Clock + Drop> Visit<R> {
     }
 
     /// Whether what the peer sends is read at once.
-    pub fn reads(&mut self, sent: &[u8]) -> Result<bool, Fail> {
-        self.peer.write_all(sent)?;
+    pub fn reads(&mut self, sent: &[u8]) -> bool {
+        let goes = sends(&mut self.peer, sent);
         let mut piece = [0u8; 16];
         let answer = self.source.read(&mut piece);
-        Ok(answer == ReadAnswer::Bytes(sent.len()) && piece.as_slice().starts_with(sent))
+        goes && answer == ReadAnswer::Bytes(sent.len()) && piece.as_slice().starts_with(sent)
     }
 
     /// Whether a reply is taken at once.
@@ -128,9 +157,9 @@ impl<R: std::rt::Clock + Drop> Visit<R> {
     }
 }
 
-/// What a peer reads until its connection ends.
-pub(crate) fn rest_of(alloc: Global, peer: &mut TcpStream) -> Result<Vec<u8>, Fail> {
+/// Whether a peer reads just these bytes until its connection ends.
+pub(crate) fn ends_with(alloc: Global, peer: &mut TcpStream, want: &[u8]) -> bool {
     let mut rest = Vec::new(alloc);
-    peer.read_to_end(&mut rest)?;
-    Ok(rest)
+    let ends = peer.read_to_end(&mut rest).is_ok();
+    ends && rest.as_slice() == want
 }

@@ -2,6 +2,7 @@
 use Rattle.std.proofs.Common.{◌≡◌, ◌≢◌, ◌⊎◌, inl, inr, ⊎_elim, ℕ, ◌+◌, ◌-◌, ◌<◌, ◌≤◌, Bool, true, false, cond, length, List, [], ◌∷◌, ◌++◌, Option, None, Some, Result, Ok, Err, IfOk, refl, sym, ap, ◌∙◌, subst, arith}
 use Rattle.std.specs.Prelude.{nat_le, ◌==◌, ◌&&◌, slice_index, bytes_eq, codes}
 use Rattle.std.proofs.lemmas.Bool.{leb-true}
+use Rattle.txt_core.specs.Words.{arg}
 use Rattle.outside.specs.Faults.{Rose, last_count}
 use Rattle.outside.specs.Paging.{PageMap, Asks}
 use Rattle.outside.specs.declared.pages.PageAnswer.{PageAnswer}
@@ -24,12 +25,11 @@ use Rattle.blueprint.specs.declared.reply.BlueReply.TheVariants as blue_reply
 use Rattle.blueprint.specs.declared.reply.Published.TheVariants as published
 use Rattle.cmd_table.specs.declared.definition.Def.{Def}
 use Rattle.sched_core.specs.Allowed as schedule_states
-use Rattle.sched_core.specs.Steps as schedule_steps
+use Rattle.sched_core.specs.Steps.{ScheduleSteps}
 use Rattle.sched_core.specs.declared.call.SchedCall.{SchedCall}
 use Rattle.sched_core.specs.declared.call.SchedReply.{SchedReply}
 use Rattle.sched_core.specs.declared.call.SchedReply.TheVariants as schedule
 use Rattle.nsv_bucket.specs.Buckets.{bucket_of, bucket_named, bucket_asked}
-use Rattle.nsv_bucket.specs.Questions.{word_at}
 use Rattle.nsv_bucket.specs.declared.reply.NsvReply.{NsvReply}
 use Rattle.nsv_bucket.specs.declared.reply.NsvReply.TheVariants as arrays
 use Rattle.nsv_shared.specs.Cells as buckets
@@ -44,10 +44,10 @@ use Rattle.worker.proofs.Turning.{gains_none, blueprint_entry, blueprint_gained,
 use Rattle.worker.proofs.Hearing.{held_one, rose_none, put_to}
 
 abbrev TurnsBlueprint : Passes → ℕ → BlueCall → BlueReply → Passes → Type 0
-TurnsBlueprint p place call reply q = Turns blueprints.Allowed blueprint_steps.Reaches blueprint_steps.Steps (pass_view p.blueprint) place call reply (pass_view q.blueprint)
+TurnsBlueprint p place call reply q = Turns blueprints.Allowed blueprint_steps.Reaches blueprint_steps.BlueprintSteps (pass_view p.blueprint) place call reply (pass_view q.blueprint)
 
 abbrev TurnsSchedule : Passes → ℕ → SchedCall → SchedReply → Passes → Type 0
-TurnsSchedule p place call reply q = Turns schedule_states.Allowed (λ s t. Unit {0}) schedule_steps.Steps (pass_view p.schedule) place call reply (pass_view q.schedule)
+TurnsSchedule p place call reply q = Turns schedule_states.Allowed (λ s t. Unit {0}) ScheduleSteps (pass_view p.schedule) place call reply (pass_view q.schedule)
 
 ok_map : {A E : Type 0} (result : Result A E) (P Q : A → Type 0) → ((a : A) → P a → Q a) → IfOk result P → IfOk result Q
 ok_map (Ok a) P Q f h = f a h
@@ -68,7 +68,7 @@ pub asks_save : {E : Type 0} (moment : ℕ) (words : List (List ℕ)) (p q : Pas
     → AsksOne moment (record { service = service.Save; words = words }) p held faults result q faults None
 asks_save moment words p q place call reply held faults result t arrays schedule is answers =
     put_to moment (record { service = service.Save; words = words }) p q held faults faults (OnBlueprint (blueprint_entry p q place call reply t)) result None
-    (blueprint_gained p q place call reply t arrays schedule) is answers (held_one held (OnBlueprint (blueprint_entry p q place call reply t)) (λ map known. tt)) (rose_none faults) (saved_none call (word_at words 0) reply is)
+    (blueprint_gained p q place call reply t arrays schedule) is answers (held_one held (OnBlueprint (blueprint_entry p q place call reply t)) (λ map known. tt)) (rose_none faults) (saved_none call (arg words 0) reply is)
 
 published_same : (defs made : List Def) (reply : BlueReply) → published_by (blue_call.Publish defs) reply ≡ published_by (blue_call.Publish made) reply
 published_same defs made (blue_reply.Look look) = refl
@@ -89,7 +89,7 @@ pub asks_publish : {E : Type 0} (moment : ℕ) (words : List (List ℕ)) (p q : 
     → AsksOne moment (record { service = service.Publish; words = words }) p held faults result q faults now
 asks_publish moment words p q place call reply held faults result now t arrays schedule is answers known =
     let turn = OnBlueprint (blueprint_entry p q place call reply t) in
-    let d = puts_defs (scripted (word_at words 0)) call is in
+    let d = puts_defs (scripted (arg words 0)) call is in
     put_to moment (record { service = service.Publish; words = words }) p q held faults faults turn result now
     (blueprint_gained p q place call reply t arrays schedule) (subst (λ (a : Asked). PublishedBy a turn) (sym is) refl) answers (held_one held turn (λ map held. tt)) (rose_none faults)
     (known ∙ (published_same [] d.0 reply ∙ ap (λ (c : BlueCall). published_by c reply) (sym d.1)))
@@ -155,7 +155,7 @@ asked_step false true word name other = of_below name
 asked_step false false word name other = of_below other
 
 bucket_below : (words : List (List ℕ)) → bucket_asked words < 8
-bucket_below words = asked_step (bytes_eq (word_at words 0) (codes "nsv_names")) (bytes_eq (word_at words 0) (codes "nsv_array")) (word_at words 1) (word_at words 2) (word_at words 1)
+bucket_below words = asked_step (bytes_eq (arg words 0) (codes "nsv_names")) (bytes_eq (arg words 0) (codes "nsv_array")) (arg words 1) (arg words 2) (arg words 1)
 
 pub asks_arrays : {E : Type 0} (moment : ℕ) (words : List (List ℕ)) (p q : Passes) (place : ℕ) (reply : NsvReply) (held : Option PageMap) (faults : ℕ) (result : Result Answer E)
     → buckets.Asks (bucket_asked words) place words reply p.nsv q.nsv → q.blueprint ≡ p.blueprint → q.schedule ≡ p.schedule

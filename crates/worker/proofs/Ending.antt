@@ -18,7 +18,7 @@ use Rattle.shared_state.specs.Views.{BlueEntry}
 use Rattle.serving.specs.Connections.{asks_close, is_spent, most_answered, after_request}
 use Rattle.serving.specs.declared.connection.Behind.{Behind}
 use Rattle.serving.specs.declared.connection.Behind.TheVariants as connection
-use Rattle.worker.specs.Runs.{Course, Finished, CutShort, WantsBefore, WantsBehind, outcome_of}
+use Rattle.worker.specs.Runs.{Course, Finished, CutShort, WantsBefore, WantsBehind, served_outcome}
 use Rattle.worker.specs.Items.{Item, bytes_of, ComesTo, Replied}
 use Rattle.worker.specs.Ends.{Finish, Nothing, Refuses, Wants, behind_item, GoesOnBehind, EndsWith, EndsBehind, end_bytes, refusal_bytes}
 use Rattle.worker.specs.Claims.{Causes}
@@ -31,7 +31,7 @@ use Rattle.worker.specs.declared.served.End.TheVariants as ends
 
 -- ---- the outcome of an item goes with its course
 
-not_wanting : (outcome : Outcome) → IsEnd outcome → outcome_of outcome ≡ ways.NoMemory → ⊥
+not_wanting : (outcome : Outcome) → IsEnd outcome → served_outcome outcome ≡ ways.NoMemory → ⊥
 not_wanting (outcomes.Done code result) end is = cc
 not_wanting (outcomes.Asks question) end is = end
 not_wanting outcomes.Spent end is = cc

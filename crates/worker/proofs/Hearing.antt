@@ -17,9 +17,9 @@ use Rattle.ictl.specs.declared.interp.Interp.{Interp}
 use Rattle.ictl.specs.declared.next.Next.{Next}
 use Rattle.ictl.specs.declared.next.Next.TheVariants as next
 use Rattle.shared_state.specs.declared.shared.Passes.{Passes}
-use Rattle.worker.specs.Turns.{Turn, StandsAt, IsTurnOf, answer_of, AreAsked, AtMostOneMore, GainsTurns}
+use Rattle.worker.specs.Turns.{Turn, ProgressAsks, IsTurnOf, answer_of, AreAsked, AtMostOneMore, GainsTurns}
 use Rattle.worker.specs.Outside.{IsHeldTurn, AreHeldBy, AreHeld, fault_of, page_faults, RoseBy}
-use Rattle.worker.specs.Asking.{published_at, published_after, Came, Publishes, AsksOne, MayStand, Hears}
+use Rattle.worker.specs.Asking.{published_at, published_after, CameByTurns, AsksOne, MayStand, Hears}
 use Rattle.worker.proofs.Turning.{gains_none, gains_more}
 
 -- ---- pages
@@ -75,7 +75,7 @@ put_nowhere moment question p held before e now =
 -- ---- many questions
 
 pub asked_more : (moment : ℕ) (f : List Answer → Progress) (ts : List Turn) (given : List Answer) (turn : Turn) (answer : Answer) (question : Question)
-    → AreAsked moment f ts given → StandsAt (f given) question → IsTurnOf moment question.service question.words turn → answer_of question turn ≡ Some answer
+    → AreAsked moment f ts given → ProgressAsks (f given) question → IsTurnOf moment question.service question.words turn → answer_of question turn ≡ Some answer
     → AreAsked moment f (ts ++ turn ∷ []) (given ++ answer ∷ [])
 asked_more moment f [] [] turn answer question g stands is answers = (question, stands, is, answers, tt)
 asked_more moment f [] (a ∷ bs) turn answer question g stands is answers = absurd g
@@ -97,7 +97,7 @@ more_same moment f g given other (t ∷ []) same h = (h.0, (h.1.0, h.1.1, sym sa
 more_same moment f g given other (t ∷ u ∷ ts) same h = absurd h
 
 -- what has ended asks nothing
-ended_asks : (outcome : Outcome) (state : State HostState) (inside : ℕ) (left : List Answer) (question : Question) → StandsAt (ends outcome state inside left) question → ⊥
+ended_asks : (outcome : Outcome) (state : State HostState) (inside : ℕ) (left : List Answer) (question : Question) → ProgressAsks (ends outcome state inside left) question → ⊥
 ended_asks outcome state inside left question h = let e = h.2 in cc
 
 pub ended_turns : (moment : ℕ) (outcome : Outcome) (state : State HostState) (inside : ℕ) (ts : List Turn) (given : List Answer) → AreAsked moment (λ further. ends outcome state inside further) ts given → (ts ≡ []) × (given ≡ [])
@@ -152,17 +152,17 @@ so_far_begins names moment first inside within interp p held before known answer
 
 -- where it stands at a question, that is open to it
 pub so_far_stands : (names : List (List ℕ)) (law : QuestionsAreAsked) (f : List Answer → Progress) (given : List Answer) (question : Question) (inside : ℕ) (interp : Interp)
-    → ((further : List Answer) → f (given ++ further) ≡ gives names (next.Asks question) inside interp further) → StandsAt (f given) question
+    → ((further : List Answer) → f (given ++ further) ≡ gives names (next.Asks question) inside interp further) → ProgressAsks (f given) question
 so_far_stands names law f given question inside interp goes =
     let l = law names question interp inside in (l.0, l.1, ap f (sym (append-nil given)) ∙ (goes [] ∙ l.2))
 
-came_one : (E : Type 0) (moment : ℕ) (question : Question) (ts : List Turn) (answer : Answer) → Came {E = E} moment question ts (Ok answer)
+came_one : (E : Type 0) (moment : ℕ) (question : Question) (ts : List Turn) (answer : Answer) → CameByTurns {E = E} moment question ts (Ok answer)
     → (turn : Turn) × (ts ≡ turn ∷ []) × IsTurnOf moment question.service question.words turn × (answer_of question turn ≡ Some answer)
 came_one E moment question [] answer h = absurd h
 came_one E moment question (t ∷ []) answer h = (t, refl, h.0, h.1)
 came_one E moment question (t ∷ u ∷ ts) answer h = absurd h
 
-came_lost : {E : Type 0} (moment : ℕ) (question : Question) (f : List Answer → Progress) (given : List Answer) (ts : List Turn) (e : E) → Came {E = E} moment question ts (Err e) → StandsAt (f given) question → AtMostOneMore moment f given ts
+came_lost : {E : Type 0} (moment : ℕ) (question : Question) (f : List Answer → Progress) (given : List Answer) (ts : List Turn) (e : E) → CameByTurns {E = E} moment question ts (Err e) → ProgressAsks (f given) question → AtMostOneMore moment f given ts
 came_lost moment question f given [] e h stands = tt
 came_lost moment question f given (t ∷ []) e h stands = (question, stands, h)
 came_lost moment question f given (t ∷ u ∷ ts) e h stands = absurd h

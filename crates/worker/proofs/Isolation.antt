@@ -6,8 +6,8 @@ use Rattle.http_resp.specs.declared.response.Response.{Response}
 use Rattle.server_host.specs.declared.edition.Edition.{Edition}
 use Rattle.tcl_eval.specs.declared.outcome.Outcome.{Outcome}
 use Rattle.blueprint.specs.States as blueprints
-use Rattle.ictl.specs.Main.{Progress, writes, ends, Main}
-use Rattle.worker.specs.Runs.{Course, Finished, CutShort, WantsBefore, WantsBehind, edition_of, behind_response, whole_run, bytes_for, outcome_of}
+use Rattle.ictl.specs.Main.{Progress, writes, ends, Main, behind_response}
+use Rattle.worker.specs.Runs.{Course, Finished, CutShort, WantsBefore, WantsBehind, edition_of, whole_run, bytes_for, served_outcome}
 use Rattle.worker.specs.Items.{Item, Gives, ComesTo, Replied, IsWritten}
 use Rattle.worker.specs.Laws.{MetNothing, ItemsAreIsolated}
 use Rattle.worker.specs.declared.served.Served.{Served}
@@ -21,11 +21,11 @@ gives_same names a b one other m n given heard c d reply second left rest way en
     let main : Main names (edition_of a) one m given ≡ Main names (edition_of b) other n heard = λ i. Main names (edition i) (request i) (moment i) (answers i) in
     let written : writes g.response g.ending g.state g.inside left ≡ writes h.response h.ending h.state h.inside rest = sym g.main ∙ (main ∙ h.main) in
     let response : g.response ≡ h.response = cc in
-    let whole : whole_run names a one m true given ≡ whole_run names b other n true heard = λ i. behind_response names (edition i) (request i) (moment i) true (Main names (edition i) (request i) (moment i) (answers i)) in
+    let whole : whole_run names a one m true given ≡ whole_run names b other n true heard = λ i. behind_response names (edition i) (moment i) true (request i) (Main names (edition i) (request i) (moment i) (answers i)) in
     let ended = sym g.after ∙ (whole ∙ h.after) in
     let outcome : g.outcome ≡ h.outcome = cc in (
       g.bytes ∙ ((λ i. bytes_for (request i) (response i) (moment i) (close i)) ∙ sym h.bytes),
-      g.way_is ∙ (ap outcome_of outcome ∙ sym h.way_is),
+      g.way_is ∙ (ap served_outcome outcome ∙ sym h.way_is),
     )
 
 -- what met no want of memory, and was written whole, was finished

@@ -6,6 +6,7 @@ pub mod Renewals
 pub mod Isolation
 pub mod Rows
 pub mod Requests
+pub mod Written
 pub mod Ending
 pub mod Stepping
 pub mod Claiming

@@ -5,7 +5,7 @@ use Rattle.std.proofs.lemmas.List.{take_more}
 use Rattle.outside.specs.Clocks.{Dial}
 use Rattle.outside.specs.Paging.{PageMap}
 use Rattle.sched_core.specs.Allowed as schedule_states
-use Rattle.sched_core.specs.Steps as schedule_steps
+use Rattle.sched_core.specs.Steps.{ScheduleSteps}
 use Rattle.sched_core.specs.declared.call.DueScript.{DueScript}
 use Rattle.sched_core.specs.declared.call.SchedCall.{SchedCall}
 use Rattle.sched_core.specs.declared.call.SchedCall.TheVariants as schedule
@@ -46,7 +46,7 @@ module _ (names : List (List ℕ)) (held : Option PageMap) where
 
 -- the turn that asks what is due
 pub asks_due : (names : List (List ℕ)) (held : Option PageMap) (a b : At) (place moment : ℕ) (reply : SchedReply)
-    → (t : Turns schedule_states.Allowed (λ s t. Unit {0}) schedule_steps.Steps (pass_view a.passes.schedule) place (schedule.Due moment) reply (pass_view b.passes.schedule))
+    → (t : Turns schedule_states.Allowed (λ s t. Unit {0}) ScheduleSteps (pass_view a.passes.schedule) place (schedule.Due moment) reply (pass_view b.passes.schedule))
     → b.passes.blueprint ≡ a.passes.blueprint → b.passes.nsv ≡ a.passes.nsv → Ticks a.clock moment b.clock
     → b.standing ≡ a.standing → b.faults ≡ a.faults → b.steps ≡ a.steps → AsksDue names held a reply b
 asks_due names held a b place moment reply t blueprint arrays ticks standing faults steps = record {

@@ -6,7 +6,8 @@ use Rattle.cmd_table.specs.declared.definition.Def.{Def}
 use Rattle.cmd_table.specs.Table.{Table}
 use Rattle.cmd_table.specs.Commands.{Commands, Writes, built, built_ins}
 use Rattle.turn_cell.specs.declared.view.Entry.{Entry}
-use Rattle.turn_cell.specs.Members.{Has, Left}
+use Rattle.txt_core.specs.Members.{Has}
+use Rattle.turn_cell.specs.Members.{Left}
 use Rattle.turn_cell.specs.Cells.{pass_view}
 use Rattle.turn_cell.specs.Passes.{turn_of, with_turn}
 use Rattle.turn_cell.specs.Steps.{Turns}
@@ -30,7 +31,7 @@ use Rattle.ictl.specs.declared.interp.Interp.{Interp}
 use Rattle.shared_state.specs.Cells.{HaveSameNames, KnowNames}
 use Rattle.shared_state.specs.Views.{BlueEntry, BlueView}
 use Rattle.shared_state.specs.declared.shared.Passes.{Passes}
-use Rattle.worker.specs.Turns.{Turn, OnBlueprint, blueprint_turns, IsLook, IsTold, GainsTurns, GainsLook}
+use Rattle.worker.specs.Turns.{Turn, OnBlueprint, blueprint_turns, IsLook, GainsTurns, GainsLook}
 use Rattle.worker.specs.Runs.{edition_of}
 use Rattle.worker.specs.Clean.{Standing, edition_in, standing_in, standing_of, Saw, IsCleanInterp, IsClean}
 use Rattle.worker.specs.Cost.{Build, renewal, renewal_of, renewal_by}
@@ -41,12 +42,12 @@ use Rattle.worker.proofs.Turning.{blueprint_entry, blueprint_gained, reached_nam
 -- ---- a look
 
 -- a look is replied with a look
-look_reply : (s : blueprints.State) (known : ℕ) (reply : BlueReply) (t : blueprints.State) → blueprint_steps.Steps s (blue_call.Look known) reply t → reply ≡ blue_reply.Look (look_in reply)
+look_reply : (s : blueprints.State) (known : ℕ) (reply : BlueReply) (t : blueprints.State) → blueprint_steps.BlueprintSteps s (blue_call.Look known) reply t → reply ≡ blue_reply.Look (look_in reply)
 look_reply s known (blue_reply.Look look) t legal = refl
 look_reply s known (blue_reply.Published published) t legal = absurd legal
 
 pub tells_look : (p q : Passes) (place known : ℕ) (reply : BlueReply) (look : Look) (turn : ℕ)
-    → (t : Turns blueprints.Allowed blueprint_steps.Reaches blueprint_steps.Steps (pass_view p.blueprint) place (blue_call.Look known) reply (pass_view q.blueprint))
+    → (t : Turns blueprints.Allowed blueprint_steps.Reaches blueprint_steps.BlueprintSteps (pass_view p.blueprint) place (blue_call.Look known) reply (pass_view q.blueprint))
     → q.nsv ≡ p.nsv → q.schedule ≡ p.schedule → look ≡ look_in reply → turn ≡ place_told place look → TellsLook p turn known look q
 tells_look p q place known reply look turn t arrays schedule is at = record {
   entry = blueprint_entry p q place (blue_call.Look known) reply t;
@@ -57,10 +58,10 @@ tells_look p q place known reply look turn t arrays schedule is at = record {
 }
 
 -- what the entry of a look says
-legal_look : (p q : Passes) (turn known : ℕ) (look : Look) (t : TellsLook p turn known look q) → blueprint_steps.Steps t.entry.before (blue_call.Look known) (blue_reply.Look look) t.entry.after
+legal_look : (p q : Passes) (turn known : ℕ) (look : Look) (t : TellsLook p turn known look q) → blueprint_steps.BlueprintSteps t.entry.before (blue_call.Look known) (blue_reply.Look look) t.entry.after
 legal_look p q turn known look t =
-    subst (λ (c : BlueCall). blueprint_steps.Steps t.entry.before c (blue_reply.Look look) t.entry.after) t.call
-    (subst (λ (r : BlueReply). blueprint_steps.Steps t.entry.before t.entry.call r t.entry.after) t.reply t.gains.1.0.0.legal)
+    subst (λ (c : BlueCall). blueprint_steps.BlueprintSteps t.entry.before c (blue_reply.Look look) t.entry.after) t.call
+    (subst (λ (r : BlueReply). blueprint_steps.BlueprintSteps t.entry.before t.entry.call r t.entry.after) t.reply t.gains.1.0.0.legal)
 
 -- what the pass had seen reaches what the look found
 pub left_reaches : (p q : Passes) (look : BlueEntry) (s : blueprints.State) → GainsLook p look q → Left (pass_view p.blueprint).own s → Reaches s look.before
@@ -90,7 +91,7 @@ renewable names p q worker turn look t know clean = record {
 pub look_left : (p q : Passes) (turn known : ℕ) (look : Look) (t : TellsLook p turn known look q) → Left (pass_view q.blueprint).own t.entry.before
 look_left p q turn known look t =
     subst (λ (own : List BlueEntry). Left own t.entry.before)
-    (sym (own_after blueprints.Allowed blueprint_steps.Reaches blueprint_steps.Steps (pass_view p.blueprint) (pass_view q.blueprint) (t.entry ∷ []) t.gains.1.0))
+    (sym (own_after blueprints.Allowed blueprint_steps.Reaches blueprint_steps.BlueprintSteps (pass_view p.blueprint) (pass_view q.blueprint) (t.entry ∷ []) t.gains.1.0))
     (left_back (pass_view p.blueprint).own (t.entry ∷ []) t.entry.before (inl (legal_look p q turn known look t).1))
 
 pub look_seen : (p q : Passes) (turn known : ℕ) (look : Look) (t : TellsLook p turn known look q) (interp : Interp) → edition_in interp ≡ edition_of t.entry.before → Saw (pass_view q.blueprint) (edition_in interp)

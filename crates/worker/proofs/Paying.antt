@@ -38,9 +38,13 @@ pub paid_once : (s0 s1 s2 w0 w1 w2 made : ℕ) → w0 ≡ 0 → w2 ≡ made + 0 
 paid_once s0 s1 s2 w0 w1 w2 made none own g h = omega (arith, none, own, g, h)
 
 -- and behind it
-pub paid_twice : (s0 s1 s2 s3 s4 w0 w1 w2 w3 w4 made : ℕ) → w0 ≡ 0 → w4 ≡ made + 0 → s0 + w1 ≤ s1 + w0 → s1 + w2 ≤ s2 + w1 → s2 + w3 ≤ s3 + w2 → s3 + w4 ≤ s4 + w3
-    → s4 + made ≤ s0 + (2 * made + (((((s1 + w0) - (s0 + w1)) + ((s2 + w1) - (s1 + w2))) + ((s3 + w2) - (s2 + w3))) + ((s4 + w3) - (s3 + w4))))
-paid_twice s0 s1 s2 s3 s4 w0 w1 w2 w3 w4 made none own g h k l = omega (arith, none, own, g, h, k, l)
+pub paid_twice : (s0 s1 s2 s4 w0 w1 w2 w4 made : ℕ) → w0 ≡ 0 → w4 ≡ made + 0 → s0 + w1 ≤ s1 + w0 → s1 + w2 ≤ s2 + w1 → s2 + w4 ≤ s4 + w2
+    → s4 + made ≤ s0 + (2 * made + ((((s1 + w0) - (s0 + w1)) + ((s2 + w1) - (s1 + w2))) + ((s4 + w2) - (s2 + w4))))
+paid_twice s0 s1 s2 s4 w0 w1 w2 w4 made none own g h k = omega (arith, none, own, g, h, k)
+
+-- what is counted in two calls is counted in both
+pub counted_both : (s2 s3 s4 w2 w3 w4 : ℕ) → s2 + w3 ≤ s3 + w2 → s3 + w4 ≤ s4 + w3 → s2 + w4 ≤ s4 + w2
+counted_both s2 s3 s4 w2 w3 w4 g h = omega (arith, g, h)
 
 -- a definition run, of which no entry but its own is counted at its start
 pub paid_define : (s0 s1 s2 m0 m1 w1 w2 made : ℕ) → m0 ≡ 0 → s1 + m0 ≡ s0 + m1 → m1 ≤ w1 → w2 ≡ made + 0 → s1 + w2 ≤ s2 + w1

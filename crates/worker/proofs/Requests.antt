@@ -22,7 +22,7 @@ use Rattle.tcl_eval.specs.declared.outcome.Outcome.{Outcome}
 use Rattle.tcl_eval.specs.declared.outcome.Outcome.TheVariants as outcomes
 use Rattle.ictl.specs.Falls.{StandsAt as IsAt, IsEnd}
 use Rattle.ictl.specs.Interps.{gives, ending_of, interp_state, UnlessNoMemory, Stands}
-use Rattle.ictl.specs.Main.{Progress, asks, writes, ends, Main, behind, both, answered}
+use Rattle.ictl.specs.Main.{Progress, asks, writes, ends, Main, behind, behind_response, both, answered}
 use Rattle.ictl.specs.declared.ending.Ending.{Ending}
 use Rattle.ictl.specs.declared.ending.Ending.TheVariants as endings
 use Rattle.ictl.specs.declared.interp.Interp.{Interp}
@@ -30,10 +30,10 @@ use Rattle.ictl.specs.declared.next.Next.{Next}
 use Rattle.ictl.specs.declared.next.Next.TheVariants as next
 use Rattle.shared_state.specs.declared.shared.Passes.{Passes}
 use Rattle.serving.specs.Connections.{answer_bytes, asks_close, is_head_only, closes}
-use Rattle.worker.specs.Turns.{Turn, StandsAt, IsTurnOf, answer_of, AreAsked, AtMostOneMore, GainsTurns}
+use Rattle.worker.specs.Turns.{Turn, ProgressAsks, IsTurnOf, answer_of, AreAsked, AtMostOneMore, GainsTurns}
 use Rattle.worker.specs.Outside.{AreHeld, page_faults, RoseBy}
 use Rattle.worker.specs.Asking.{MayStand, Hears}
-use Rattle.worker.specs.Runs.{Course, Finished, CutShort, WantsBefore, WantsBehind, edition_of, behind_response, whole_run, run_in, is_marked, outcome_of, bytes_for}
+use Rattle.worker.specs.Runs.{Course, Finished, CutShort, WantsBefore, WantsBehind, edition_of, whole_run, run_in, is_marked, served_outcome, bytes_for}
 use Rattle.worker.specs.Cost.{run_cost}
 use Rattle.worker.specs.Items.{bytes_of, bytes_had, Gives, Responds, ComesTo, MayLoseOne}
 use Rattle.worker.specs.Working.{bytes_sent, IsSent, IsMarkedBy, RunsRequest, SendsReply, way_of}
@@ -58,18 +58,18 @@ reply_for request response moment number before had = bytes_for request response
 
 -- ---- both parts of a run
 
-main_stands : (names : List (List ℕ)) (edition : Edition) (request : Request) (moment : ℕ) (whole : Bool) (progress : Progress) (question : Question) → StandsAt progress question → StandsAt (behind_response names edition request moment whole progress) question
-main_stands names edition request moment whole progress question s = (s.0, s.1, ap (λ (p : Progress). behind_response names edition request moment whole p) s.2)
+main_stands : (names : List (List ℕ)) (edition : Edition) (request : Request) (moment : ℕ) (whole : Bool) (progress : Progress) (question : Question) → ProgressAsks progress question → ProgressAsks (behind_response names edition moment whole request progress) question
+main_stands names edition request moment whole progress question s = (s.0, s.1, ap (λ (p : Progress). behind_response names edition moment whole request p) s.2)
 
 -- the questions of the part up to the response, and of that behind it, are those of the whole
 asked_both : (names : List (List ℕ)) (edition : Edition) (request : Request) (moment : ℕ) (whole : Bool) (f : List Answer → Progress) (ts us : List Turn) (given further : List Answer)
     (response : Response) (ending : Ending) (state : State HostState) (inside : ℕ)
     → AreAsked moment f ts given → ((left : List Answer) → f (given ++ left) ≡ writes response ending state inside left)
     → AreAsked moment (λ left. behind names edition moment whole request ending state inside left) us further
-    → AreAsked moment (λ answers. behind_response names edition request moment whole (f answers)) (ts ++ us) (given ++ further)
+    → AreAsked moment (λ answers. behind_response names edition moment whole request (f answers)) (ts ++ us) (given ++ further)
 asked_both names edition request moment whole f [] us [] further response ending state inside a goes b =
-    asked_same moment (λ left. behind names edition moment whole request ending state inside left) (λ answers. behind_response names edition request moment whole (f answers)) us further
-    (λ left. sym (ap (λ (p : Progress). behind_response names edition request moment whole p) (goes left))) b
+    asked_same moment (λ left. behind names edition moment whole request ending state inside left) (λ answers. behind_response names edition moment whole request (f answers)) us further
+    (λ left. sym (ap (λ (p : Progress). behind_response names edition moment whole request p) (goes left))) b
 asked_both names edition request moment whole f [] us (x ∷ xs) further response ending state inside a goes b = absurd a
 asked_both names edition request moment whole f (t ∷ ts) us [] further response ending state inside a goes b = absurd a
 asked_both names edition request moment whole f (t ∷ ts) us (x ∷ xs) further response ending state inside a goes b =
@@ -156,7 +156,7 @@ hears_both names held state request moment whole p q r faults middle faults_afte
     let had_is : h.given ≡ had = sym (h.all_are ∙ ap (λ (l : List Answer). l ++ h.given) empty) in
     let main_goes : (left : List Answer) → Main names (edition_of state) request moment (had ++ left) ≡ writes response (ending_of i.task) (interp_state i) inside left = λ left. ap (λ (l : List Answer). Main names (edition_of state) request moment (l ++ left)) (sym had_is) ∙ h.goes left in
     let main : Main names (edition_of state) request moment all ≡ writes response (ending_of i.task) (interp_state i) inside k.given = ap (λ (l : List Answer). Main names (edition_of state) request moment l) k.all_are ∙ main_goes k.given in
-    let whole_is : whole_run names state request moment whole all ≡ behind names (edition_of state) moment whole request (ending_of i.task) (interp_state i) inside k.given = ap (λ (x : Progress). behind_response names (edition_of state) request moment whole x) main in
+    let whole_is : whole_run names state request moment whole all ≡ behind names (edition_of state) moment whole request (ending_of i.task) (interp_state i) inside k.given = ap (λ (x : Progress). behind_response names (edition_of state) moment whole request x) main in
     let first : h.turns ++ (k.turns ++ k.more) ≡ (h.turns ++ k.turns) ++ k.more = regroup h.turns k.turns k.more in
     let gained : GainsTurns p h.turns q = subst (λ (ts : List Turn). GainsTurns p ts q) (ap (λ (ts : List Turn). h.turns ++ ts) h.behind ∙ append-nil h.turns) h.gains in
     let paged : AreHeld held h.turns = subst (λ (ts : List Turn). AreHeld held ts) (ap (λ (ts : List Turn). h.turns ++ ts) h.behind ∙ append-nil h.turns) h.pages in
@@ -190,7 +190,7 @@ pub finished : (names : List (List ℕ)) (held : Option PageMap) (state : bluepr
     → HearsBoth names held state request moment true p r faults faults_after had all response i inside (next.Ended outcome) j within → IsEnd outcome
     → bytes ≡ length (reply_for request response moment number before had) → Gains output (reply_for request response moment number before had) output_after
     → steps_after + Writes (interp_state j).made ≤ steps + (2 * Writes (interp_state j).made + within)
-    → RunsRequest names held state request moment number before (sending.Whole bytes) p r output output_after faults faults_after steps steps_after all (outcome_of outcome) j
+    → RunsRequest names held state request moment number before (sending.Whole bytes) p r output output_after faults faults_after steps steps_after all (served_outcome outcome) j
 finished names held state request moment number before bytes p r output output_after faults faults_after steps steps_after had all response i inside outcome j within h end size gains paid =
     let after = h.ended outcome refl in
     record {
@@ -310,7 +310,7 @@ cut_short names held state request moment number before bytes p q output output_
     let had_is : h.given ≡ had = sym (h.all_are ∙ ap (λ (l : List Answer). l ++ h.given) empty) in
     let main_goes : (left : List Answer) → Main names (edition_of state) request moment (had ++ left) ≡ writes response (ending_of i.task) (interp_state i) inside left = λ left. ap (λ (l : List Answer). Main names (edition_of state) request moment (l ++ left)) (sym had_is) ∙ h.goes left in
     let main : Main names (edition_of state) request moment had ≡ writes response (ending_of i.task) (interp_state i) inside [] = ap (λ (l : List Answer). Main names (edition_of state) request moment l) (sym (append-nil had)) ∙ main_goes [] in
-    let after : whole_run names state request moment false had ≡ ends (both (ending_of i.task) answered) (interp_state i) inside [] = ap (λ (x : Progress). behind_response names (edition_of state) request moment false x) main in
+    let after : whole_run names state request moment false had ≡ ends (both (ending_of i.task) answered) (interp_state i) inside [] = ap (λ (x : Progress). behind_response names (edition_of state) moment false request x) main in
     record {
       course = CutShort;
       turns = h.turns;
@@ -362,15 +362,14 @@ heard_main names state request moment edition first inside old p held before kno
     subst (λ (e : Edition). Hears names moment (λ further. Main names e request moment further) p held before known answers came within new q after published all) is
     (hears_of names moment (λ further. Main names edition request moment further) first inside old p held before known answers came within new q after published all stands at h)
 
-pub heard_behind : (names : List (List ℕ)) (state : blueprints.State) (request : Request) (moment : ℕ) (whole : Bool) (edition : Edition) (now : ℕ) (ending : Ending) (state_then : State HostState) (had : ℕ) (first : Next) (inside : ℕ) (old : Interp)
+pub heard_behind : (names : List (List ℕ)) (state : blueprints.State) (request : Request) (moment : ℕ) (whole : Bool) (edition : Edition) (now : ℕ) (ending : Ending) (state_then : State HostState) (had : ℕ)
     (p : Passes) (held : Option PageMap) (before : ℕ) (known : Option ℕ) (answers : List Answer) (came : Next) (within : ℕ) (new : Interp) (q : Passes) (after : ℕ) (published : Option ℕ) (all : List Answer)
-    → edition ≡ edition_of state → now ≡ moment → Stands names (behind names edition now whole request ending state_then had) first inside old [] → IsAt came new
-    → Hears names moment (λ further. gives names first inside old further) p held before known answers came within new q after published all
+    → edition ≡ edition_of state → now ≡ moment
+    → Hears names moment (λ further. behind names edition now whole request ending state_then had further) p held before known answers came within new q after published all
     → Hears names moment (λ further. behind names (edition_of state) moment whole request ending state_then had further) p held before known answers came within new q after published all
-heard_behind names state request moment whole edition now ending state_then had first inside old p held before known answers came within new q after published all is same stands at h =
+heard_behind names state request moment whole edition now ending state_then had p held before known answers came within new q after published all is same h =
     subst (λ (m : ℕ). Hears names moment (λ further. behind names (edition_of state) m whole request ending state_then had further) p held before known answers came within new q after published all) same
-    (subst (λ (e : Edition). Hears names moment (λ further. behind names e now whole request ending state_then had further) p held before known answers came within new q after published all) is
-    (hears_of names moment (λ further. behind names edition now whole request ending state_then had further) first inside old p held before known answers came within new q after published all stands at h))
+    (subst (λ (e : Edition). Hears names moment (λ further. behind names e now whole request ending state_then had further) p held before known answers came within new q after published all) is h)
 
 -- the interpreter that was not told to go on stands where it stood
 pub unwritten_same : (names : List (List ℕ)) (edition : Edition) (now : ℕ) (request : Request) (i j : Interp) (inside within : ℕ) (came : Next) → came ≡ next.Ended (both (ending_of i.task) answered)

@@ -5,7 +5,7 @@ use Rattle.cmd_table.specs.declared.definition.Def.{Def}
 use Rattle.blueprint.specs.States as blueprints
 use Rattle.blueprint.specs.Looking.{since}
 use Rattle.ictl.specs.Main.{Progress}
-use Rattle.worker.specs.Runs.{edition_of, state_of, inside_of, is_marked}
+use Rattle.worker.specs.Runs.{edition_of, inside_of, is_marked}
 use Rattle.worker.specs.Clean.{Standing}
 use Rattle.worker.specs.Cost.{Build, renewal_of, run_cost}
 use Rattle.worker.specs.Laws.{procedure, route_to, first_edition, second_edition, Made, names_count, changes, CostRows}

@@ -25,7 +25,7 @@ use Rattle.ictl.specs.declared.next.Next.{Next}
 use Rattle.ictl.specs.declared.next.Next.TheVariants as next
 use Rattle.shared_state.specs.Views.{BlueEntry}
 use Rattle.shared_state.specs.declared.shared.Passes.{Passes}
-use Rattle.worker.specs.Turns.{Turn, OnBlueprint, OnArrays, OnSchedule, OnPages, AtOnce, IsTold, AreAsked, AtMostOneMore, GainsTurns}
+use Rattle.worker.specs.Turns.{Turn, OnBlueprint, OnArrays, OnSchedule, OnPages, AtOnce, IsAnsweredLook, AreAsked, AtMostOneMore, GainsTurns}
 use Rattle.worker.specs.Asking.{published_by, published_at, published_after, MayStand, Hears}
 use Rattle.worker.specs.Clean.{Standing, standing_in}
 use Rattle.worker.specs.Cost.{renewal, run_cost}
@@ -79,7 +79,7 @@ place_is place (looks.Since epoch defs) told = refl
 place_is place (looks.Whole epoch defs) told = refl
 place_is place looks.NoMemory told = absurd (told refl)
 
-pub is_told : (p q : Passes) (turn known : ℕ) (look : Look) (t : TellsLook p turn known look q) → look ≢ looks.NoMemory → IsTold t.entry
+pub is_told : (p q : Passes) (turn known : ℕ) (look : Look) (t : TellsLook p turn known look q) → look ≢ looks.NoMemory → IsAnsweredLook t.entry
 is_told p q turn known look t told = λ is. let e = sym t.reply ∙ is in told (cc)
 
 pub place_of : (p q : Passes) (turn known : ℕ) (look : Look) (t : TellsLook p turn known look q) → look ≢ looks.NoMemory → t.entry.place ≡ turn

@@ -16,11 +16,12 @@ use Rattle.natives.specs.Names.{has_name}
 use Rattle.cmd_table.specs.declared.command.Cmd.{Cmd}
 use Rattle.cmd_table.specs.declared.command.Cmd.TheVariants as commands
 use Rattle.cmd_table.specs.declared.definition.Def.{Def}
-use Rattle.cmd_table.specs.Table.{Table, name_order, IsInOrder, command_of}
+use Rattle.cmd_table.specs.Table.{Table, IsInOrder, command_of}
 use Rattle.cmd_table.specs.Commands.{built_ins, built, defined, Commands}
 use Rattle.cmd_table.specs.Laws.{CommandsAreInOrder, BuiltInsAreThere}
-use Rattle.turn_cell.specs.Members.{Has}
-use Rattle.turn_cell.proofs.Members.{has_front, has_back, has_either}
+use Rattle.txt_core.specs.Members.{Has}
+use Rattle.txt_core.specs.Order.{text_cmp}
+use Rattle.txt_core.proofs.Members.{has_front, has_back, has_either}
 use Rattle.shared_state.specs.Cells.{HaveSameNames}
 
 -- ---- two tables in order in which each name has the same command
@@ -29,24 +30,24 @@ both_hold : (a b : Bool) → T a → T b → T (a && b)
 both_hold true b x y = y
 both_hold false b x y = absurd x
 
-below_of : (x : List ℕ) (es : Table) → AllByRecursion (λ y. name_order x y ≡ Less) (keys_of es) → T (below_all name_order x es)
+below_of : (x : List ℕ) (es : Table) → AllByRecursion (λ y. text_cmp x y ≡ Less) (keys_of es) → T (below_all text_cmp x es)
 below_of x [] h = tt
-below_of x (e ∷ es) h = both_hold (is_lt (name_order x e.0)) (below_all name_order x es) (subst (λ (o : Ordering). T (is_lt o)) (sym h.0) tt) (below_of x es h.1)
+below_of x (e ∷ es) h = both_hold (is_lt (text_cmp x e.0)) (below_all text_cmp x es) (subst (λ (o : Ordering). T (is_lt o)) (sym h.0) tt) (below_of x es h.1)
 
-sorted_of : (es : Table) → IsStrictlySortedBy name_order (keys_of es) → T (is_sorted name_order es)
+sorted_of : (es : Table) → IsStrictlySortedBy text_cmp (keys_of es) → T (is_sorted text_cmp es)
 unfolding IsStrictlySortedBy
 sorted_of [] h = tt
-sorted_of (e ∷ es) h = both_hold (below_all name_order e.0 es) (is_sorted name_order es) (below_of e.0 es h.0) (sorted_of es h.1)
+sorted_of (e ∷ es) h = both_hold (below_all text_cmp e.0 es) (is_sorted text_cmp es) (below_of e.0 es h.0) (sorted_of es h.1)
 
-find_of : (q : List ℕ) (es : Table) → find name_order q es ≡ lookup (bytes_eq q) es
+find_of : (q : List ℕ) (es : Table) → find text_cmp q es ≡ lookup (bytes_eq q) es
 find_of q [] = refl
 find_of q (e ∷ es) =
-    ap (λ (b : Bool). cond b (Some e.1) (find name_order q es)) (is_eq-slice_cmp q e.0)
+    ap (λ (b : Bool). cond b (Some e.1) (find text_cmp q es)) (is_eq-slice_cmp q e.0)
     ∙ ap (λ (r : Option Cmd). cond (bytes_eq q e.0) (Some e.1) r) (find_of q es)
 
 tables_same : (s t : Table) → IsInOrder s → IsInOrder t → ((name : List ℕ) → command_of s name ≡ command_of t name) → s ≡ t
 unfolding command_of
-tables_same s t g h is = same_entries name_order nat_list_cmp_total exact_bytes s t (sorted_of s g) (sorted_of t h) (λ q. find_of q s ∙ (is q ∙ sym (find_of q t)))
+tables_same s t g h is = same_entries text_cmp nat_list_cmp_total exact_bytes s t (sorted_of s g) (sorted_of t h) (λ q. find_of q s ∙ (is q ∙ sym (find_of q t)))
 
 -- ---- names
 

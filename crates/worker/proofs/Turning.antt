@@ -5,7 +5,8 @@ use Rattle.std.proofs.lemmas.Bool.{eqb-true, eqb-false}
 use Rattle.outside.specs.Paging.{PageMap}
 use Rattle.turn_cell.specs.declared.view.Entry.{Entry}
 use Rattle.turn_cell.specs.declared.view.View.{View}
-use Rattle.turn_cell.specs.Members.{Has, Left}
+use Rattle.txt_core.specs.Members.{Has}
+use Rattle.turn_cell.specs.Members.{Left}
 use Rattle.turn_cell.specs.Cells.{pass_view}
 use Rattle.turn_cell.specs.Passes.{turn_of, with_turn}
 use Rattle.turn_cell.specs.Steps.{Turns}
@@ -18,11 +19,11 @@ use Rattle.blueprint.specs.Order.{step_reaches}
 use Rattle.blueprint.specs.declared.reply.BlueCall.{BlueCall}
 use Rattle.blueprint.specs.declared.reply.BlueReply.{BlueReply}
 use Rattle.sched_core.specs.Allowed as schedule_states
-use Rattle.sched_core.specs.Steps as schedule_steps
+use Rattle.sched_core.specs.Steps.{ScheduleSteps}
 use Rattle.sched_core.specs.declared.call.SchedCall.{SchedCall}
 use Rattle.sched_core.specs.declared.call.SchedReply.{SchedReply}
 use Rattle.nsv_bucket.specs.Arrays.{Arrays}
-use Rattle.nsv_bucket.specs.Steps as array_steps
+use Rattle.nsv_bucket.specs.Steps.{ArraySteps}
 use Rattle.nsv_bucket.specs.declared.reply.NsvReply.{NsvReply}
 use Rattle.nsv_shared.specs.Views.{BucketView, TurnsAt}
 use Rattle.nsv_shared.specs.Cells as arrays
@@ -50,17 +51,17 @@ schedule_more (t ∷ ts) us = ap (λ (l : List ScheduleEntry). on_schedule t ++ 
 blueprint_row : (u v w : BlueView) (ts us : List Turn) → TakesOnBlueprint u (blueprint_turns ts) v → TakesOnBlueprint v (blueprint_turns us) w → TakesOnBlueprint u (blueprint_turns (ts ++ us)) w
 blueprint_row u v w ts us g h =
     subst (λ (l : List BlueEntry). TakesOnBlueprint u l w) (sym (blueprint_more ts us))
-    (in_a_row blueprints.Allowed blueprint_steps.Reaches blueprint_steps.Steps u v w (blueprint_turns ts) (blueprint_turns us) g h)
+    (in_a_row blueprints.Allowed blueprint_steps.Reaches blueprint_steps.BlueprintSteps u v w (blueprint_turns ts) (blueprint_turns us) g h)
 
 bucket_row : (here : ℕ) (u v w : BucketView) (ts us : List Turn) → TakesOnBucket u (array_turns here ts) v → TakesOnBucket v (array_turns here us) w → TakesOnBucket u (array_turns here (ts ++ us)) w
 bucket_row here u v w ts us g h =
     subst (λ (l : List BucketEntry). TakesOnBucket u l w) (sym (arrays_more here ts us))
-    (in_a_row (λ s. Unit {0}) (λ s t. Unit {0}) array_steps.Steps u v w (array_turns here ts) (array_turns here us) g h)
+    (in_a_row (λ s. Unit {0}) (λ s t. Unit {0}) ArraySteps u v w (array_turns here ts) (array_turns here us) g h)
 
 schedule_row : (u v w : ScheduleView) (ts us : List Turn) → TakesOnSchedule u (schedule_turns ts) v → TakesOnSchedule v (schedule_turns us) w → TakesOnSchedule u (schedule_turns (ts ++ us)) w
 schedule_row u v w ts us g h =
     subst (λ (l : List ScheduleEntry). TakesOnSchedule u l w) (sym (schedule_more ts us))
-    (in_a_row schedule_states.Allowed (λ s t. Unit {0}) schedule_steps.Steps u v w (schedule_turns ts) (schedule_turns us) g h)
+    (in_a_row schedule_states.Allowed (λ s t. Unit {0}) ScheduleSteps u v w (schedule_turns ts) (schedule_turns us) g h)
 
 -- no turn
 pub gains_none : (p : Passes) → GainsTurns p [] p
@@ -92,26 +93,26 @@ arrays_stay p q is =
     (b (λ n. pass_view n.b0), b (λ n. pass_view n.b1), b (λ n. pass_view n.b2), b (λ n. pass_view n.b3), b (λ n. pass_view n.b4), b (λ n. pass_view n.b5), b (λ n. pass_view n.b6), b (λ n. pass_view n.b7))
 
 -- the entry of a turn on the blueprint
-abbrev pub blueprint_entry : (p q : Passes) (place : ℕ) (call : BlueCall) (reply : BlueReply) → Turns blueprints.Allowed blueprint_steps.Reaches blueprint_steps.Steps (pass_view p.blueprint) place call reply (pass_view q.blueprint) → BlueEntry
+abbrev pub blueprint_entry : (p q : Passes) (place : ℕ) (call : BlueCall) (reply : BlueReply) → Turns blueprints.Allowed blueprint_steps.Reaches blueprint_steps.BlueprintSteps (pass_view p.blueprint) place call reply (pass_view q.blueprint) → BlueEntry
 blueprint_entry p q place call reply t = turn_of place t.before call reply t.after
 
-pub blueprint_gained : (p q : Passes) (place : ℕ) (call : BlueCall) (reply : BlueReply) → (t : Turns blueprints.Allowed blueprint_steps.Reaches blueprint_steps.Steps (pass_view p.blueprint) place call reply (pass_view q.blueprint))
+pub blueprint_gained : (p q : Passes) (place : ℕ) (call : BlueCall) (reply : BlueReply) → (t : Turns blueprints.Allowed blueprint_steps.Reaches blueprint_steps.BlueprintSteps (pass_view p.blueprint) place call reply (pass_view q.blueprint))
     → q.nsv ≡ p.nsv → q.schedule ≡ p.schedule → GainsTurns p (OnBlueprint (blueprint_entry p q place call reply t) ∷ []) q
 blueprint_gained p q place call reply t arrays schedule = (
-  one_turn blueprints.Allowed blueprint_steps.Reaches blueprint_steps.Steps (pass_view p.blueprint) (pass_view q.blueprint) place call reply t,
+  one_turn blueprints.Allowed blueprint_steps.Reaches blueprint_steps.BlueprintSteps (pass_view p.blueprint) (pass_view q.blueprint) place call reply t,
   arrays_stay p.nsv q.nsv arrays,
   ap (λ s. pass_view s) schedule,
 )
 
-abbrev pub schedule_entry : (p q : Passes) (place : ℕ) (call : SchedCall) (reply : SchedReply) → Turns schedule_states.Allowed (λ s t. Unit {0}) schedule_steps.Steps (pass_view p.schedule) place call reply (pass_view q.schedule) → ScheduleEntry
+abbrev pub schedule_entry : (p q : Passes) (place : ℕ) (call : SchedCall) (reply : SchedReply) → Turns schedule_states.Allowed (λ s t. Unit {0}) ScheduleSteps (pass_view p.schedule) place call reply (pass_view q.schedule) → ScheduleEntry
 schedule_entry p q place call reply t = turn_of place t.before call reply t.after
 
-pub schedule_gained : (p q : Passes) (place : ℕ) (call : SchedCall) (reply : SchedReply) → (t : Turns schedule_states.Allowed (λ s t. Unit {0}) schedule_steps.Steps (pass_view p.schedule) place call reply (pass_view q.schedule))
+pub schedule_gained : (p q : Passes) (place : ℕ) (call : SchedCall) (reply : SchedReply) → (t : Turns schedule_states.Allowed (λ s t. Unit {0}) ScheduleSteps (pass_view p.schedule) place call reply (pass_view q.schedule))
     → q.blueprint ≡ p.blueprint → q.nsv ≡ p.nsv → GainsTurns p (OnSchedule (schedule_entry p q place call reply t) ∷ []) q
 schedule_gained p q place call reply t blueprint arrays = (
   ap (λ b. pass_view b) blueprint,
   arrays_stay p.nsv q.nsv arrays,
-  one_turn schedule_states.Allowed (λ s t. Unit {0}) schedule_steps.Steps (pass_view p.schedule) (pass_view q.schedule) place call reply t,
+  one_turn schedule_states.Allowed (λ s t. Unit {0}) ScheduleSteps (pass_view p.schedule) (pass_view q.schedule) place call reply t,
 )
 
 -- ---- one turn on a bucket
@@ -150,9 +151,9 @@ pub arrays_gained : (p q : Passes) (asked place : ℕ) (words : List (List ℕ))
     → q.blueprint ≡ p.blueprint → q.schedule ≡ p.schedule
     → (e : BucketEntry) × (e.call ≡ words) × (e.reply ≡ reply) × GainsTurns p (OnArrays asked e ∷ []) q
 arrays_gained p q asked place words reply x lt blueprint schedule =
-    let t : Turns (λ s. Unit {0}) (λ s t. Unit {0}) array_steps.Steps (bucket_at p.nsv asked) place words reply (bucket_at q.nsv asked) = (asked_at asked place words reply p.nsv q.nsv x asked lt).0 refl in
+    let t : Turns (λ s. Unit {0}) (λ s t. Unit {0}) ArraySteps (bucket_at p.nsv asked) place words reply (bucket_at q.nsv asked) = (asked_at asked place words reply p.nsv q.nsv x asked lt).0 refl in
     let e : BucketEntry = turn_of place t.before words reply t.after in
-    let here : TakesOnBucket (bucket_at p.nsv asked) (e ∷ []) (bucket_at q.nsv asked) = one_turn (λ s. Unit {0}) (λ s t. Unit {0}) array_steps.Steps (bucket_at p.nsv asked) (bucket_at q.nsv asked) place words reply t in
+    let here : TakesOnBucket (bucket_at p.nsv asked) (e ∷ []) (bucket_at q.nsv asked) = one_turn (λ s. Unit {0}) (λ s t. Unit {0}) ArraySteps (bucket_at p.nsv asked) (bucket_at q.nsv asked) place words reply t in
     let took = λ (k : ℕ) (is : asked ≡ k). subst (λ (k : ℕ). TakesOnBucket (bucket_at p.nsv k) (e ∷ []) (bucket_at q.nsv k)) is here in (
       e,
       refl,
@@ -198,12 +199,12 @@ module _ {S C R : Type 0} (allowed : S → Type 0) (reaches : S → S → Type 0
   units_kept v w (e ∷ es) g = units_kept (with_turn v e) w es g.1
 
 bucket_units : (here : ℕ) (v w : BucketView) (ts : List Turn) → TakesOnBucket v (array_turns here ts) w → w.units ≡ v.units
-bucket_units here v w ts g = units_kept (λ s. Unit {0}) (λ s t. Unit {0}) array_steps.Steps v w (array_turns here ts) g
+bucket_units here v w ts g = units_kept (λ s. Unit {0}) (λ s t. Unit {0}) ArraySteps v w (array_turns here ts) g
 
 -- each pass keeps its share
 pub keeps_units : (p q : Passes) (ts : List Turn) → GainsTurns p ts q → KeepUnits p q
 keeps_units p q ts g = (
-  units_kept blueprints.Allowed blueprint_steps.Reaches blueprint_steps.Steps (pass_view p.blueprint) (pass_view q.blueprint) (blueprint_turns ts) g.0,
+  units_kept blueprints.Allowed blueprint_steps.Reaches blueprint_steps.BlueprintSteps (pass_view p.blueprint) (pass_view q.blueprint) (blueprint_turns ts) g.0,
   (
     bucket_units 0 (pass_view p.nsv.b0) (pass_view q.nsv.b0) ts g.1.0,
     bucket_units 1 (pass_view p.nsv.b1) (pass_view q.nsv.b1) ts g.1.1,
@@ -214,7 +215,7 @@ keeps_units p q ts g = (
     bucket_units 6 (pass_view p.nsv.b6) (pass_view q.nsv.b6) ts g.1.6,
     bucket_units 7 (pass_view p.nsv.b7) (pass_view q.nsv.b7) ts g.1.7,
   ),
-  units_kept schedule_states.Allowed (λ s t. Unit {0}) schedule_steps.Steps (pass_view p.schedule) (pass_view q.schedule) (schedule_turns ts) g.2,
+  units_kept schedule_states.Allowed (λ s t. Unit {0}) ScheduleSteps (pass_view p.schedule) (pass_view q.schedule) (schedule_turns ts) g.2,
 )
 
 -- a blueprint keeps the names of its natives
@@ -237,7 +238,7 @@ keeps_names names p q ts g know =
 pub keeps_left : (p q : Passes) (ts : List Turn) (s : blueprints.State) → GainsTurns p ts q → Left (pass_view p.blueprint).own s → Left (pass_view q.blueprint).own s
 keeps_left p q ts s g l =
     subst (λ (own : List BlueEntry). Left own s)
-    (sym (own_after blueprints.Allowed blueprint_steps.Reaches blueprint_steps.Steps (pass_view p.blueprint) (pass_view q.blueprint) (blueprint_turns ts) g.0))
+    (sym (own_after blueprints.Allowed blueprint_steps.Reaches blueprint_steps.BlueprintSteps (pass_view p.blueprint) (pass_view q.blueprint) (blueprint_turns ts) g.0))
     (left_front (pass_view p.blueprint).own (blueprint_turns ts) s l)
 
 -- the share is kept over two stretches

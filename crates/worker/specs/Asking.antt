@@ -38,27 +38,27 @@ published_after known [] = known
 published_after known (turn ∷ turns) = published_after (published_at turn) turns
 
 -- one turn was taken, the question's, and the answer is its; or memory wanted, before a turn or behind it
-abbrev pub Came : {E : Type 0} → ℕ → Question → List Turn → Result Answer E → Type 0
-Came moment question (turn ∷ []) (Ok answer) =
+abbrev pub CameByTurns : {E : Type 0} → ℕ → Question → List Turn → Result Answer E → Type 0
+CameByTurns moment question (turn ∷ []) (Ok answer) =
     IsTurnOf moment question.service question.words turn × (answer_of question turn ≡ Some answer)
-Came moment question [] (Err e) = Unit {0}
-Came moment question (turn ∷ []) (Err e) = IsTurnOf moment question.service question.words turn
-Came moment question _ _ = ⊥
+CameByTurns moment question [] (Err e) = Unit {0}
+CameByTurns moment question (turn ∷ []) (Err e) = IsTurnOf moment question.service question.words turn
+CameByTurns moment question _ _ = ⊥
 
 -- what is known of a publication behind an answer
-abbrev pub Publishes : {E : Type 0} → List Turn → Result Answer E → Option ℕ → Type 0
-Publishes turns (Ok answer) now = now ≡ published_after None turns
-Publishes turns (Err e) now = Unit {0}
+abbrev pub KnowsPublished : {E : Type 0} → List Turn → Result Answer E → Option ℕ → Type 0
+KnowsPublished turns (Ok answer) now = now ≡ published_after None turns
+KnowsPublished turns (Err e) now = Unit {0}
 
 -- A question was put to what answers it.
 pub record AsksOne {E : Type 0} (moment : Moment) (question : Question) (p : Passes) (held : Option PageMap) (before : ℕ)
     (result : Result Answer E) (q : Passes) (after : ℕ) (now : Option ℕ) : Type 0 where
   pub turns : List Turn
   pub gains : GainsTurns p turns q
-  pub came : Came moment question turns result
+  pub came : CameByTurns moment question turns result
   pub pages : AreHeld held turns
   pub counts : RoseBy (page_faults turns) before after
-  pub published : Publishes turns result now
+  pub published : KnowsPublished turns result now
 
 -- ---- all questions of a stretch of a run
 

@@ -11,7 +11,7 @@ use Rattle.blueprint.specs.declared.reply.Look.{Look}
 use Rattle.blueprint.specs.declared.reply.Look.TheVariants as look
 use Rattle.shared_state.specs.Views.{BlueEntry}
 use Rattle.ictl.specs.Main.{Progress}
-use Rattle.worker.specs.Runs.{state_of, inside_of}
+use Rattle.worker.specs.Runs.{progress_state, inside_of}
 use Rattle.worker.specs.Clean.{Standing}
 
 -- an interpreter that is built on a blueprint writes an entry for each built-in name, those of the natives among them, and those of the
@@ -48,4 +48,4 @@ vain_cost names standing entry = vain_cost_by entry.reply (renewal names standin
 -- What a run costs, as far as it came: what it made is written, and taken back by the reset; and the runs inside it wrote theirs, each
 -- from the making of its interpreter on.
 abbrev pub run_cost : Progress → ℕ
-run_cost progress = 2 * Writes (state_of progress).made + inside_of progress
+run_cost progress = 2 * Writes (progress_state progress).made + inside_of progress

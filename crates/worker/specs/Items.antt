@@ -14,8 +14,8 @@ use Rattle.ictl.specs.Main.{Progress, writes, ends, Main}
 use Rattle.ictl.specs.declared.ending.Ending.{Ending}
 use Rattle.shared_state.specs.Views.{BlueEntry}
 use Rattle.serving.specs.Connections.{answer_bytes, asks_close, closes}
-use Rattle.worker.specs.Turns.{Turn, IsLook, IsTold, AreAsked, AtMostOneMore}
-use Rattle.worker.specs.Runs.{Course, Finished, CutShort, WantsBefore, WantsBehind, run_in, edition_of, bytes_for, outcome_of}
+use Rattle.worker.specs.Turns.{Turn, IsLook, IsAnsweredLook, AreAsked, AtMostOneMore}
+use Rattle.worker.specs.Runs.{Course, Finished, CutShort, WantsBefore, WantsBehind, run_in, edition_of, bytes_for, served_outcome}
 use Rattle.worker.specs.declared.served.Served.{Served}
 use Rattle.worker.specs.declared.served.ServedOutcome.{ServedOutcome}
 use Rattle.worker.specs.declared.served.ServedOutcome.TheVariants as ways
@@ -87,7 +87,7 @@ module _ (names : Names) where
     pub inside_last : ℕ
     pub after : run_in course names blueprint request moment answers ≡ ends outcome last inside_last []
     pub is_end : IsEnd outcome
-    pub way_is : way ≡ outcome_of outcome
+    pub way_is : way ≡ served_outcome outcome
 
   -- Memory wanted behind the response: the reply is the bytes of that response all the same.
   pub record Responds (request : Request) (blueprint : blueprints.State) (moment : Moment) (answers : List Answer) (close : Bool)
@@ -128,7 +128,7 @@ module _ (names : Names) where
   -- Its look was one, and was answered; and its turns are those that its replay asks for, whose answers are told.
   pub record Backs (x : Served) (item : Item) : Type 0 where
     pub is_look : IsLook item.look.call
-    pub is_told : IsTold item.look
+    pub is_told : IsAnsweredLook item.look
     pub place : item.look.place ≡ x.turn
     pub asked : AreAsked x.moment (run_of names item x.moment) item.turns x.answers
     pub one_more : MayLoseOne item.course x.moment (run_of names item x.moment) x.answers item.more

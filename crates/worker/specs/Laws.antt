@@ -6,7 +6,7 @@ use Rattle.cmd_table.specs.declared.definition.Def.{Def}
 use Rattle.cmd_table.specs.declared.definition.Def.TheVariants.{Proc, Rename, Route}
 use Rattle.blueprint.specs.States as blueprints
 use Rattle.ictl.specs.Main.{Progress}
-use Rattle.worker.specs.Runs.{edition_of, state_of, inside_of, is_marked}
+use Rattle.worker.specs.Runs.{edition_of, progress_state, inside_of, is_marked}
 use Rattle.worker.specs.Cost.{renewal}
 use Rattle.worker.specs.Items.{Item, Replied}
 use Rattle.worker.specs.Ends.{Nothing}
@@ -55,7 +55,7 @@ bill_for blueprint run = record { blueprint = blueprint; run = run }
 
 -- a run that made these definitions, ran nothing inside, and ended with the mark set or not
 pub record Made (defs : List Def) (marked : Bool) (run : Progress) : Type 0 where
-  pub made : (state_of run).made ≡ defs
+  pub made : (progress_state run).made ≡ defs
   pub inside : inside_of run ≡ 0
   pub mark : is_marked run ≡ marked
 

@@ -17,3 +17,4 @@ pub mod Renewing
 pub mod Working
 pub mod Resuming
 pub mod Beginning
+pub mod Behind

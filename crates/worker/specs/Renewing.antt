@@ -43,9 +43,9 @@ pub record TellsLook (p : Passes) (place : ℕ) (known : ℕ) (look : Look) (q :
   pub reply : entry.reply ≡ blue_reply.Look look
   pub gains : GainsLook p entry q
 
--- the epoch that is named where no interpreter can be used again
+-- the epoch that is named where no interpreter can be used again: nothing is told of it
 abbrev pub no_epoch : ℕ
-no_epoch = 18446744073709551615
+no_epoch = blueprints.last_epoch
 
 abbrev pub epoch_unmarked : Standing → Bool → ℕ
 epoch_unmarked standing true = no_epoch

@@ -3,7 +3,7 @@ use Rattle.std.specs.Prelude.{◌≡◌, ℕ, ◌+◌, [], ◌∷◌}
 use Rattle.txt_core.specs.Names.{Names}
 use Rattle.outside.specs.declared.question.Answer.{Answer}
 use Rattle.outside.specs.declared.question.Question.{Question}
-use Rattle.ictl.specs.Falls.{StandsAt, Falls, number_of}
+use Rattle.ictl.specs.Falls.{Falls, number_of}
 use Rattle.ictl.specs.Interps.{gives, taken, interp_written, Counts, GoesOn, IsSameRun, IsSound, IsWithin}
 use Rattle.ictl.specs.declared.interp.Interp.{Interp}
 use Rattle.ictl.specs.declared.next.Next.{Next}
@@ -19,5 +19,4 @@ pub record Resumes (names : Names) (answer : Answer) (came : Next) (before after
   pub same : IsSameRun new old
   pub blueprint : edition_in new ≡ edition_in old
   pub sound : (others : Names) → IsSound others old → IsSound others new
-  pub stands : StandsAt came new
   pub falls : Falls came new (number_of old)

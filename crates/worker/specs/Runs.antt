@@ -6,30 +6,22 @@ use Rattle.http_req.specs.declared.request.Request.{Request}
 use Rattle.http_resp.specs.declared.response.Response.{Response}
 use Rattle.http_resp.specs.ResponseBytes.{response_bytes}
 pub use Rattle.server_host.specs.Hosts.{edition_of}
-use Rattle.server_host.specs.declared.edition.Edition.{Edition}
 use Rattle.server_host.specs.Hosts.{HostState}
 use Rattle.blueprint.specs.States as blueprints
 use Rattle.tcl_eval.specs.State.{State}
 use Rattle.tcl_eval.specs.declared.outcome.Outcome.{Outcome}
 use Rattle.tcl_eval.specs.declared.outcome.Outcome.TheVariants as outcomes
-use Rattle.ictl.specs.Main.{Progress, asks, writes, ends, Main, Script, Define, behind}
+use Rattle.ictl.specs.Main.{Progress, asks, writes, ends, Main, Script, Define, behind_response}
 use Rattle.serving.specs.Connections.{is_head_only}
 use Rattle.worker.specs.declared.served.ServedOutcome.{ServedOutcome}
 use Rattle.worker.specs.declared.served.ServedOutcome.TheVariants.{Answered, Spent, TooDeep, NoMemory}
 
 -- ---- requests
 
--- where the response stands ready, the run goes on as behind one that was written, whole or not
-abbrev pub behind_response : Names → Edition → Request → Moment → Bool → Progress → Progress
-behind_response names edition request moment whole (asks question state inside) = asks question state inside
-behind_response names edition request moment whole (writes response ending state inside left) =
-    behind names edition moment whole request ending state inside left
-behind_response names edition request moment whole (ends outcome state inside left) = ends outcome state inside left
-
 -- The run of a request to its end: up to its response on a fresh interpreter of the blueprint, and then behind it.
 abbrev pub whole_run : Names → blueprints.State → Request → Moment → Bool → List Answer → Progress
 whole_run names blueprint request moment whole answers =
-    behind_response names (edition_of blueprint) request moment whole (Main names (edition_of blueprint) request moment answers)
+    behind_response names (edition_of blueprint) moment whole request (Main names (edition_of blueprint) request moment answers)
 
 -- How the run of a request went. Finished: the response was written whole, and what comes behind it was run to its end. CutShort: the
 -- sink failed in the response, and nothing was run behind it. WantsBefore and WantsBehind: memory wanted, before the response was
@@ -62,10 +54,10 @@ define_run names blueprint script moment answers = Define names (edition_of blue
 
 -- ---- what is read off a run
 
-abbrev pub state_of : Progress → State HostState
-state_of (asks question state inside) = state
-state_of (writes response ending state inside left) = state
-state_of (ends outcome state inside left) = state
+abbrev pub progress_state : Progress → State HostState
+progress_state (asks question state inside) = state
+progress_state (writes response ending state inside left) = state
+progress_state (ends outcome state inside left) = state
 
 -- how many entries of their command tables the runs inside have written
 abbrev pub inside_of : Progress → ℕ
@@ -75,12 +67,12 @@ inside_of (ends outcome state inside left) = inside
 
 -- the run ends with the mark set: its interpreter is to be built anew
 abbrev pub is_marked : Progress → Bool
-is_marked progress = (state_of progress).host.marked
+is_marked progress = (progress_state progress).host.marked
 
 -- how a request ended, by the outcome of its run
-abbrev pub outcome_of : Outcome → ServedOutcome
-outcome_of (outcomes.Done code result) = Answered
-outcome_of (outcomes.Asks question) = NoMemory
-outcome_of outcomes.Spent = Spent
-outcome_of outcomes.TooDeep = TooDeep
-outcome_of outcomes.NoMemory = NoMemory
+abbrev pub served_outcome : Outcome → ServedOutcome
+served_outcome (outcomes.Done code result) = Answered
+served_outcome (outcomes.Asks question) = NoMemory
+served_outcome outcomes.Spent = Spent
+served_outcome outcomes.TooDeep = TooDeep
+served_outcome outcomes.NoMemory = NoMemory

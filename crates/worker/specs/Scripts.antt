@@ -24,7 +24,7 @@ use Rattle.outside.specs.declared.question.Answer.{Answer}
 use Rattle.shared_state.specs.declared.shared.Passes.{Passes}
 use Rattle.shared_state.specs.Views.{BlueEntry, ScheduleEntry}
 use Rattle.worker.specs.Lists.{listed}
-use Rattle.worker.specs.Turns.{Turn, OnBlueprint, OnArrays, OnSchedule, OnPages, AtOnce, IsTold, AreAsked, AtMostOneMore, GainsTurns, GainsLook}
+use Rattle.worker.specs.Turns.{Turn, OnBlueprint, OnArrays, OnSchedule, OnPages, AtOnce, IsAnsweredLook, AreAsked, AtMostOneMore, GainsTurns, GainsLook}
 use Rattle.worker.specs.Runs.{edition_of, script_run, define_run}
 use Rattle.worker.specs.Clean.{Standing}
 use Rattle.worker.specs.Outside.{Ticks, AreHeld, page_faults, RoseBy}
@@ -78,7 +78,7 @@ module _ (names : Names) (held : Option PageMap) where
     pub look : BlueEntry
     pub mid : Passes
     pub looks : GainsLook a.passes look mid
-    pub is_told : IsTold look
+    pub is_told : IsAnsweredLook look
     pub place : look.place ≡ turn
     pub epoch : look.before.epoch ≡ at_epoch
     pub gains : GainsTurns mid turns b.passes
@@ -99,7 +99,7 @@ module _ (names : Names) (held : Option PageMap) where
     pub look : BlueEntry
     pub mid : Passes
     pub looks : GainsLook a.passes look mid
-    pub is_told : IsTold look
+    pub is_told : IsAnsweredLook look
     pub place : look.place ≡ turn
     pub epoch : look.before.epoch ≡ at_epoch
     pub turns : List Turn

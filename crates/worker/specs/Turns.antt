@@ -20,12 +20,12 @@ use Rattle.blueprint.specs.declared.reply.BlueReply.TheVariants as blue_reply
 use Rattle.blueprint.specs.declared.reply.Published.TheVariants as published
 use Rattle.blueprint.specs.declared.reply.Look.TheVariants as looks
 use Rattle.sched_core.specs.Allowed as schedule_states
-use Rattle.sched_core.specs.Steps as schedule_steps
+use Rattle.sched_core.specs.Steps.{ScheduleSteps}
 use Rattle.sched_core.specs.declared.call.SchedReply.{SchedReply}
 use Rattle.sched_core.specs.declared.call.SchedReply.TheVariants as schedule
 use Rattle.nsv_bucket.specs.declared.reply.NsvReply.{NsvReply}
 use Rattle.nsv_bucket.specs.declared.reply.NsvReply.TheVariants as arrays
-use Rattle.nsv_bucket.specs.Steps as array_steps
+use Rattle.nsv_bucket.specs.Steps.{ArraySteps}
 use Rattle.nsv_bucket.specs.Buckets.{bucket_asked}
 use Rattle.nsv_shared.specs.Views.{BucketView}
 use Rattle.nsv_shared.specs.declared.nsv.NsvPass.{NsvPass}
@@ -113,15 +113,15 @@ answer_of question AtOnce = at_once question.service question.words
 -- ---- the questions of a run
 
 -- the run stands at this question with the answers that it was given
-abbrev pub StandsAt : Progress → Question → Type 0
-StandsAt progress question = (state : State HostState) × (inside : ℕ) × (progress ≡ asks question state inside)
+abbrev pub ProgressAsks : Progress → Question → Type 0
+ProgressAsks progress question = (state : State HostState) × (inside : ℕ) × (progress ≡ asks question state inside)
 
 -- The turns are, in order, those of the questions that a run asks, in a run at this moment, and the answers are theirs: f is what comes
 -- of the run with a list of answers.
 abbrev pub AreAsked : Moment → (List Answer → Progress) → List Turn → List Answer → Type 0
 AreAsked moment f [] [] = Unit {0}
 AreAsked moment f (turn ∷ turns) (answer ∷ answers) =
-    (question : Question) × StandsAt (f []) question × IsTurnOf moment question.service question.words turn
+    (question : Question) × ProgressAsks (f []) question × IsTurnOf moment question.service question.words turn
     × (answer_of question turn ≡ Some answer)
     × AreAsked moment (λ given. f (answer ∷ given)) turns answers
 AreAsked moment f _ _ = ⊥
@@ -130,7 +130,7 @@ AreAsked moment f _ _ = ⊥
 abbrev pub AtMostOneMore : Moment → (List Answer → Progress) → List Answer → List Turn → Type 0
 AtMostOneMore moment f answers [] = Unit {0}
 AtMostOneMore moment f answers (turn ∷ []) =
-    (question : Question) × StandsAt (f answers) question × IsTurnOf moment question.service question.words turn
+    (question : Question) × ProgressAsks (f answers) question × IsTurnOf moment question.service question.words turn
 AtMostOneMore moment f answers (turn ∷ other ∷ more) = ⊥
 
 -- ---- what each cell's pass has of them
@@ -172,13 +172,13 @@ schedule_turns (turn ∷ turns) = on_schedule turn ++ schedule_turns turns
 
 -- Each entry was found where the pass then stood, in a state that is no older than any that the pass knew, and is legal.
 abbrev pub TakesOnBlueprint : BlueView → List BlueEntry → BlueView → Type 0
-TakesOnBlueprint = TakesTurns blueprints.Allowed blueprints_steps.Reaches blueprints_steps.Steps
+TakesOnBlueprint = TakesTurns blueprints.Allowed blueprints_steps.Reaches blueprints_steps.BlueprintSteps
 
 abbrev pub TakesOnBucket : BucketView → List BucketEntry → BucketView → Type 0
-TakesOnBucket = TakesTurns (λ s. Unit {0}) (λ s t. Unit {0}) array_steps.Steps
+TakesOnBucket = TakesTurns (λ s. Unit {0}) (λ s t. Unit {0}) ArraySteps
 
 abbrev pub TakesOnSchedule : ScheduleView → List ScheduleEntry → ScheduleView → Type 0
-TakesOnSchedule = TakesTurns schedule_states.Allowed (λ s t. Unit {0}) schedule_steps.Steps
+TakesOnSchedule = TakesTurns schedule_states.Allowed (λ s t. Unit {0}) ScheduleSteps
 
 abbrev pub TakesOnArrays : NsvPass → List Turn → NsvPass → Type 0
 TakesOnArrays before turns after =
@@ -207,8 +207,8 @@ IsLook (blue_call.Publish defs) = ⊥
 IsLook (blue_call.Save script) = ⊥
 
 -- the look was answered: memory sufficed for it
-abbrev pub IsTold : BlueEntry → Type 0
-IsTold look = look.reply ≢ blue_reply.Look looks.NoMemory
+abbrev pub IsAnsweredLook : BlueEntry → Type 0
+IsAnsweredLook look = look.reply ≢ blue_reply.Look looks.NoMemory
 
 -- the passes gained a look, the entry of which is this
 abbrev pub GainsLook : Passes → BlueEntry → Passes → Type 0

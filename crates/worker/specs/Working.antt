@@ -26,7 +26,7 @@ use Rattle.serving.specs.declared.connection.Behind.{Behind}
 use Rattle.serving.specs.declared.connection.Behind.TheVariants as connection
 use Rattle.worker.specs.Lists.{listed}
 use Rattle.worker.specs.Turns.{Turn, AreAsked, GainsTurns}
-use Rattle.worker.specs.Runs.{Course, Finished, CutShort, WantsBefore, WantsBehind, run_in, is_marked, outcome_of}
+use Rattle.worker.specs.Runs.{Course, Finished, CutShort, WantsBefore, WantsBehind, run_in, is_marked, served_outcome}
 use Rattle.worker.specs.Outside.{AreHeld, page_faults, RoseBy, Reads}
 use Rattle.worker.specs.Cost.{run_cost}
 use Rattle.worker.specs.Items.{Item, ComesTo, MayLoseOne}
@@ -146,7 +146,7 @@ SentCauses (sending.WriteFault bytes) before after = (before ≤ after) × Rose 
 
 -- how the run of a request ended that came to this
 abbrev pub way_of : Next → ServedOutcome
-way_of (next.Ended outcome) = outcome_of outcome
+way_of (next.Ended outcome) = served_outcome outcome
 way_of (next.Asks question) = ways.NoMemory
 way_of (next.Write response) = ways.NoMemory
 way_of next.NoMemory = ways.NoMemory

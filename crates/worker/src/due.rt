@@ -16,7 +16,7 @@ use crate::run::answer_all;
 use crate::scripts::{DueRun, Ran, RanList};
 use crate::worker::Worker;
 use cmd_table::Steps;
-use ictl::{Interp, Next};
+use ictl::{BoxedInterp, Next, Run};
 use natives::Natives;
 use outside::{Clock, Pages};
 use sched_core::{DueList, DueScript, SchedCall, SchedReply};
@@ -39,17 +39,17 @@ fn outcome_of(next: Next) -> Outcome
 
 /// Begins a script in an interpreter as newly made.
 fn begin<L: Ledger>(
-    interp: &mut Interp,
+    interp: BoxedInterp,
     natives: &Natives,
     script: &Text,
     moment: u64,
     steps: &mut Steps<L>,
-) -> Next
-    requires { IsNew (names_of natives.now) interp.old }
-    ensures { BeginsScript (names_of natives.now) script.now moment result steps.old steps.new
-        interp.new interp.old }
+) -> Run
+    requires { IsNew (names_of natives.now) interp }
+    ensures { BeginsScript (names_of natives.now) script.now moment result.next steps.old steps.new
+        result.interp interp }
 {
-    interp.start_script(natives, script, moment, steps)
+    Run::start_script(interp, natives, script, moment, steps)
 }
 
 /// Runs one script that was due: reads the clock, looks at the blueprint, and runs it in an interpreter as
@@ -89,15 +89,17 @@ fn run_script<R: Wait, P: Pages, C: Clock, L: Ledger>(
             outcome: Outcome::NoMemory,
         };
     };
-    let Some(interp) = &mut worker.interp else {
+    let Some(interp) = worker.interp.take() else {
         unreachable!()
     };
     let mut heard = Heard::new(alloc);
-    let first = begin(interp, natives, &due.script, moment, steps);
-    let last = answer_all(
-        rt, alloc, natives, shared, passes, pages, interp, moment, first, &mut heard, steps,
+    let mut run = begin(interp, natives, &due.script, moment, steps);
+    answer_all(
+        rt, alloc, natives, shared, passes, pages, &mut run, moment, &mut heard, steps,
     );
+    let (last, mut interp) = run.into_parts();
     interp.reset(steps);
+    worker.interp = Some(interp);
     Ran {
         id: due.id,
         turn,

@@ -16,7 +16,7 @@ use crate::run::answer_all;
 use crate::scripts::{EvalEnd, Evaled};
 use crate::worker::Worker;
 use cmd_table::Steps;
-use ictl::{Interp, Next};
+use ictl::{BoxedInterp, Next, Run};
 use natives::Natives;
 use outside::Pages;
 use shared_state::{Passes, Shared};
@@ -41,17 +41,17 @@ fn end_of(next: Next, epoch: u64) -> EvalEnd
 
 /// Begins the definition run of a script in an interpreter as newly made.
 fn begin<L: Ledger>(
-    interp: &mut Interp,
+    interp: BoxedInterp,
     natives: &Natives,
     script: &Text,
     moment: u64,
     steps: &mut Steps<L>,
-) -> Next
-    requires { IsNew (names_of natives.now) interp.old }
-    ensures { BeginsDefine (names_of natives.now) script.now moment result steps.old steps.new
-        interp.new interp.old }
+) -> Run
+    requires { IsNew (names_of natives.now) interp }
+    ensures { BeginsDefine (names_of natives.now) script.now moment result.next steps.old steps.new
+        result.interp interp }
 {
-    interp.start_define(natives, script, moment, steps)
+    Run::start_define(interp, natives, script, moment, steps)
 }
 
 /// Runs a script that makes definitions, at this moment, and publishes what it made.
@@ -95,15 +95,17 @@ pub fn do_eval<R: Wait, P: Pages, L: Ledger>(
             outcome: EvalEnd::NoMemory,
         };
     };
-    let Some(interp) = &mut worker.interp else {
+    let Some(interp) = worker.interp.take() else {
         unreachable!()
     };
     let mut heard = Heard::new(alloc);
-    let first = begin(interp, natives, script, moment, steps);
-    let last = answer_all(
-        rt, alloc, natives, shared, passes, pages, interp, moment, first, &mut heard, steps,
+    let mut run = begin(interp, natives, script, moment, steps);
+    answer_all(
+        rt, alloc, natives, shared, passes, pages, &mut run, moment, &mut heard, steps,
     );
+    let (last, mut interp) = run.into_parts();
     interp.reset(steps);
+    worker.interp = Some(interp);
     let Heard { answers, published } = heard;
     Evaled {
         turn,

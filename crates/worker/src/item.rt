@@ -1,22 +1,32 @@
 //! One request, from its look to its interpreter's end.
 
-ghost use Rattle.std.specs.Prelude.{◌≡◌, ◌+◌, [], ℕ, Some, min, IfOk, IfErr, OnErr};
+ghost use Rattle.std.specs.Prelude.{◌≡◌, ◌+◌, [], ℕ, Some, min, IfOk, IfErr, OnErr, MatchOption};
 ghost use Rattle.txt_core.specs.Names.{Names};
+ghost use Rattle.outside.specs.Faults.{last_count};
 ghost use Rattle.natives.specs.Names.{names_of};
 ghost use Rattle.blueprint.specs.States.{State as SeenState};
-ghost use Rattle.serving.specs.Connections.{asks_close, is_head_only};
+ghost use Rattle.serving.specs.Connections.{asks_close, is_head_only, closes};
 ghost use Rattle.shared_state.specs.Cells.{AreOf, Serve};
 ghost use Rattle.ictl.specs.Interps.{IsNew, IsSound};
+ghost use Rattle.http_req.specs.declared.request.Request.{Request as SeenRequest};
+ghost use Rattle.ictl.specs.declared.interp.Interp.{Interp as SeenInterp};
+ghost use Rattle.http_resp.specs.declared.response.Response.{Response as SeenResponse};
+ghost use Rattle.http_resp.specs.Delivery.{Delivers};
+ghost use Rattle.http_resp.specs.ResponseBytes.{response_bytes};
+ghost use Rattle.ictl.specs.Falls.{StandsAt};
+ghost use Rattle.worker.specs.Items.{bytes_of};
+ghost use Rattle.worker.specs.Beginning.{BeginsRequest};
 ghost use Rattle.worker.specs.Lists.{listed};
 ghost use Rattle.worker.specs.Clean.{IsClean, edition_in};
 ghost use Rattle.worker.specs.Runs.{edition_of};
 ghost use Rattle.worker.specs.Sessions.{at, answered_by};
 ghost use Rattle.worker.specs.Working.{RunsRequest, RequestSteps, RunsItem, BeginsNone, SentCauses, SinkCauses};
 
-use crate::heard::Heard;
+use crate::behind::{end_cut, end_whole};
+use crate::heard::{AnswerList, Heard};
 use crate::look::{Looked, look, renew};
 use crate::reply::{
-    Done, Manner, bytes_sent, count_all, end_behind, end_in_want, outcome_of, tell_want, write,
+    Done, Manner, bytes_sent, count_all, end_behind, end_in_want, tell_want, write,
 };
 use crate::run::answer_all;
 use crate::served::{End, Served, ServedList};
@@ -24,7 +34,7 @@ use crate::worker::Worker;
 use cmd_table::Steps;
 use http_req::Request;
 use http_resp::{Sent, Wrote};
-use ictl::{Interp, Next};
+use ictl::{BoxedInterp, Next, Run};
 use natives::Natives;
 use outside::{Clock, Gate, Pages, Sink};
 use serving::{asks_close, is_head_only};
@@ -34,17 +44,58 @@ use std::sync::Wait;
 use std::sync::ledger::Ledger;
 use txt_core::moment_of;
 
-/// Runs a request on an interpreter that is as newly made, writes its response, and runs what comes
-/// behind it. Where memory wants before the response is written, the named reply takes its place; where
-/// the sink fails, nothing runs behind.
+/// Begins the run of a request in an interpreter as newly made.
+fn begin<L: Ledger>(
+    interp: BoxedInterp,
+    natives: &Natives,
+    request: Request,
+    moment: u64,
+    steps: &mut Steps<L>,
+) -> Run
+    requires { IsNew (names_of natives.now) interp }
+    ensures { BeginsRequest (names_of natives.now) request moment result.next steps.old steps.new
+        result.interp interp }
+{
+    Run::start_request(interp, natives, request, moment, steps)
+}
+
+/// Writes the response at which a run stands, as the manner of its request has it; nothing where it stands
+/// at none.
+fn write_next<K: Sink>(
+    alloc: Global,
+    run: &Run,
+    moment: u64,
+    manner: Manner,
+    answers: &AnswerList,
+    sink: &mut K,
+) -> Option<Wrote>
+    ensures wrote { MatchOption result
+        ((K.taken sink.new ≡ K.taken sink.old) × (K.faults sink.new ≡ K.faults sink.old))
+        (λ wrote.
+        (response : SeenResponse) × (run.now.next ≡ Next.Write response)
+        × ((before : ℕ) → manner.answered ≡ min before last_count
+        → Delivers (K.taken sink.old) (K.faults sink.old)
+        (response_bytes response moment manner.head_only
+        (closes manner.asks manner.requests (before + bytes_of answers.now)))
+        wrote (K.taken sink.new) (K.faults sink.new))) }
+    ensures stands { StandsAt run.now.next run.now.interp }
+{
+    match run.next() {
+        Next::Write(response) => Some(write(alloc, response, moment, manner, answers, sink)),
+        _ => None,
+    }
+}
+
+/// Goes on with the run of a request that has begun, writes its response, and runs what comes behind it.
+/// Where memory wants before the response is written, the named reply takes its place; where the sink
+/// fails, nothing runs behind.
 fn run_request<R: Wait, K: Sink, P: Pages, L: Ledger>(
     rt: &R,
     alloc: Global,
     natives: &Natives,
     shared: &Shared,
     passes: &mut Passes,
-    interp: &mut Interp,
-    request: Request,
+    run: &mut Run,
     moment: u64,
     manner: Manner,
     heard: &mut Heard,
@@ -53,42 +104,36 @@ fn run_request<R: Wait, K: Sink, P: Pages, L: Ledger>(
     steps: &mut Steps<L>,
 ) -> Done
     requires cells { AreOf shared.now passes.old }
-    requires fresh { IsNew (names_of natives.now) interp.old }
-    requires manner { (manner.asks ≡ asks_close request)
-        × (manner.head_only ≡ is_head_only request) }
     requires none { heard.old.answers ≡ [] }
     ensures cells { AreOf shared.now passes.new }
-    ensures blueprint { edition_in interp.new ≡ edition_in interp.old }
-    ensures sound { (names : Names) → IsSound names interp.old → IsSound names interp.new }
-    ensures ran { (state : SeenState) (before : ℕ) → edition_in interp.old ≡ edition_of state
-        → manner.answered ≡ min before 18446744073709551615
-        → RunsRequest (names_of natives.now) (P.held pages.old) state request moment manner.requests
-        before result.sent passes.old passes.new (K.taken sink.old) (K.taken sink.new)
-        (P.faults pages.old) (P.faults pages.new) steps.old steps.new heard.new.answers
-        result.outcome interp.new }
+    ensures blueprint { edition_in run.new.interp ≡ edition_in run.old.interp }
+    ensures sound { (names : Names) → IsSound names run.old.interp → IsSound names run.new.interp }
+    ensures ran { let names = names_of natives.now in
+        (request : SeenRequest) (old : SeenInterp) (first before : ℕ) (state : SeenState)
+        → BeginsRequest names request moment run.old.next first steps.old run.old.interp old
+        → manner.asks ≡ asks_close request → manner.head_only ≡ is_head_only request
+        → edition_in old ≡ edition_of state → manner.answered ≡ min before last_count
+        → RunsRequest names (P.held pages.old) state request moment manner.requests before
+        result.sent passes.old passes.new (K.taken sink.old) (K.taken sink.new) (P.faults pages.old)
+        (P.faults pages.new) first steps.new heard.new.answers result.outcome run.new.interp }
     ensures causes { SentCauses result.sent (K.faults sink.old) (K.faults sink.new) }
     ensures held { P.held pages.new ≡ P.held pages.old }
 {
-    let first = interp.start_request(natives, request, moment, steps);
-    let main = answer_all(
-        rt, alloc, natives, shared, passes, pages, interp, moment, first, heard, steps,
+    answer_all(
+        rt, alloc, natives, shared, passes, pages, run, moment, heard, steps,
     );
-    let Next::Write(response) = main else {
+    let Some(wrote) = write_next(alloc, run, moment, manner, &heard.answers, sink) else {
         return tell_want(moment, sink);
     };
-    match write(alloc, &response, moment, manner, &heard.answers, sink) {
-        Wrote::Whole { bytes } => {
-            let behind = interp.written(natives, true, steps);
-            let last = answer_all(
-                rt, alloc, natives, shared, passes, pages, interp, moment, behind, heard, steps,
-            );
-            Done {
-                outcome: outcome_of(last),
-                sent: Sent::Whole { bytes },
-            }
-        }
+    match wrote {
+        Wrote::Whole { bytes } => Done {
+            outcome: end_whole(
+                rt, alloc, natives, shared, passes, pages, run, moment, heard, steps,
+            ),
+            sent: Sent::Whole { bytes },
+        },
         Wrote::WriteFault { sent } => Done {
-            outcome: outcome_of(interp.written(natives, false, steps)),
+            outcome: end_cut(natives, run, steps),
             sent: Sent::WriteFault { sent },
         },
         Wrote::NoMemory => tell_want(moment, sink),
@@ -126,7 +171,7 @@ fn run_item<R: Wait, K: Sink, P: Pages, C: Clock, L: Ledger>(
     ensures clean { IsClean (names_of natives.now) passes.new worker.new }
     ensures number { worker.new.number ≡ worker.old.number }
     ensures item { (count before : ℕ) → manner.requests ≡ count + 1
-        → manner.answered ≡ min before 18446744073709551615
+        → manner.answered ≡ min before last_count
         → IfOk result (λ r.
         RunsItem (names_of natives.now) (P.held pages.old) count before request r.1
         (at passes.old worker.old (C.held clock.old) (K.taken sink.old) (P.faults pages.old)
@@ -149,15 +194,18 @@ fn run_item<R: Wait, K: Sink, P: Pages, C: Clock, L: Ledger>(
     let Ok(()) = renew(alloc, natives, worker, look, steps) else {
         return Err(Unbegun { moment });
     };
-    let Some(interp) = &mut worker.interp else {
+    let Some(interp) = worker.interp.take() else {
         unreachable!()
     };
     let mut heard = Heard::new(alloc);
+    let mut run = begin(interp, natives, request, moment, steps);
     let done = run_request(
-        rt, alloc, natives, shared, passes, interp, request, moment, manner, &mut heard, sink,
-        pages, steps,
+        rt, alloc, natives, shared, passes, &mut run, moment, manner, &mut heard, sink, pages,
+        steps,
     );
+    let (_, mut interp) = run.into_parts();
     interp.reset(steps);
+    worker.interp = Some(interp);
     let served = Served {
         turn,
         epoch,
@@ -172,6 +220,7 @@ fn run_item<R: Wait, K: Sink, P: Pages, C: Clock, L: Ledger>(
 /// Serves a request that was read: passes the gate, looks at the blueprint, reads the clock, makes the
 /// interpreter one of that blueprint, and runs it. The interpreter is as newly made afterwards. Gives the
 /// session's end, if this is it.
+#[inline(never)]
 pub(crate) fn serve_request<R: Wait, K: Sink, P: Pages, C: Clock, G: Gate, L: Ledger>(
     rt: &R,
     alloc: Global,
@@ -190,10 +239,10 @@ pub(crate) fn serve_request<R: Wait, K: Sink, P: Pages, C: Clock, G: Gate, L: Le
 ) -> Option<End>
     requires cells { Serve (names_of natives.now) shared.now passes.old }
     requires clean { IsClean (names_of natives.now) passes.old worker.old }
-    requires counts { answered.old ≡ min (answered_by (listed served.old)) 18446744073709551615 }
+    requires counts { answered.old ≡ min (answered_by (listed served.old)) last_count }
     ensures cells { Serve (names_of natives.now) shared.now passes.new }
     ensures clean { IsClean (names_of natives.now) passes.new worker.new }
-    ensures counts { answered.new ≡ min (answered_by (listed served.new)) 18446744073709551615 }
+    ensures counts { answered.new ≡ min (answered_by (listed served.new)) last_count }
     ensures number { worker.new.number ≡ worker.old.number }
     ensures steps { RequestSteps (names_of natives.now) (P.held pages.old) request
         (at passes.old worker.old (C.held clock.old) (K.taken sink.old) (P.faults pages.old)

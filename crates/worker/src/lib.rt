@@ -8,6 +8,7 @@
 #![tactic(auto)]
 
 mod ask;
+mod behind;
 mod due;
 mod eval;
 mod heard;

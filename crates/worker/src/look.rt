@@ -15,7 +15,7 @@ use blueprint::{
     BlueCall, BlueReply, Look, equal_epochs_are_one_state, since_applies, since_is_added,
 };
 use cmd_table::{Defs, Steps, tables_are_maps};
-use ictl::{Interp, fresh_globals};
+use ictl::{BoxedInterp, fresh_globals};
 use natives::Natives;
 use shared_state::{Passes, Shared};
 use std::alloc::Global;
@@ -103,7 +103,7 @@ pub(crate) fn look<R: Wait>(rt: &R, shared: &Shared, passes: &mut Passes, worker
 
 /// Whether the interpreter can be used as it is: there is one, and the last run didn't mark it. Where there
 /// is nothing to use, that counts as want of memory.
-fn unmarked(kept: &Option<Interp>) -> Result<(), NoMemory>
+fn unmarked(kept: &Option<BoxedInterp>) -> Result<(), NoMemory>
     ensures { OnOk result (mark_in kept.now ≡ Some false) }
 {
     match kept {
@@ -115,7 +115,7 @@ fn unmarked(kept: &Option<Interp>) -> Result<(), NoMemory>
 /// Gives the interpreter what was added to its blueprint, which has this epoch then. Where there is none,
 /// that counts as want of memory.
 fn updated<L: Ledger>(
-    kept: &mut Option<Interp>,
+    kept: &mut Option<BoxedInterp>,
     epoch: u64,
     defs: &Defs,
     steps: &mut Steps<L>,
@@ -136,7 +136,7 @@ fn updated<L: Ledger>(
 fn built<L: Ledger>(
     alloc: Global,
     natives: &Natives,
-    kept: &mut Option<Interp>,
+    kept: &mut Option<BoxedInterp>,
     epoch: u64,
     defs: &Defs,
     steps: &mut Steps<L>,
@@ -144,7 +144,7 @@ fn built<L: Ledger>(
     ensures of { OnOk result (Builds (names_of natives.now) epoch defs.now kept.new) }
     ensures most { steps.new ≤ steps.old + build_steps (names_of natives.now) defs.now }
 {
-    let interp = Interp::build(alloc, natives, epoch, defs, steps)?;
+    let interp = BoxedInterp::build(alloc, natives, epoch, defs, steps)?;
     drop(mem::replace(kept, Some(interp)));
     Ok(())
 }
@@ -156,7 +156,7 @@ fn built<L: Ledger>(
 fn renewed<L: Ledger>(
     alloc: Global,
     natives: &Natives,
-    kept: &mut Option<Interp>,
+    kept: &mut Option<BoxedInterp>,
     look: Look,
     steps: &mut Steps<L>,
 ) -> Result<(), NoMemory>

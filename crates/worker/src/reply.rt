@@ -1,6 +1,7 @@
 //! Replies: what one goes by, how it is written, and what follows it.
 
 ghost use Rattle.std.specs.Prelude.{◌≡◌, ◌+◌, ℕ, Some, min};
+ghost use Rattle.outside.specs.Faults.{last_count};
 ghost use Rattle.http_resp.specs.Delivery.{Delivers};
 ghost use Rattle.http_resp.specs.Replies.{no_memory_bytes};
 ghost use Rattle.http_resp.specs.ResponseBytes.{response_bytes};
@@ -40,8 +41,8 @@ pub(crate) struct Done {
 /// How many bytes of answers there are, with those of a list.
 #[tactic(auto, using(crate::proofs::Counted::counted_more, crate::proofs::Counted::counted_all))]
 pub(crate) fn count_all(answered: u64, answers: &AnswerList) -> u64
-    ensures { (before : ℕ) → answered ≡ min before 18446744073709551615
-        → result ≡ min (before + bytes_of answers.now) 18446744073709551615 }
+    ensures { (before : ℕ) → answered ≡ min before last_count
+        → result ≡ min (before + bytes_of answers.now) last_count }
 {
     let mut count = answered;
     for answer in answers.as_slice() {
@@ -51,8 +52,8 @@ pub(crate) fn count_all(answered: u64, answers: &AnswerList) -> u64
 }
 
 /// How a run ended that came to this behind its response.
-pub(crate) fn outcome_of(next: Next) -> ServedOutcome
-    ensures { result ≡ way_of next }
+pub(crate) fn outcome_of(next: &Next) -> ServedOutcome
+    ensures { result ≡ way_of next.now }
 {
     match next {
         Next::Ended(Outcome::Done { .. }) => ServedOutcome::Answered,
@@ -63,6 +64,8 @@ pub(crate) fn outcome_of(next: Next) -> ServedOutcome
 }
 
 /// Writes the named reply of want of memory.
+#[cold]
+#[inline(never)]
 pub(crate) fn tell_want<K: Sink>(moment: u64, sink: &mut K) -> Done
     ensures outcome { result.outcome ≡ ServedOutcome.NoMemory }
     ensures sent { SendsReply result.sent (no_memory_bytes moment) (K.taken sink.old)
@@ -85,7 +88,7 @@ pub(crate) fn write<K: Sink>(
     answers: &AnswerList,
     sink: &mut K,
 ) -> Wrote
-    ensures { (before : ℕ) → manner.answered ≡ min before 18446744073709551615
+    ensures { (before : ℕ) → manner.answered ≡ min before last_count
         → Delivers (K.taken sink.old) (K.faults sink.old)
         (response_bytes response.now moment manner.head_only
         (closes manner.asks manner.requests (before + bytes_of answers.now)))
@@ -97,6 +100,8 @@ pub(crate) fn write<K: Sink>(
 }
 
 /// Writes the named reply where no run was begun, and ends the session.
+#[cold]
+#[inline(never)]
 pub(crate) fn end_in_want<K: Sink>(moment: u64, sink: &mut K) -> End
     ensures ends { EndsInWant result moment (K.taken sink.old) (K.taken sink.new) }
     ensures causes { SinkCauses (Some result) (K.faults sink.old) (K.faults sink.new) }
@@ -125,7 +130,7 @@ pub(crate) fn end_behind(
     manner: Manner,
     answers: &AnswerList,
 ) -> Option<End>
-    ensures { (before : ℕ) → manner.answered ≡ min before 18446744073709551615
+    ensures { (before : ℕ) → manner.answered ≡ min before last_count
         → result
         ≡ end_behind outcome sent manner.asks manner.requests (before + bytes_of answers.now) }
 {

@@ -2,6 +2,7 @@
 
 ghost use Rattle.std.specs.Prelude.{◌≡◌, min, [], Some};
 ghost use Rattle.txt_core.specs.Names.{Moment};
+ghost use Rattle.outside.specs.Faults.{last_count};
 ghost use Rattle.natives.specs.Names.{names_of};
 ghost use Rattle.http_req.specs.Readings.{left_of};
 ghost use Rattle.shared_state.specs.Cells.{Serve, KeepUnits};
@@ -29,6 +30,8 @@ use std::sync::ledger::Ledger;
 use txt_core::{Text, moment_of};
 
 /// Writes the plain reply of a refusal, at a moment of its own, and ends the session.
+#[cold]
+#[inline(never)]
 fn refuse<K: Sink, C: Clock>(alloc: Global, status: u16, sink: &mut K, clock: &mut C) -> End
     ensures ends { (moment : Moment) × Ticks (C.held clock.old) moment (C.held clock.new)
         × EndsInRefusal status moment result (K.taken sink.old) (K.taken sink.new) }
@@ -66,10 +69,10 @@ fn serve_next<R: Wait, S: Source, K: Sink, P: Pages, C: Clock, G: Gate, L: Ledge
 ) -> Option<End>
     requires cells { Serve (names_of natives.now) shared.now passes.old }
     requires clean { IsClean (names_of natives.now) passes.old worker.old }
-    requires counts { answered.old ≡ min (answered_by (listed served.old)) 18446744073709551615 }
+    requires counts { answered.old ≡ min (answered_by (listed served.old)) last_count }
     ensures cells { Serve (names_of natives.now) shared.now passes.new }
     ensures clean { IsClean (names_of natives.now) passes.new worker.new }
-    ensures counts { answered.new ≡ min (answered_by (listed served.new)) 18446744073709551615 }
+    ensures counts { answered.new ≡ min (answered_by (listed served.new)) last_count }
     ensures number { worker.new.number ≡ worker.old.number }
     ensures steps { SessionSteps (names_of natives.now) (P.held pages.old) peer.now
         (left_of carry.old (S.rest source.old)) (left_of carry.new (S.rest source.new))

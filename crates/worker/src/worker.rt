@@ -2,12 +2,12 @@
 
 ghost use Rattle.std.specs.Prelude.{◌≡◌, None};
 
-use ictl::Interp;
+use ictl::BoxedInterp;
 
 /// A worker: its number, and the interpreter that it uses again and again, once there is one.
 pub struct Worker {
     pub(crate) number: u16,
-    pub(crate) interp: Option<Interp>,
+    pub(crate) interp: Option<BoxedInterp>,
 }
 
 /// Written out, so that proofs of other crates see one call where a worker is dropped.

@@ -3,7 +3,7 @@ use Rattle.std.specs.Prelude.{vec_len}
 use Rattle.std.specs.List.{All}
 use Rattle.std.specs.Vec.Iter.{into_iter_items, into_iter_len}
 use Rattle.conn_queue.specs.Queues.{IsOf, pass_view}
-use Rattle.conn_queue.specs.Passes.{WHOLE}
+use Rattle.txt_core.specs.Shares.{WHOLE}
 use Rattle.server_threads.proofs.running.parts_of.Given as goal
 
 abbrev pub invariant-loop-own : goal.invariant-loop-own

@@ -7,5 +7,4 @@ returns g c = record {
   most = c.start_script.ensures.most;
   blueprint = c.start_script.ensures.holds.blueprint;
   sound = c.start_script.ensures.sound;
-  next = c.start_script.ensures.next;
 }

@@ -27,18 +27,18 @@ renew-requires g c =
     let t = c.look-turn.ensures.looks in
     (t.entry.before, renewable (names_of c.args.natives.now) c.args.passes.now c.look-turn.new.passes c.args.worker.now c.look-turn.result.turn c.look-turn.result.look t c.requires.cells.1 c.requires.clean)
 
-pub begin-first-requires : goal.begin-first-requires
-begin-first-requires g c =
+pub begin-run-requires : goal.begin-run-requires
+begin-run-requires g c =
     let t = c.look-turn.ensures.looks in
     let r = renewable (names_of c.args.natives.now) c.args.passes.now c.look-turn.new.passes c.args.worker.now c.look-turn.result.turn c.look-turn.result.look t c.requires.cells.1 c.requires.clean in
-    (one_of (names_of c.args.natives.now) t.entry.before c.renew.new.worker.interp _ c.in-Some.is (c.in-Ok.ensures.of t.entry.before r)).0
+    (one_of (names_of c.args.natives.now) t.entry.before c.renew.new.worker.interp _ (sym c.in-Some.ensures.value) (c.in-Ok.ensures.of t.entry.before r)).0
 
 -- behind a renewal there is one
 pub unreachable-requires : goal.unreachable-requires
 unreachable-requires g c =
     let t = c.look-turn.ensures.looks in
     let r = renewable (names_of c.args.natives.now) c.args.passes.now c.look-turn.new.passes c.args.worker.now c.look-turn.result.turn c.look-turn.result.look t c.requires.cells.1 c.requires.clean in
-    rw c.in_default-interp.is at (c.in-Ok.ensures.of t.entry.before r)
+    rw (sym c.take.ensures.value ∙ c.in_default-take.is) at (c.in-Ok.ensures.of t.entry.before r)
 
 pub returns-clause-runs : goal.returns-clause-runs
 returns-clause-runs g c =
@@ -46,36 +46,36 @@ returns-clause-runs g c =
     let held = g.P.Pages.held c.args.pages.now in
     let t = c.look-turn.ensures.looks in
     let r = renewable names c.args.passes.now c.look-turn.new.passes c.args.worker.now c.look-turn.result.turn c.look-turn.result.look t c.requires.cells.1 c.requires.clean in
-    let of = one_of names t.entry.before c.renew.new.worker.interp _ c.in-Some.is (c.in-Ok.ensures.of t.entry.before r) in
+    let of = one_of names t.entry.before c.renew.new.worker.interp _ (sym c.in-Some.ensures.value) (c.in-Ok.ensures.of t.entry.before r) in
     let i0 = c.in-Some.interp in
-    let i1 = c.begin-first.new.interp in
-    let i2 = c.answer_all-last.new.interp in
+    let i1 = c.begin-run.result.interp in
+    let i2 = c.answer_all.new.run.interp in
     let s0 = c.renew.new.steps in
-    let s1 = c.begin-first.new.steps in
-    let s2 = c.answer_all-last.new.steps in
+    let s1 = c.begin-run.new.steps in
+    let s2 = c.answer_all.new.steps in
     let inside0 = taken names s1 s0 i1 i0 in
     let inside = inside0 + taken names s2 s1 i2 i1 in
-    let sound = c.answer_all-last.ensures.sound names (c.begin-first.ensures.sound names of.0.0) in
-    let edition : edition_in i2 ≡ edition_of t.entry.before = c.answer_all-last.ensures.blueprint ∙ (c.begin-first.ensures.blueprint ∙ of.1) in
+    let sound = c.answer_all.ensures.sound names (c.begin-run.ensures.sound names of.0.0) in
+    let edition : edition_in i2 ≡ edition_of t.entry.before = c.answer_all.ensures.blueprint ∙ (c.begin-run.ensures.blueprint ∙ of.1) in
     let moment = c.moment_of-moment.result in
-    let h = hears_of names moment (λ further. Script names (edition_in i0) c.args.due.now.script moment further) c.begin-first.result inside0 i1 c.look-turn.new.passes held (g.P.Pages.faults c.args.pages.now) c.new-heard.result.published c.new-heard.result.answers
-    c.answer_all-last.result inside i2 c.answer_all-last.new.passes (g.P.Pages.faults c.answer_all-last.new.pages) c.answer_all-last.new.heard.published c.answer_all-last.new.heard.answers
-    c.begin-first.ensures.stands.stands c.answer_all-last.ensures.stands (c.answer_all-last.ensures.hears inside0) in
-    runs_due_by names held c.args.due.now _ c.new-heard.result.answers _ _ _ c.look-turn.result.look c.look-turn.new.passes c.answer_all-last.result inside i2 c.reset.new.self.settling.run.engine.host.marked c.new-heard.result.published c.answer_all-last.new.heard.published
+    let h = hears_of names moment (λ further. Script names (edition_in i0) c.args.due.now.script moment further) c.begin-run.result.next inside0 i1 c.look-turn.new.passes held (g.P.Pages.faults c.args.pages.now) c.new-heard.result.published c.new-heard.result.answers
+    c.answer_all.new.run.next inside i2 c.answer_all.new.passes (g.P.Pages.faults c.answer_all.new.pages) c.answer_all.new.heard.published c.answer_all.new.heard.answers
+    c.begin-run.ensures.stands.stands c.into_parts-last.ensures.stands (c.answer_all.ensures.hears inside0) in
+    runs_due_by names held c.args.due.now _ c.new-heard.result.answers _ _ _ c.look-turn.result.look c.look-turn.new.passes c.answer_all.new.run.next inside i2 c.reset.new.self.settling.run.engine.host.marked c.new-heard.result.published c.answer_all.new.heard.published
     t c.in-Ok.ensures.told c.look-turn.ensures.epoch refl (ticked _ _ c.moment.result moment c.moment.ensures c.moment_of-moment.ensures)
     (subst (λ (e : Edition). Hears names moment (λ further. Script names e c.args.due.now.script moment further) c.look-turn.new.passes held (g.P.Pages.faults c.args.pages.now) c.new-heard.result.published c.new-heard.result.answers
-    c.answer_all-last.result inside i2 c.answer_all-last.new.passes (g.P.Pages.faults c.answer_all-last.new.pages) c.answer_all-last.new.heard.published c.answer_all-last.new.heard.answers) of.1 h)
-    c.new-heard.ensures.answers c.answer_all-last.ensures.stands c.outcome_of.ensures c.reset.ensures.marked
-    (standing_again c.reset.new.self (edition_in i2) (edition_of t.entry.before) c.reset.new.self.settling.run.engine.host.marked c.reset.ensures.blueprint edition refl)
+    c.answer_all.new.run.next inside i2 c.answer_all.new.passes (g.P.Pages.faults c.answer_all.new.pages) c.answer_all.new.heard.published c.answer_all.new.heard.answers) of.1 h)
+    c.new-heard.ensures.answers c.into_parts-last.ensures.stands (rw c.into_parts-last.ensures.next at c.outcome_of.ensures) (rw c.into_parts-last.ensures.interp at c.reset.ensures.marked)
+    (standing_again c.reset.new.self (edition_in i2) (edition_of t.entry.before) c.reset.new.self.settling.run.engine.host.marked (rw c.into_parts-last.ensures.interp at c.reset.ensures.blueprint) edition refl)
     (λ outcome end. paid_all _ s0 s2 c.reset.new.steps _ (Writes (interp_state i2).made) _ (c.in-Ok.ensures.steps t.entry.before r)
-    (paid_once s0 s1 s2 (interp_written names i0) (interp_written names i1) (interp_written names i2) _ (new_alone names i0 of.0) (ended_alone names outcome i2 (subst (λ (n : Next). StandsAt n i2) end c.answer_all-last.ensures.stands)) c.begin-first.ensures.counts c.answer_all-last.ensures.counts)
-    (c.reset.ensures.steps names sound))
+    (paid_once s0 s1 s2 (interp_written names i0) (interp_written names i1) (interp_written names i2) _ (new_alone names i0 of.0) (ended_alone names outcome i2 (subst (λ (n : Next). StandsAt n i2) end c.into_parts-last.ensures.stands)) c.begin-run.ensures.counts c.answer_all.ensures.counts)
+    ((rw c.into_parts-last.ensures.interp at c.reset.ensures.steps) names sound))
     (λ none. paid_all _ s0 s2 c.reset.new.steps _ (Writes (interp_state i2).made) _ (c.in-Ok.ensures.steps t.entry.before r)
-    (cost_within i2 _ s0 s2 (subst (λ (e : Edition). IsWithin 0 s0 s2 i2 (Script names e c.args.due.now.script moment c.answer_all-last.new.heard.answers)) of.1
-    (within_all names (λ further. Script names (edition_in i0) c.args.due.now.script moment further) c.new-heard.result.answers _ _ i2 c.answer_all-last.new.heard.answers 0 s0 s2
-    (c.answer_all-last.ensures.within (λ further. Script names (edition_in i0) c.args.due.now.script moment further) inside0 0 s0 c.begin-first.ensures.stands
-    (first_within s0 s1 (interp_written names i0) (interp_written names i1)) c.begin-first.ensures.most) c.new-heard.ensures.answers)))
-    (c.reset.ensures.steps names sound))
+    (cost_within i2 _ s0 s2 (subst (λ (e : Edition). IsWithin 0 s0 s2 i2 (Script names e c.args.due.now.script moment c.answer_all.new.heard.answers)) of.1
+    (within_all names (λ further. Script names (edition_in i0) c.args.due.now.script moment further) c.new-heard.result.answers _ _ i2 c.answer_all.new.heard.answers 0 s0 s2
+    (c.answer_all.ensures.within (λ further. Script names (edition_in i0) c.args.due.now.script moment further) inside0 0 s0 c.begin-run.ensures.stands
+    (first_within s0 s1 (interp_written names i0) (interp_written names i1)) c.begin-run.ensures.most) c.new-heard.ensures.answers)))
+    ((rw c.into_parts-last.ensures.interp at c.reset.ensures.steps) names sound))
 
 pub returns-in_default-clause-runs : goal.returns-in_default-clause-runs
 returns-in_default-clause-runs g c =
@@ -92,33 +92,33 @@ returns-clause-clean g c =
     let held = g.P.Pages.held c.args.pages.now in
     let t = c.look-turn.ensures.looks in
     let r = renewable names c.args.passes.now c.look-turn.new.passes c.args.worker.now c.look-turn.result.turn c.look-turn.result.look t c.requires.cells.1 c.requires.clean in
-    let of = one_of names t.entry.before c.renew.new.worker.interp _ c.in-Some.is (c.in-Ok.ensures.of t.entry.before r) in
+    let of = one_of names t.entry.before c.renew.new.worker.interp _ (sym c.in-Some.ensures.value) (c.in-Ok.ensures.of t.entry.before r) in
     let i0 = c.in-Some.interp in
-    let i1 = c.begin-first.new.interp in
-    let i2 = c.answer_all-last.new.interp in
+    let i1 = c.begin-run.result.interp in
+    let i2 = c.answer_all.new.run.interp in
     let s0 = c.renew.new.steps in
-    let s1 = c.begin-first.new.steps in
-    let s2 = c.answer_all-last.new.steps in
+    let s1 = c.begin-run.new.steps in
+    let s2 = c.answer_all.new.steps in
     let inside0 = taken names s1 s0 i1 i0 in
     let inside = inside0 + taken names s2 s1 i2 i1 in
-    let sound = c.answer_all-last.ensures.sound names (c.begin-first.ensures.sound names of.0.0) in
-    let edition : edition_in i2 ≡ edition_of t.entry.before = c.answer_all-last.ensures.blueprint ∙ (c.begin-first.ensures.blueprint ∙ of.1) in
-    let h = c.answer_all-last.ensures.hears inside0 in
-    (ran_clean names c.args.passes.now c.look-turn.new.passes c.answer_all-last.new.passes c.look-turn.result.turn _ c.look-turn.result.look t (h.turns ++ h.more) i0 c.reset.new.self
-    h.gains of.1 (c.reset.ensures.blueprint ∙ (c.answer_all-last.ensures.blueprint ∙ c.begin-first.ensures.blueprint)) (c.reset.ensures.is_new names sound))
+    let sound = c.answer_all.ensures.sound names (c.begin-run.ensures.sound names of.0.0) in
+    let edition : edition_in i2 ≡ edition_of t.entry.before = c.answer_all.ensures.blueprint ∙ (c.begin-run.ensures.blueprint ∙ of.1) in
+    let h = c.answer_all.ensures.hears inside0 in
+    (ran_clean names c.args.passes.now c.look-turn.new.passes c.answer_all.new.passes c.look-turn.result.turn _ c.look-turn.result.look t (h.turns ++ h.more) i0 c.reset.new.self
+    h.gains of.1 ((rw c.into_parts-last.ensures.interp at c.reset.ensures.blueprint) ∙ (c.answer_all.ensures.blueprint ∙ c.begin-run.ensures.blueprint)) ((rw c.into_parts-last.ensures.interp at c.reset.ensures.is_new) names sound))
 
 pub returns-clause-cells : goal.returns-clause-cells
 returns-clause-cells g c =
     let names = names_of c.args.natives.now in
     let t = c.look-turn.ensures.looks in
-    let h = c.answer_all-last.ensures.hears 0 in
-    (c.answer_all-last.ensures.cells, keeps_names names c.look-turn.new.passes c.answer_all-last.new.passes (h.turns ++ h.more) h.gains (keeps_names names c.args.passes.now c.look-turn.new.passes (OnBlueprint t.entry ∷ []) t.gains.1 c.requires.cells.1))
+    let h = c.answer_all.ensures.hears 0 in
+    (c.answer_all.ensures.cells, keeps_names names c.look-turn.new.passes c.answer_all.new.passes (h.turns ++ h.more) h.gains (keeps_names names c.args.passes.now c.look-turn.new.passes (OnBlueprint t.entry ∷ []) t.gains.1 c.requires.cells.1))
 
 pub returns-clause-units : goal.returns-clause-units
 returns-clause-units g c =
     let t = c.look-turn.ensures.looks in
-    let h = c.answer_all-last.ensures.hears 0 in
-    keeps_units c.args.passes.now c.answer_all-last.new.passes ((OnBlueprint t.entry ∷ []) ++ (h.turns ++ h.more)) (gains_more c.args.passes.now c.look-turn.new.passes c.answer_all-last.new.passes (OnBlueprint t.entry ∷ []) (h.turns ++ h.more) t.gains.1 h.gains)
+    let h = c.answer_all.ensures.hears 0 in
+    keeps_units c.args.passes.now c.answer_all.new.passes ((OnBlueprint t.entry ∷ []) ++ (h.turns ++ h.more)) (gains_more c.args.passes.now c.look-turn.new.passes c.answer_all.new.passes (OnBlueprint t.entry ∷ []) (h.turns ++ h.more) t.gains.1 h.gains)
 
 -- no run was begun
 pub returns-in_default-clause-clean : goal.returns-in_default-clause-clean

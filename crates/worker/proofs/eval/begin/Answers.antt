@@ -7,5 +7,4 @@ returns g c = record {
   most = c.start_define.ensures.most;
   blueprint = c.start_define.ensures.holds.blueprint;
   sound = c.start_define.ensures.sound;
-  next = c.start_define.ensures.next;
 }

@@ -1,4 +1,4 @@
-use Rattle.std.proofs.Common.{◌≡◌, ◌∙◌, ◌+◌, ◌≤◌, ◌++◌, ◌∷◌, [], ℕ, List, refl, arith}
+use Rattle.std.proofs.Common.{◌≡◌, ◌∙◌, ◌+◌, ◌≤◌, ◌++◌, ◌∷◌, [], ℕ, List, refl, sym, arith}
 use Rattle.std.specs.Prelude.{min, Some}
 use Rattle.cmd_table.specs.Commands.{Writes}
 use Rattle.natives.specs.Names.{names_of}
@@ -17,18 +17,18 @@ renew-requires g c =
     let t = c.look-turn.ensures.looks in
     (t.entry.before, renewable (names_of c.args.natives.now) c.args.passes.now c.look-turn.new.passes c.args.worker.now c.look-turn.result.turn c.look-turn.result.look t c.requires.cells.1 c.requires.clean)
 
-pub run_request-done-requires-clause-fresh : goal.run_request-done-requires-clause-fresh
-run_request-done-requires-clause-fresh g c =
+pub begin-run-requires : goal.begin-run-requires
+begin-run-requires g c =
     let t = c.look-turn.ensures.looks in
     let r = renewable (names_of c.args.natives.now) c.args.passes.now c.look-turn.new.passes c.args.worker.now c.look-turn.result.turn c.look-turn.result.look t c.requires.cells.1 c.requires.clean in
-    (one_of (names_of c.args.natives.now) t.entry.before c.renew.new.worker.interp _ c.in-Some.is (c.in-Ok.ensures.of t.entry.before r)).0
+    (one_of (names_of c.args.natives.now) t.entry.before c.renew.new.worker.interp _ (sym c.in-Some.ensures.value) (c.in-Ok.ensures.of t.entry.before r)).0
 
 -- behind a renewal there is one
 pub unreachable-requires : goal.unreachable-requires
 unreachable-requires g c =
     let t = c.look-turn.ensures.looks in
     let r = renewable (names_of c.args.natives.now) c.args.passes.now c.look-turn.new.passes c.args.worker.now c.look-turn.result.turn c.look-turn.result.look t c.requires.cells.1 c.requires.clean in
-    rw c.in_default-interp.is at (c.in-Ok.ensures.of t.entry.before r)
+    rw (sym c.take.ensures.value ∙ c.in_default-take.is) at (c.in-Ok.ensures.of t.entry.before r)
 
 -- what was done, behind a look, on the interpreter that is of what it found
 pub returns-clause-item : goal.returns-clause-item
@@ -36,33 +36,33 @@ returns-clause-item g c = λ count before at by.
     let names = names_of c.args.natives.now in
     let t = c.look-turn.ensures.looks in
     let r = renewable names c.args.passes.now c.look-turn.new.passes c.args.worker.now c.look-turn.result.turn c.look-turn.result.look t c.requires.cells.1 c.requires.clean in
-    let of = one_of names t.entry.before c.renew.new.worker.interp _ c.in-Some.is (c.in-Ok.ensures.of t.entry.before r) in
-    let sound = c.run_request-done.ensures.sound names of.0.0 in
-    ran_item names _ count before _ c.args.manner.requests c.args.request c.run_request-done.result.sent _ _ _ c.look-turn.result.look c.look-turn.new.passes c.run_request-done.new.interp c.renew.new.steps c.run_request-done.new.steps
+    let of = one_of names t.entry.before c.renew.new.worker.interp _ (sym c.in-Some.ensures.value) (c.in-Ok.ensures.of t.entry.before r) in
+    let sound = c.run_request-done.ensures.sound names (c.begin-run.ensures.sound names of.0.0) in
+    ran_item names _ count before _ c.args.manner.requests c.args.request c.run_request-done.result.sent _ _ _ c.look-turn.result.look c.look-turn.new.passes c.run_request-done.new.run.interp c.renew.new.steps c.run_request-done.new.steps
     t c.in-Ok.ensures.told c.look-turn.ensures.epoch
     (ticked _ _ c.moment.result c.moment_of-moment.result c.moment.ensures c.moment_of-moment.ensures)
-    (c.run_request-done.ensures.ran t.entry.before before of.1 by) at c.bytes_sent.ensures
-    (standing_again c.reset.new.self (edition_in c.run_request-done.new.interp) _ _ c.reset.ensures.blueprint (c.run_request-done.ensures.blueprint ∙ of.1) c.reset.ensures.marked)
-    (c.in-Ok.ensures.steps t.entry.before r) (c.reset.ensures.steps names sound)
+    (c.run_request-done.ensures.ran c.args.request c.in-Some.interp c.renew.new.steps before t.entry.before c.begin-run.ensures c.requires.manner.0 c.requires.manner.1 of.1 by) at c.bytes_sent.ensures
+    (standing_again c.reset.new.self (edition_in c.run_request-done.new.run.interp) _ _ (rw c.into_parts-interp.ensures.interp at c.reset.ensures.blueprint) ((c.run_request-done.ensures.blueprint ∙ c.begin-run.ensures.blueprint) ∙ of.1) (rw c.into_parts-interp.ensures.interp at c.reset.ensures.marked))
+    (c.in-Ok.ensures.steps t.entry.before r) ((rw c.into_parts-interp.ensures.interp at c.reset.ensures.steps) names sound)
 
 pub returns-clause-clean : goal.returns-clause-clean
 returns-clause-clean g c =
     let names = names_of c.args.natives.now in
     let t = c.look-turn.ensures.looks in
     let r = renewable names c.args.passes.now c.look-turn.new.passes c.args.worker.now c.look-turn.result.turn c.look-turn.result.look t c.requires.cells.1 c.requires.clean in
-    let of = one_of names t.entry.before c.renew.new.worker.interp _ c.in-Some.is (c.in-Ok.ensures.of t.entry.before r) in
-    let sound = c.run_request-done.ensures.sound names of.0.0 in
-    let ran = c.run_request-done.ensures.ran t.entry.before c.args.manner.answered of.1 (omega arith) in
+    let of = one_of names t.entry.before c.renew.new.worker.interp _ (sym c.in-Some.ensures.value) (c.in-Ok.ensures.of t.entry.before r) in
+    let sound = c.run_request-done.ensures.sound names (c.begin-run.ensures.sound names of.0.0) in
+    let ran = c.run_request-done.ensures.ran c.args.request c.in-Some.interp c.renew.new.steps c.args.manner.answered t.entry.before c.begin-run.ensures c.requires.manner.0 c.requires.manner.1 of.1 (omega arith) in
     (ran_clean names c.args.passes.now c.look-turn.new.passes c.run_request-done.new.passes c.look-turn.result.turn _ c.look-turn.result.look t (ran.turns ++ ran.more) c.in-Some.interp c.reset.new.self
-    ran.gains of.1 (c.reset.ensures.blueprint ∙ c.run_request-done.ensures.blueprint) (c.reset.ensures.is_new names sound))
+    ran.gains of.1 ((rw c.into_parts-interp.ensures.interp at c.reset.ensures.blueprint) ∙ (c.run_request-done.ensures.blueprint ∙ c.begin-run.ensures.blueprint)) ((rw c.into_parts-interp.ensures.interp at c.reset.ensures.is_new) names sound))
 
 pub returns-clause-cells : goal.returns-clause-cells
 returns-clause-cells g c =
     let names = names_of c.args.natives.now in
     let t = c.look-turn.ensures.looks in
     let r = renewable names c.args.passes.now c.look-turn.new.passes c.args.worker.now c.look-turn.result.turn c.look-turn.result.look t c.requires.cells.1 c.requires.clean in
-    let of = one_of names t.entry.before c.renew.new.worker.interp _ c.in-Some.is (c.in-Ok.ensures.of t.entry.before r) in
-    let ran = c.run_request-done.ensures.ran t.entry.before c.args.manner.answered of.1 (omega arith) in
+    let of = one_of names t.entry.before c.renew.new.worker.interp _ (sym c.in-Some.ensures.value) (c.in-Ok.ensures.of t.entry.before r) in
+    let ran = c.run_request-done.ensures.ran c.args.request c.in-Some.interp c.renew.new.steps c.args.manner.answered t.entry.before c.begin-run.ensures c.requires.manner.0 c.requires.manner.1 of.1 (omega arith) in
     (c.run_request-done.ensures.cells, keeps_names names c.look-turn.new.passes c.run_request-done.new.passes (ran.turns ++ ran.more) ran.gains (keeps_names names c.args.passes.now c.look-turn.new.passes (OnBlueprint t.entry ∷ []) t.gains.1 c.requires.cells.1))
 
 -- no run was begun

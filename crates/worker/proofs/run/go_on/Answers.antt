@@ -8,6 +8,5 @@ returns g c = record {
   same = c.resume.ensures.same;
   blueprint = c.resume.ensures.holds.blueprint;
   sound = c.resume.ensures.sound;
-  stands = c.resume.ensures.next;
   falls = c.resume.ensures.falls;
 }
