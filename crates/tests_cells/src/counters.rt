@@ -6,7 +6,6 @@ ghost use Rattle.tests_cells.specs.Counts.{TakesCount};
 
 use std::alloc::Global;
 use std::sync::Wait;
-use std::test::*;
 use std::thread::{self, Threads, join};
 use turn_cell::{Obj, Pass, TurnCell};
 use txt_core::NoMemory;
@@ -142,9 +141,8 @@ fn count_in_four<R: Threads + Wait + Sync>(rt: &R, alloc: Global) -> Result<(u64
 }
 
 #[test]
-fn four_threads(rt: HostRuntime) -> Result<(), Fail> {
-    assert_eq!(rt; count_in_four(&rt, rt.alloc())?, (400, true));
-    Ok(())
+fn four_threads(rt: HostRuntime) {
+    assert!(rt; count_in_four(&rt, rt.alloc()) == Ok((400, true)));
 }
 
 /// A thread's part of a count by many.
@@ -227,11 +225,10 @@ fn count_by<R: Threads + Wait + Sync>(
 /// With more threads than processors, a thread that has the object is often stopped, and those that
 /// wait for it fall asleep.
 #[test]
-fn by_one_by_four_and_by_sixteen(rt: HostRuntime) -> Result<(), Fail> {
-    assert_eq!(rt; count_by(&rt, rt.alloc(), 1, 80_000)?, (80_001, true));
-    assert_eq!(rt; count_by(&rt, rt.alloc(), 4, 20_000)?, (80_001, true));
-    assert_eq!(rt; count_by(&rt, rt.alloc(), 16, 5_000)?, (80_001, true));
-    Ok(())
+fn by_one_by_four_and_by_sixteen(rt: HostRuntime) {
+    assert!(rt; count_by(&rt, rt.alloc(), 1, 80_000) == Ok((80_001, true)));
+    assert!(rt; count_by(&rt, rt.alloc(), 4, 20_000) == Ok((80_001, true)));
+    assert!(rt; count_by(&rt, rt.alloc(), 16, 5_000) == Ok((80_001, true)));
 }
 
 /// Each turn's place and reply, of two on one thread, and the count at the end.
@@ -248,9 +245,8 @@ fn turns_of_one<R: Wait>(rt: &R, alloc: Global) -> Result<((u64, u64), (u64, u64
 }
 
 #[test]
-fn one_thread(rt: HostRuntime) -> Result<(), Fail> {
-    assert_eq!(rt; turns_of_one(&rt, rt.alloc())?, ((0, 1), (1, 2), 2));
-    Ok(())
+fn one_thread(rt: HostRuntime) {
+    assert!(rt; turns_of_one(&rt, rt.alloc()) == Ok(((0, 1), (1, 2), 2)));
 }
 
 /// The places and the replies of turns by two passes, which are then joined, and the count at the end.
@@ -273,9 +269,8 @@ fn turns_of_two<R: Wait>(
 }
 
 #[test]
-fn split_and_joined(rt: HostRuntime) -> Result<(), Fail> {
-    assert_eq!(rt; turns_of_two(&rt, rt.alloc())?, ((0, 1, 2), (8, 9, 10), 10));
-    Ok(())
+fn split_and_joined(rt: HostRuntime) {
+    assert!(rt; turns_of_two(&rt, rt.alloc()) == Ok(((0, 1, 2), (8, 9, 10), 10)));
 }
 
 /// Each turn's place and reply: one of a pass that is then dropped, and one of another.
@@ -292,7 +287,6 @@ fn turns_behind_a_drop<R: Wait>(
 }
 
 #[test]
-fn dropped(rt: HostRuntime) -> Result<(), Fail> {
-    assert_eq!(rt; turns_behind_a_drop(&rt, rt.alloc())?, ((0, 1), (1, 2)));
-    Ok(())
+fn dropped(rt: HostRuntime) {
+    assert!(rt; turns_behind_a_drop(&rt, rt.alloc()) == Ok(((0, 1), (1, 2))));
 }

@@ -7,7 +7,6 @@ use conn_queue::{ConnQueue, QPass};
 use std::alloc::Global;
 use std::rt::Clock;
 use std::sync::Wait;
-use std::test::*;
 use std::thread::{self, Threads, join};
 use std::time::Duration;
 use txt_core::NoMemory;
@@ -200,47 +199,52 @@ fn numbers_of<R: Threads + Wait + Clock + Sync>(
     taken_by(alloc, workers)
 }
 
+/// Whether these are the numbers from 0 on, and so many.
+fn are_all(numbers: &[u64], count: u64) -> bool {
+    let mut each = numbers.len() as u64 == count;
+    for (place, number) in numbers.iter().enumerate() {
+        each = each && *number == place as u64;
+    }
+    each
+}
+
 /// Whether each number was taken once.
 fn each_is_taken<R: Threads + Wait + Clock + Sync>(
     rt: &R,
     alloc: Global,
     exchange: Exchange,
-) -> Result<bool, NoMemory>
+) -> bool
     requires { exchange.threads ≤ 16 }
 {
-    let numbers = numbers_of(rt, alloc, exchange)?;
-    let mut each = numbers.len() as u64
-        == u64::from(exchange.threads).saturating_mul(exchange.each);
-    for (place, number) in numbers.iter().enumerate() {
-        each = each && *number == place as u64;
+    let count = u64::from(exchange.threads).saturating_mul(exchange.each);
+    match numbers_of(rt, alloc, exchange) {
+        Ok(numbers) => are_all(numbers.as_slice(), count),
+        Err(_) => false,
     }
-    Ok(each)
 }
 
 /// Between one thread and another, four and four, and with more threads than processors.
 #[test]
-fn handed_over(rt: HostRuntime) -> Result<(), Fail> {
+fn handed_over(rt: HostRuntime) {
     for threads in [1, 4, 16] {
         let exchange = Exchange {
             threads,
             each: 20_000 / u64::from(threads),
             pause: Duration::ZERO,
         };
-        assert!(rt; each_is_taken(&rt, rt.alloc(), exchange)?);
+        assert!(rt; each_is_taken(&rt, rt.alloc(), exchange));
     }
-    Ok(())
 }
 
 /// Each number is put so late that those who take have fallen asleep.
 #[test]
-fn sleepers_wake(rt: HostRuntime) -> Result<(), Fail> {
+fn sleepers_wake(rt: HostRuntime) {
     let exchange = Exchange {
         threads: 3,
         each: 20,
         pause: Duration::from_millis(5),
     };
-    assert!(rt; each_is_taken(&rt, rt.alloc(), exchange)?);
-    Ok(())
+    assert!(rt; each_is_taken(&rt, rt.alloc(), exchange));
 }
 
 /// A queue of one is full when one thread closes it, while another takes twice.
@@ -282,11 +286,9 @@ fn full_and_closed<R: Threads + Wait + Sync>(
 }
 
 #[test]
-fn room_for_one(rt: HostRuntime) -> Result<(), Fail> {
-    let (puts, taken) = full_and_closed(&rt, rt.alloc())?;
-    assert_eq!(rt; puts, [Ok(()), Err(8)]);
-    assert_eq!(rt; taken, (Some(7), None));
-    Ok(())
+fn room_for_one(rt: HostRuntime) {
+    let came = full_and_closed(&rt, rt.alloc());
+    assert!(rt; came == Ok(([Ok(()), Err(8)], (Some(7), None))));
 }
 
 /// What becomes of three puts by two passes into a queue of two, and of three takes, two of them when the
@@ -309,9 +311,7 @@ fn on_one_thread<R: Wait>(
 }
 
 #[test]
-fn room_for_two(rt: HostRuntime) -> Result<(), Fail> {
-    let (puts, takes) = on_one_thread(&rt, rt.alloc())?;
-    assert_eq!(rt; puts, [Ok(()), Ok(()), Err(3)]);
-    assert_eq!(rt; takes, [Some(1), Some(2), None]);
-    Ok(())
+fn room_for_two(rt: HostRuntime) {
+    let came = on_one_thread(&rt, rt.alloc());
+    assert!(rt; came == Ok(([Ok(()), Ok(()), Err(3)], [Some(1), Some(2), None])));
 }

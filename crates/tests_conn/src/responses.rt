@@ -1,41 +1,43 @@
 //! The responses that commands give, and their bytes.
 
 use crate::rows::{RESPONSES, SENT};
-use crate::telling::{
-    Told, add_part, came, check_same, check_text, on_form, parts, spelled, told_on,
-};
+use crate::telling::{Told, add_part, came, is_text, on_form, parts, put, spelled, told_on};
 use conn_host::ConnHost;
 use http_resp::{Response, response_bytes};
-use std::alloc::{AllocGlobal, Global};
-use std::process::Abort;
-use std::test::Fail;
-use txt_core::{NoMemory, Text, write_natural};
+use std::alloc::Global;
+use txt_core::{Text, write_natural};
 
 /// Adds an output field.
-fn add_field(told: &mut Text, key: &[u8], value: &[u8]) -> Result<(), NoMemory> {
-    told.append(key)?;
-    told.append(b"=")?;
-    told.append(value)?;
-    told.append(b";")
+fn add_field(told: &mut Text, key: &[u8], value: &[u8]) {
+    put(told, key);
+    put(told, b"=");
+    put(told, value);
+    put(told, b";");
+}
+
+/// Adds a number.
+fn add_number(alloc: Global, told: &mut Text, number: u16) {
+    if let Ok(digits) = write_natural(alloc, u64::from(number)) {
+        put(told, digits.bytes());
+    }
 }
 
 /// The status, type and body of a response, each with a bar behind it, and each output field.
-fn tell_response(alloc: Global, told: &mut Text, response: &Response) -> Result<(), NoMemory> {
-    told.append(write_natural(alloc, u64::from(response.status))?.bytes())?;
-    add_part(told, response.kind.bytes())?;
-    add_part(told, response.body.bytes())?;
-    told.append(b"|")?;
+fn tell_response(alloc: Global, told: &mut Text, response: &Response) {
+    add_number(alloc, told, response.status);
+    add_part(told, response.kind.bytes());
+    add_part(told, response.body.bytes());
+    put(told, b"|");
     for (key, value) in response.fields.as_slice() {
-        add_field(told, key.bytes(), value.bytes())?;
+        add_field(told, key.bytes(), value.bytes());
     }
-    Ok(())
 }
 
 /// Does the commands of a line in order; what the last comes to.
-fn done(alloc: Global, host: &mut ConnHost, line: &str) -> Result<Text, NoMemory> {
+fn done(alloc: Global, host: &mut ConnHost, line: &str) -> Text {
     match line.split_once(" then ") {
         Some((before, last)) => {
-            came(alloc, host, before)?;
+            let _before = came(alloc, host, before);
             came(alloc, host, last)
         }
         None => came(alloc, host, line),
@@ -43,82 +45,79 @@ fn done(alloc: Global, host: &mut ConnHost, line: &str) -> Result<Text, NoMemory
 }
 
 /// What commands come to, and the response where one was given.
-pub fn given(alloc: Global, host: &mut ConnHost, line: &str) -> Result<Text, NoMemory> {
-    let mut told = done(alloc, host, line)?;
+pub fn given(alloc: Global, host: &mut ConnHost, line: &str) -> Text {
+    let mut told = done(alloc, host, line);
     if let Some(response) = host.response() {
-        told.append(b" and ")?;
-        tell_response(alloc, &mut told, response)?;
+        put(&mut told, b" and ");
+        tell_response(alloc, &mut told, response);
     }
-    Ok(told)
+    told
 }
 
-/// What commands on the request of a form come to, and the response where one was given.
-fn given_on_form(alloc: Global, line: &str) -> Result<Text, NoMemory> {
-    told_on(alloc, on_form(alloc)?, Told::Response, line)
+/// Whether the commands of a row on the request of a form come to what it says.
+fn is_given(alloc: Global, row: &str) -> bool {
+    let (line, want) = parts(row);
+    let told = told_on(alloc, on_form(alloc), Told::Response, line);
+    is_text(alloc, &told, want)
 }
 
-/// Does the commands of a row on the request of a form.
-fn check_given<R: Abort + AllocGlobal>(rt: &R, row: &str) -> Result<(), Fail> {
-    let (line, want) = parts(row)?;
-    check_text(rt, &given_on_form(rt.alloc(), line)?, want, row)
+/// The place of the first row that is wrong, if there is one.
+fn first_not_given(alloc: Global) -> Option<usize> {
+    for (at, row) in RESPONSES.lines().enumerate() {
+        if !is_given(alloc, row) {
+            return Some(at);
+        }
+    }
+    None
 }
 
 #[test]
-fn responses(rt: HostRuntime) -> Result<(), Fail> {
-    for row in RESPONSES.lines() {
-        check_given(&rt, row)?;
-    }
-    Ok(())
+fn responses(rt: HostRuntime) {
+    assert_eq!(rt; first_not_given(rt.alloc()), None);
 }
 
-/// The bytes of the response that commands give, at the moment 0 on a connection that is kept.
-pub fn sent(alloc: Global, host: &mut ConnHost, line: &str) -> Result<Text, NoMemory> {
-    done(alloc, host, line)?;
+/// The bytes of a response, at the moment 0 on a connection that is kept; none where memory wants.
+fn bytes_of(alloc: Global, response: &Response) -> Text {
+    match response_bytes(alloc, response, 0, false, false) {
+        Ok(bytes) => bytes,
+        Err(_) => Text::empty(alloc),
+    }
+}
+
+/// The bytes of the response that commands give.
+pub fn sent(alloc: Global, host: &mut ConnHost, line: &str) -> Text {
+    let _done = done(alloc, host, line);
     match host.response() {
-        Some(response) => response_bytes(alloc, response, 0, false, false),
-        None => Ok(Text::empty(alloc)),
+        Some(response) => bytes_of(alloc, response),
+        None => Text::empty(alloc),
     }
 }
 
-/// The bytes of the response that commands on the request of a form give.
-fn sent_on_form(alloc: Global, line: &str) -> Result<Text, NoMemory> {
-    told_on(alloc, on_form(alloc)?, Told::Wire, line)
+/// Whether bytes are those that a part of a row spells, behind their number and a space.
+fn is_wire(alloc: Global, told: &Text, want: &str) -> bool {
+    let (length, bytes) = want.split_once(" ").unwrap_or(("", want));
+    let is_long = length.parse::<usize>().ok() == Some(told.len());
+    is_long && told.bytes() == spelled(alloc, bytes, b"\r\n").bytes()
 }
 
-/// Compares bytes with those that a part of a row spells.
-fn check_spelled<R: Abort + AllocGlobal>(
-    rt: &R,
-    told: &Text,
-    part: &str,
-    row: &str,
-) -> Result<(), Fail> {
-    let want = spelled(rt.alloc(), part, b"\r\n")?;
-    check_same(rt, told.bytes(), want.bytes(), row)
+/// Whether the commands of a row on the request of a form give a response of the bytes that it says.
+fn is_sent(alloc: Global, row: &str) -> bool {
+    let (line, want) = parts(row);
+    let told = told_on(alloc, on_form(alloc), Told::Wire, line);
+    is_wire(alloc, &told, want)
 }
 
-/// Compares bytes with those that a part of a row spells, behind their number and a space.
-fn check_wire<R: Abort + AllocGlobal>(
-    rt: &R,
-    told: &Text,
-    want: &str,
-    row: &str,
-) -> Result<(), Fail> {
-    let (length, bytes) = want.split_once(" ").ok_or("a row has a length")?;
-    let length = length.parse::<usize>().ok().ok_or("a length is a number")?;
-    assert_eq!(rt; told.len(), length, "{row}");
-    check_spelled(rt, told, bytes, row)
-}
-
-/// Does the commands of a row on the request of a form, and looks at the bytes of the response.
-fn check_sent<R: Abort + AllocGlobal>(rt: &R, row: &str) -> Result<(), Fail> {
-    let (line, want) = parts(row)?;
-    check_wire(rt, &sent_on_form(rt.alloc(), line)?, want, row)
+/// The place of the first row that is wrong, if there is one.
+fn first_not_sent(alloc: Global) -> Option<usize> {
+    for (at, row) in SENT.lines().enumerate() {
+        if !is_sent(alloc, row) {
+            return Some(at);
+        }
+    }
+    None
 }
 
 #[test]
-fn responses_on_the_wire(rt: HostRuntime) -> Result<(), Fail> {
-    for row in SENT.lines() {
-        check_sent(&rt, row)?;
-    }
-    Ok(())
+fn responses_on_the_wire(rt: HostRuntime) {
+    assert_eq!(rt; first_not_sent(rt.alloc()), None);
 }

@@ -1,13 +1,13 @@
 //! Runs that are abandoned, and what runs behind them.
 
-ghost use Rattle.std.specs.Prelude.{◌≡◌, IfOk, OnOk};
+ghost use Rattle.std.specs.Prelude.{◌≡◌, IfOk};
 ghost use Rattle.tcl_eval.specs.Engine.{IsIdle, Leaves};
 ghost use Rattle.cmd_table.specs.declared.definition.Def.{Def};
 
 use crate::echo::Echo;
 use crate::engines::{answer, engine, start};
 use crate::playing::{Run, repeated, start_script};
-use crate::told::{show, show_number};
+use crate::told::{show, show_number, text};
 use cmd_table::{Def, Steps};
 use natives::Natives;
 use outside::Answer;
@@ -54,12 +54,11 @@ fn engine_with_procedure<L: Ledger>(
 }
 
 /// A call of `f` with 1.
-fn call_of_procedure(alloc: Global) -> Result<Work, NoMemory> {
+fn call_of_procedure(alloc: Global) -> Work {
     let mut words = Words::new(alloc);
-    for word in ["f", "1"] {
-        words.add(Text::new(alloc, word.as_bytes())?)?;
-    }
-    Ok(Work::Call(words))
+    let _name = words.add(text(alloc, b"f"));
+    let _one = words.add(text(alloc, b"1"));
+    Work::Call(words)
 }
 
 /// Runs this and abandons what is left of it; appends what it came to, and how many definitions are
@@ -70,46 +69,31 @@ fn run_and_abandon<L: Ledger>(
     work: Work,
     steps: &mut Steps<L>,
     all: &mut Text,
-) -> Result<(), NoMemory>
+)
     requires { IsIdle engine.old }
-    ensures { OnOk result (IsIdle engine.new) }
+    ensures { IsIdle engine.new }
 {
     let alloc = engine.host().alloc;
     let outcome = start(engine, natives, work, 100, 1, steps);
     let left = engine.left();
     engine.abandon();
-    show(&outcome, left, alloc, all)?;
-    show_number(engine.made().len() as u64, b"|", alloc, all)
+    show(&outcome, left, alloc, all);
+    show_number(engine.made().len() as u64, b"|", alloc, all);
 }
 
 /// Runs a script and abandons what is left of it; appends what it came to.
 pub fn run_script<L: Ledger>(
     engine: &mut Engine<Echo>,
     natives: &Natives,
-    script: &str,
+    script: &[u8],
     steps: &mut Steps<L>,
     all: &mut Text,
-) -> Result<(), NoMemory>
+)
     requires { IsIdle engine.old }
-    ensures { OnOk result (IsIdle engine.new) }
+    ensures { IsIdle engine.new }
 {
-    let work = Work::Script(Text::new(engine.host().alloc, script.as_bytes())?);
-    run_and_abandon(engine, natives, work, steps, all)
-}
-
-/// Runs a text as a script and abandons what is left of it; appends what it came to.
-pub fn run_text<L: Ledger>(
-    engine: &mut Engine<Echo>,
-    natives: &Natives,
-    script: &Text,
-    steps: &mut Steps<L>,
-    all: &mut Text,
-) -> Result<(), NoMemory>
-    requires { IsIdle engine.old }
-    ensures { OnOk result (IsIdle engine.new) }
-{
-    let work = Work::Script(script.copy(engine.host().alloc)?);
-    run_and_abandon(engine, natives, work, steps, all)
+    let work = Work::Script(text(engine.host().alloc, script));
+    run_and_abandon(engine, natives, work, steps, all);
 }
 
 /// Stands at a question in `f`, which is abandoned, and runs on after that.
@@ -118,24 +102,23 @@ fn leave_alone<L: Ledger>(
     natives: &Natives,
     steps: &mut Steps<L>,
     all: &mut Text,
-) -> Result<(), NoMemory>
+)
     requires { IsIdle engine.old }
 {
-    let call = call_of_procedure(engine.host().alloc)?;
-    run_and_abandon(engine, natives, call, steps, all)?;
-    run_script(engine, natives, "g; return $v", steps, all)
+    let call = call_of_procedure(engine.host().alloc);
+    run_and_abandon(engine, natives, call, steps, all);
+    run_script(engine, natives, b"g; return $v", steps, all);
 }
 
-/// What comes of a call of `f` that is abandoned at its question, and of a run after that.
-pub fn left_alone<L: Ledger>(
-    alloc: Global,
-    natives: &Natives,
-    steps: &mut Steps<L>,
-) -> Result<Text, NoMemory> {
-    let mut engine = engine_with_procedure(alloc, natives, steps)?;
+/// What comes of a call of `f` that is abandoned at its question, and of a run after that; nothing where memory
+/// wants.
+pub fn left_alone<L: Ledger>(alloc: Global, natives: &Natives, steps: &mut Steps<L>) -> Text {
     let mut all = Text::empty(alloc);
-    leave_alone(&mut engine, natives, steps, &mut all)?;
-    Ok(all)
+    if let Ok(mut engine) = engine_with_procedure(alloc, natives, steps) {
+        leave_alone(&mut engine, natives, steps, &mut all);
+        drop(engine);
+    }
+    all
 }
 
 /// Starts a script that asks, with a budget of 3.
@@ -143,9 +126,9 @@ fn ask_with_three<L: Ledger>(
     engine: &mut Engine<Echo>,
     natives: &Natives,
     steps: &mut Steps<L>,
-) -> Result<Outcome, NoMemory>
+) -> Outcome
     requires { IsIdle engine.old }
-    ensures { IfOk result (λ outcome. Leaves outcome engine.new) }
+    ensures { Leaves result engine.new }
 {
     let run = Run {
         script: b"keep a 1; ask",
@@ -163,11 +146,11 @@ fn answer_long<L: Ledger>(
     natives: &Natives,
     outcome: Outcome,
     steps: &mut Steps<L>,
-) -> Result<Outcome, NoMemory>
+) -> Outcome
     requires { Leaves outcome engine.old }
 {
-    let long = repeated(engine.host().alloc, "", "sixteen.bytes.xx", "", 128)?;
-    Ok(answer(engine, natives, outcome, Answer::Said(long), steps))
+    let long = repeated(engine.host().alloc, "", "sixteen.bytes.xx", "", 128);
+    answer(engine, natives, outcome, Answer::Said(long), steps)
 }
 
 /// Stands at a question whose answer costs more than is left, which ends the run. Appends both.
@@ -176,14 +159,14 @@ fn ask_unpaid<L: Ledger>(
     natives: &Natives,
     steps: &mut Steps<L>,
     all: &mut Text,
-) -> Result<(), NoMemory>
+)
     requires { IsIdle engine.old }
 {
     let alloc = engine.host().alloc;
-    let outcome = ask_with_three(engine, natives, steps)?;
-    show(&outcome, engine.left(), alloc, all)?;
-    let ended = answer_long(engine, natives, outcome, steps)?;
-    show(&ended, engine.left(), alloc, all)
+    let outcome = ask_with_three(engine, natives, steps);
+    show(&outcome, engine.left(), alloc, all);
+    let ended = answer_long(engine, natives, outcome, steps);
+    show(&ended, engine.left(), alloc, all);
 }
 
 /// Runs on after a run whose answer wasn't paid.
@@ -192,22 +175,21 @@ fn go_unpaid<L: Ledger>(
     natives: &Natives,
     steps: &mut Steps<L>,
     all: &mut Text,
-) -> Result<(), NoMemory>
+)
     requires { IsIdle engine.old }
 {
-    ask_unpaid(engine, natives, steps, all)?;
+    ask_unpaid(engine, natives, steps, all);
     engine.abandon();
-    run_script(engine, natives, "return $a", steps, all)
+    run_script(engine, natives, b"return $a", steps, all);
 }
 
-/// What comes of a question whose answer costs more than is left, and of a run after that.
-pub fn unpaid<L: Ledger>(
-    alloc: Global,
-    natives: &Natives,
-    steps: &mut Steps<L>,
-) -> Result<Text, NoMemory> {
-    let mut engine = engine(alloc, natives, steps)?;
+/// What comes of a question whose answer costs more than is left, and of a run after that; nothing where memory
+/// wants.
+pub fn unpaid<L: Ledger>(alloc: Global, natives: &Natives, steps: &mut Steps<L>) -> Text {
     let mut all = Text::empty(alloc);
-    go_unpaid(&mut engine, natives, steps, &mut all)?;
-    Ok(all)
+    if let Ok(mut engine) = engine(alloc, natives, steps) {
+        go_unpaid(&mut engine, natives, steps, &mut all);
+        drop(engine);
+    }
+    all
 }

@@ -6,6 +6,7 @@ ghost use Rattle.tcl_eval.specs.Engine.{IsIdle, IsOpenTo, Leaves};
 ghost use Rattle.tcl_frame.specs.Frames.{fresh};
 
 use crate::echo::Echo;
+use crate::told::text;
 use cmd_table::{Cmd, CmdTable, Steps};
 use natives::Natives;
 use outside::{Answer, Service};
@@ -13,7 +14,7 @@ use std::alloc::Global;
 use std::sync::ledger::Ledger;
 use tcl_eval::{Engine, Outcome, Work};
 use tcl_frame::Frames;
-use txt_core::{NoMemory, Text};
+use txt_core::NoMemory;
 
 /// The commands of the host.
 const ECHOES: &[&str] = &[
@@ -28,41 +29,28 @@ const ECHOES: &[&str] = &[
 ];
 
 /// Puts a command of the host into a table.
-fn put_echo<L: Ledger>(
-    alloc: Global,
-    table: &mut CmdTable,
-    name: &str,
-    steps: &mut Steps<L>,
-) -> Result<(), NoMemory> {
-    let built = Cmd::Built(Text::new(alloc, name.as_bytes())?);
-    table.put(Text::new(alloc, name.as_bytes())?, built, steps)?;
-    Ok(())
+fn put_echo<L: Ledger>(alloc: Global, table: &mut CmdTable, name: &[u8], steps: &mut Steps<L>) {
+    let built = Cmd::Built(text(alloc, name));
+    let _put = table.put(text(alloc, name), built, steps);
 }
 
 /// Gives a command another name.
 fn rename<L: Ledger>(
     alloc: Global,
     table: &mut CmdTable,
-    old: &Text,
-    new: &str,
+    old: &[u8],
+    new: &[u8],
     steps: &mut Steps<L>,
-) -> Result<(), NoMemory> {
-    let new = Text::new(alloc, new.as_bytes())?;
-    table.rename(old, &new, steps)?;
-    Ok(())
+) {
+    let _renamed = table.rename(&text(alloc, old), &text(alloc, new), steps);
 }
 
 /// Puts the commands of the host into a table, and gives `error` the name `wrong`.
-fn put_commands<L: Ledger>(
-    alloc: Global,
-    table: &mut CmdTable,
-    steps: &mut Steps<L>,
-) -> Result<(), NoMemory> {
-    for &name in ECHOES {
-        put_echo(alloc, table, name, steps)?;
+fn put_commands<L: Ledger>(alloc: Global, table: &mut CmdTable, steps: &mut Steps<L>) {
+    for name in ECHOES {
+        put_echo(alloc, table, name.as_bytes(), steps);
     }
-    let old = Text::new(alloc, b"error")?;
-    rename(alloc, table, &old, "wrong", steps)
+    rename(alloc, table, b"error", b"wrong", steps);
 }
 
 /// The built-ins, these natives and the host's commands, where `error` has the name `wrong`.
@@ -72,7 +60,7 @@ fn commands<L: Ledger>(
     steps: &mut Steps<L>,
 ) -> Result<CmdTable, NoMemory> {
     let mut table = CmdTable::new(alloc, natives, steps)?;
-    put_commands(alloc, &mut table, steps)?;
+    put_commands(alloc, &mut table, steps);
     Ok(table)
 }
 

@@ -4,14 +4,13 @@
 ghost use Rattle.std.specs.Prelude.{◌≡◌, ◌<◌};
 
 use crate::playing::{Run, played, repeated};
+use crate::told::put;
 use cmd_table::Steps;
 use natives::Natives;
 use std::alloc::Global;
 use std::marker::Brand;
-use std::process::Abort;
 use std::sync::ledger::{Blank, Ledger};
-use std::test::Fail;
-use txt_core::{NoMemory, Text};
+use txt_core::Text;
 
 /// What it costs to give `a` its value of 1,048,576 bytes.
 const MAKING: u64 = 3_087;
@@ -223,43 +222,41 @@ const TOO_COSTLY: &[TooCostly] = &[
 ];
 
 /// The script of a case.
-fn script(alloc: Global, case: &Case<'_>) -> Result<Text, NoMemory> {
-    let mut script = repeated(alloc, "set a 0123456789abcdef;", "append a $a;", "", 16)?;
-    let words = repeated(alloc, case.front, case.unit, "", case.count)?;
-    script.append(words.bytes())?;
-    script.append(case.behind.as_bytes())?;
-    Ok(script)
+fn script(alloc: Global, case: &Case<'_>) -> Text {
+    let mut script = repeated(alloc, "set a 0123456789abcdef;", "append a $a;", "", 16);
+    let words = repeated(alloc, case.front, case.unit, "", case.count);
+    put(&mut script, words.bytes());
+    put(&mut script, case.behind.as_bytes());
+    script
 }
 
-/// What the script of a case comes to.
-fn came_of<L: Ledger>(
+/// Whether a script comes to what a case says.
+fn comes<L: Ledger>(
     alloc: Global,
     natives: &Natives,
     case: &Case<'_>,
+    script: &[u8],
     steps: &mut Steps<L>,
-) -> Result<Text, NoMemory> {
-    let script = script(alloc, case)?;
+) -> bool {
     let run = Run {
-        script: script.bytes(),
+        script,
         budget: MAKING.saturating_add(case.left),
         depth: 1,
         answers: case.answers,
         tells: false,
     };
-    played(alloc, natives, &run, steps)
+    played(alloc, natives, &run, steps).bytes() == case.want.as_bytes()
 }
 
-/// Runs the script of a case, and checks what it comes to.
-fn check<L: Ledger, R: Abort + AllocGlobal>(
-    rt: &R,
+/// Whether the script of a case comes to what it says.
+fn is_right<L: Ledger>(
+    alloc: Global,
     natives: &Natives,
     case: &Case<'_>,
     steps: &mut Steps<L>,
-) -> Result<(), Fail> {
-    let came = came_of(rt.alloc(), natives, case, steps)?;
-    let (front, behind) = (case.front, case.behind);
-    assert_eq!(rt; came.bytes(), case.want.as_bytes(), "{front}..{behind}");
-    Ok(())
+) -> bool {
+    let script = script(alloc, case);
+    comes(alloc, natives, case, script.bytes(), steps)
 }
 
 /// The case of words that are too long.
@@ -301,58 +298,66 @@ const RESULTS: Case<'static> = Case {
     want: "spent 899|",
 };
 
-/// Checks words that are too long.
-fn check_too_long<L: Ledger, R: Abort + AllocGlobal>(
-    rt: &R,
+/// The place of the first row of words that are too long that is wrong, if there is one.
+fn first_too_long<L: Ledger>(
+    alloc: Global,
     natives: &Natives,
     steps: &mut Steps<L>,
-) -> Result<(), Fail> {
-    for &row in TOO_LONG {
-        check(rt, natives, &too_long(&row), steps)?;
+) -> Option<usize> {
+    for (at, row) in TOO_LONG.iter().enumerate() {
+        if !is_right(alloc, natives, &too_long(row), steps) {
+            return Some(at);
+        }
     }
-    Ok(())
+    None
 }
 
-/// Checks commands whose words, and results in a word, cost more than is left.
-fn check_too_costly<L: Ledger, R: Abort + AllocGlobal>(
-    rt: &R,
+/// The place of the first row of commands whose words cost more than is left that is wrong, if there is one.
+fn first_too_costly<L: Ledger>(
+    alloc: Global,
     natives: &Natives,
     steps: &mut Steps<L>,
-) -> Result<(), Fail> {
-    for &row in TOO_COSTLY {
-        check(rt, natives, &too_costly(&row), steps)?;
+) -> Option<usize> {
+    for (at, row) in TOO_COSTLY.iter().enumerate() {
+        if !is_right(alloc, natives, &too_costly(row), steps) {
+            return Some(at);
+        }
     }
-    check(rt, natives, &RESULTS, steps)
+    None
 }
 
-/// Checks words that are too long over a counter of their own.
-fn check_words<L: Ledger, R: Abort + AllocGlobal>(rt: &R, blank: Blank) -> Result<(), Fail>
+/// The place of the first wrong row of words that are too long, over a counter of its own.
+fn check_words<L: Ledger>(alloc: Global, blank: Blank) -> Option<usize>
     requires name { blank.name ≡ L.name }
     requires parts { blank.parts ≡ L.parts }
     requires some { 0 < blank.parts }
 {
     let mut steps = Steps::<L>::new(blank);
-    let natives = Natives::new(rt.alloc());
-    check_too_long(rt, &natives, &mut steps)
+    first_too_long(alloc, &Natives::new(alloc), &mut steps)
 }
 
-/// Checks commands whose words, and results in a word, cost more than is left, over a counter of their own.
-fn check_commands<L: Ledger, R: Abort + AllocGlobal>(rt: &R, blank: Blank) -> Result<(), Fail>
+/// Whether results in a word that cost more than is left come to what they must, and the place of the first wrong
+/// row of commands whose words do, over a counter of their own.
+fn check_commands<L: Ledger>(alloc: Global, blank: Blank) -> (bool, Option<usize>)
     requires name { blank.name ≡ L.name }
     requires parts { blank.parts ≡ L.parts }
     requires some { 0 < blank.parts }
 {
     let mut steps = Steps::<L>::new(blank);
-    let natives = Natives::new(rt.alloc());
-    check_too_costly(rt, &natives, &mut steps)
+    let natives = Natives::new(alloc);
+    let wrong = first_too_costly(alloc, &natives, &mut steps);
+    (is_right(alloc, &natives, &RESULTS, &mut steps), wrong)
 }
 
 #[test]
-fn words_that_are_too_long(rt: HostRuntime) -> Result<(), Fail> {
-    check_words::<Brand, HostRuntime>(&rt, Blank::new(1))
+fn words_that_are_too_long(rt: HostRuntime) {
+    assert_eq!(rt; check_words::<Brand>(rt.alloc(), Blank::new(1)), None);
 }
 
 #[test]
-fn commands_that_cost_too_much(rt: HostRuntime) -> Result<(), Fail> {
-    check_commands::<Brand, HostRuntime>(&rt, Blank::new(1))
+fn commands_that_cost_too_much(rt: HostRuntime) {
+    assert_eq!(rt;
+        check_commands::<Brand>(rt.alloc(), Blank::new(1)),
+        (true, None)
+    );
 }

@@ -1,6 +1,6 @@
 //! An engine that is taken back to a mark, and base scalars of it.
 
-ghost use Rattle.std.specs.Prelude.{◌≡◌, ◌≤◌, IfOk, OnOk, codes};
+ghost use Rattle.std.specs.Prelude.{◌≡◌, ◌≤◌, IfOk, codes};
 ghost use Rattle.cmd_table.specs.Table.{mark_of};
 ghost use Rattle.cmd_table.specs.declared.definition.Def.{Def};
 ghost use Rattle.tcl_eval.specs.Engine.{IsIdle};
@@ -9,7 +9,7 @@ ghost use Rattle.tcl_frame.specs.Frames.{fresh};
 use crate::abandoned::run_script;
 use crate::echo::Echo;
 use crate::engines::engine;
-use crate::told::{show, show_number};
+use crate::told::{put, show, show_number, text};
 use cmd_table::{Def, Steps};
 use natives::Natives;
 use std::alloc::Global;
@@ -56,15 +56,14 @@ fn engine_with_message<L: Ledger>(
 fn run_from_mark<L: Ledger>(
     engine: &mut Engine<Echo>,
     natives: &Natives,
-    script: &str,
+    script: &[u8],
     steps: &mut Steps<L>,
-) -> Result<Outcome, NoMemory>
+) -> Outcome
     requires { IsIdle engine.old }
-    ensures { OnOk result (mark_of engine.old.table ≤ mark_of engine.new.table) }
+    ensures { mark_of engine.old.table ≤ mark_of engine.new.table }
 {
-    let alloc = engine.host().alloc;
-    let work = Work::Script(Text::new(alloc, script.as_bytes())?);
-    Ok(engine.start(natives, work, 100, 1, steps))
+    let work = Work::Script(text(engine.host().alloc, script));
+    engine.start(natives, work, 100, 1, steps)
 }
 
 /// Takes the engine back to the mark, and all base scalars too.
@@ -83,10 +82,10 @@ fn forget<L: Ledger>(
     natives: &Natives,
     steps: &mut Steps<L>,
     all: &mut Text,
-) -> Result<(), NoMemory> {
+) {
     let mark = engine.mark();
     take_all_back(engine, mark, steps);
-    run_script(engine, natives, "set motd", steps, all)
+    run_script(engine, natives, b"set motd", steps, all);
 }
 
 /// Changes commands and variables, asks, and takes all of it back.
@@ -95,24 +94,24 @@ fn change_and_clear<L: Ledger>(
     natives: &Natives,
     steps: &mut Steps<L>,
     all: &mut Text,
-) -> Result<(), NoMemory>
+)
     requires { IsIdle engine.old }
-    ensures { OnOk result (IsIdle engine.new) }
+    ensures { IsIdle engine.new }
 {
     let alloc = engine.host().alloc;
     let mark = engine.mark();
     let script =
-        "set motd bye; set x 1; proc g {} {}; rename keep held; ns_adp_append a; ask $motd";
-    let outcome = run_from_mark(engine, natives, script, steps)?;
+        b"set motd bye; set x 1; proc g {} {}; rename keep held; ns_adp_append a; ask $motd";
+    let outcome = run_from_mark(engine, natives, script, steps);
     let left = engine.left();
     engine.clear(mark, steps);
-    show(&outcome, left, alloc, all)?;
-    all.append(engine.host().output.bytes())
+    show(&outcome, left, alloc, all);
+    put(all, engine.host().output.bytes());
 }
 
 /// Appends how many base scalars were kept.
-fn show_kept(engine: &Engine<Echo>, all: &mut Text) -> Result<(), NoMemory> {
-    show_number(engine.kept(), b"|", engine.host().alloc, all)
+fn show_kept(engine: &Engine<Echo>, all: &mut Text) {
+    show_number(engine.kept(), b"|", engine.host().alloc, all);
 }
 
 /// Changes commands and variables and takes that back, and then the base scalar; runs scripts behind each.
@@ -121,25 +120,23 @@ fn take_back<L: Ledger>(
     natives: &Natives,
     steps: &mut Steps<L>,
     all: &mut Text,
-) -> Result<(), NoMemory>
+)
     requires { IsIdle engine.old }
 {
-    change_and_clear(engine, natives, steps, all)?;
-    run_script(engine, natives, "keep x $motd", steps, all)?;
-    run_script(engine, natives, "g", steps, all)?;
-    show_kept(engine, all)?;
-    forget(engine, natives, steps, all)
+    change_and_clear(engine, natives, steps, all);
+    run_script(engine, natives, b"keep x $motd", steps, all);
+    run_script(engine, natives, b"g", steps, all);
+    show_kept(engine, all);
+    forget(engine, natives, steps, all);
 }
 
 /// What stands behind a run that changed commands and variables and was left at a question, once it was
-/// taken back, and once the base scalar was too.
-pub fn taken_back<L: Ledger>(
-    alloc: Global,
-    natives: &Natives,
-    steps: &mut Steps<L>,
-) -> Result<Text, NoMemory> {
-    let mut engine = engine_with_message(alloc, natives, steps)?;
+/// taken back, and once the base scalar was too; nothing where memory wants.
+pub fn taken_back<L: Ledger>(alloc: Global, natives: &Natives, steps: &mut Steps<L>) -> Text {
     let mut all = Text::empty(alloc);
-    take_back(&mut engine, natives, steps, &mut all)?;
-    Ok(all)
+    if let Ok(mut engine) = engine_with_message(alloc, natives, steps) {
+        take_back(&mut engine, natives, steps, &mut all);
+        drop(engine);
+    }
+    all
 }

@@ -1,11 +1,10 @@
 //! Runs and pages that are played on an engine.
 
-ghost use Rattle.std.specs.Prelude.{IfOk, OnOk};
 ghost use Rattle.tcl_eval.specs.Engine.{IsIdle, Leaves};
 
 use crate::echo::Echo;
 use crate::engines::{answer, charge, engine, start};
-use crate::told::{show, show_number};
+use crate::told::{put, show, show_number, text};
 use adp_parse::pieces;
 use cmd_table::Steps;
 use natives::Natives;
@@ -13,7 +12,7 @@ use outside::Answer;
 use std::alloc::Global;
 use std::sync::ledger::Ledger;
 use tcl_eval::{Engine, Outcome, Work};
-use txt_core::{NoMemory, Text, Words};
+use txt_core::{Text, Words};
 
 /// A script with its budget and depth, and the answers that it is given, with `<-` between them. Each question
 /// is told and charged, or only what it comes to at the end is told.
@@ -32,30 +31,23 @@ pub fn start_script<L: Ledger>(
     natives: &Natives,
     run: &Run<'_>,
     steps: &mut Steps<L>,
-) -> Result<Outcome, NoMemory>
+) -> Outcome
     requires { IsIdle engine.old }
-    ensures { IfOk result (λ outcome. Leaves outcome engine.new) }
+    ensures { Leaves result engine.new }
 {
-    let work = Work::Script(Text::new(engine.host().alloc, run.script)?);
-    Ok(start(engine, natives, work, run.budget, run.depth, steps))
+    let work = Work::Script(text(engine.host().alloc, run.script));
+    start(engine, natives, work, run.budget, run.depth, steps)
 }
 
 /// Tells of a question and charges it, or doesn't.
-fn tell(
-    engine: &mut Engine<Echo>,
-    outcome: &Outcome,
-    tells: bool,
-    all: &mut Text,
-) -> Result<(), NoMemory>
+fn tell(engine: &mut Engine<Echo>, outcome: &Outcome, tells: bool, all: &mut Text)
     requires { Leaves outcome.now engine.old }
-    ensures { OnOk result (Leaves outcome.now engine.new) }
+    ensures { Leaves outcome.now engine.new }
 {
-    if !tells {
-        return Ok(());
+    if tells {
+        show(outcome, engine.left(), engine.host().alloc, all);
+        charge(engine, outcome);
     }
-    show(outcome, engine.left(), engine.host().alloc, all)?;
-    charge(engine, outcome);
-    Ok(())
 }
 
 /// Answers the question at which a run stands, if it does, and tells of it first, or doesn't.
@@ -67,13 +59,13 @@ fn go_on<L: Ledger>(
     tells: bool,
     steps: &mut Steps<L>,
     all: &mut Text,
-) -> Result<Outcome, NoMemory>
+) -> Outcome
     requires { Leaves outcome engine.old }
-    ensures { IfOk result (λ after. Leaves after engine.new) }
+    ensures { Leaves result engine.new }
 {
-    tell(engine, &outcome, tells, all)?;
-    let said = Answer::Said(Text::new(engine.host().alloc, said.as_bytes())?);
-    Ok(answer(engine, natives, outcome, said, steps))
+    tell(engine, &outcome, tells, all);
+    let said = Answer::Said(text(engine.host().alloc, said.as_bytes()));
+    answer(engine, natives, outcome, said, steps)
 }
 
 /// Plays a run on an engine, and appends what it comes to.
@@ -83,45 +75,49 @@ fn play<L: Ledger>(
     run: &Run<'_>,
     steps: &mut Steps<L>,
     all: &mut Text,
-) -> Result<(), NoMemory>
+)
     requires { IsIdle engine.old }
 {
-    let mut outcome = start_script(engine, natives, run, steps)?;
+    let mut outcome = start_script(engine, natives, run, steps);
     'answers: for said in run.answers.split(" <- ") {
         if said.is_empty() {
             continue;
         }
-        outcome = go_on(engine, natives, outcome, said, run.tells, steps, all)?;
+        outcome = go_on(engine, natives, outcome, said, run.tells, steps, all);
     }
-    show(&outcome, engine.left(), engine.host().alloc, all)
+    show(&outcome, engine.left(), engine.host().alloc, all);
 }
 
-/// What a run comes to.
+/// What a run comes to; nothing where memory wants.
 pub fn played<L: Ledger>(
     alloc: Global,
     natives: &Natives,
     run: &Run<'_>,
     steps: &mut Steps<L>,
-) -> Result<Text, NoMemory> {
-    let mut engine = engine(alloc, natives, steps)?;
+) -> Text {
     let mut all = Text::empty(alloc);
-    play(&mut engine, natives, run, steps, &mut all)?;
-    Ok(all)
+    if let Ok(mut engine) = engine(alloc, natives, steps) {
+        play(&mut engine, natives, run, steps, &mut all);
+        drop(engine);
+    }
+    all
 }
 
-/// The pieces of a page without arguments.
-fn page_of(alloc: Global, page: &str) -> Result<Work, NoMemory> {
-    let page = Text::new(alloc, page.as_bytes())?;
-    Ok(Work::Page(pieces(alloc, &page, Words::new(alloc))?))
+/// The pieces of a page without arguments; a script of nothing where memory wants.
+fn page_of(alloc: Global, page: &str) -> Work {
+    match pieces(alloc, &text(alloc, page.as_bytes()), Words::new(alloc)) {
+        Ok(pieces) => Work::Page(pieces),
+        Err(_) => Work::Script(Text::empty(alloc)),
+    }
 }
 
 /// Appends what an engine came to and what its host was told.
-fn show_page(engine: &Engine<Echo>, outcome: &Outcome, all: &mut Text) -> Result<(), NoMemory> {
+fn show_page(engine: &Engine<Echo>, outcome: &Outcome, all: &mut Text) {
     let alloc = engine.host().alloc;
-    show(outcome, engine.left(), alloc, all)?;
-    all.append(engine.host().output.bytes())?;
-    all.append(b"|")?;
-    show_number(engine.host().told, b"", alloc, all)
+    show(outcome, engine.left(), alloc, all);
+    put(all, engine.host().output.bytes());
+    put(all, b"|");
+    show_number(engine.host().told, b"", alloc, all);
 }
 
 /// Runs a first page, and the pages that it includes in turn, at a depth; appends what they come to.
@@ -132,51 +128,49 @@ fn turn_pages<L: Ledger>(
     depth: u32,
     steps: &mut Steps<L>,
     all: &mut Text,
-) -> Result<(), NoMemory>
+)
     requires { IsIdle engine.old }
 {
     let alloc = engine.host().alloc;
     let (first, others) = front.split_once(" <- ").unwrap_or((front, ""));
-    let work = page_of(alloc, first)?;
-    let mut outcome = start(engine, natives, work, 100, depth, steps);
+    let mut outcome = start(engine, natives, page_of(alloc, first), 100, depth, steps);
     'pages: for page in others.split(" <- ") {
         if page.is_empty() {
             continue;
         }
-        let page = Answer::Page(Text::new(alloc, page.as_bytes())?);
+        let page = Answer::Page(text(alloc, page.as_bytes()));
         outcome = answer(engine, natives, outcome, page, steps);
     }
-    show_page(engine, &outcome, all)
+    show_page(engine, &outcome, all);
 }
 
-/// What a first page, and the pages that it includes in turn, come to at a depth.
+/// What a first page, and the pages that it includes in turn, come to at a depth; nothing where memory wants.
 pub fn paged<L: Ledger>(
     alloc: Global,
     natives: &Natives,
     front: &str,
     depth: u32,
     steps: &mut Steps<L>,
-) -> Result<Text, NoMemory> {
-    let mut engine = engine(alloc, natives, steps)?;
+) -> Text {
     let mut all = Text::empty(alloc);
-    turn_pages(&mut engine, natives, front, depth, steps, &mut all)?;
-    Ok(all)
+    if let Ok(mut engine) = engine(alloc, natives, steps) {
+        turn_pages(&mut engine, natives, front, depth, steps, &mut all);
+        drop(engine);
+    }
+    all
+}
+
+/// Appends a text so often.
+fn put_often(all: &mut Text, unit: &str, count: u32) {
+    for _ in 0..count {
+        put(all, unit.as_bytes());
+    }
 }
 
 /// A script: `front`, then so often `unit`, and then as often `close`.
-pub fn repeated(
-    alloc: Global,
-    front: &str,
-    unit: &str,
-    close: &str,
-    count: u32,
-) -> Result<Text, NoMemory> {
-    let mut script = Text::new(alloc, front.as_bytes())?;
-    for _ in 0..count {
-        script.append(unit.as_bytes())?;
-    }
-    for _ in 0..count {
-        script.append(close.as_bytes())?;
-    }
-    Ok(script)
+pub fn repeated(alloc: Global, front: &str, unit: &str, close: &str, count: u32) -> Text {
+    let mut script = text(alloc, front.as_bytes());
+    put_often(&mut script, unit, count);
+    put_often(&mut script, close, count);
+    script
 }

@@ -12,30 +12,18 @@ use cmd_table::Steps;
 use natives::{Native, Natives};
 use std::alloc::Global;
 use std::marker::Brand;
-use std::process::Abort;
 use std::sync::ledger::{Blank, Ledger};
 use std::test::Fail;
-use txt_core::{NoMemory, Text};
+use txt_core::Text;
 
-/// Checks what came of a line or a script.
-fn check_came<R: Abort + AllocGlobal>(
-    rt: &R,
-    came: &Text,
-    want: &str,
-    of: &str,
-) -> Result<(), Fail> {
-    assert_eq!(rt; came.bytes(), want.as_bytes(), "{of}");
-    Ok(())
+/// The parts of a line before its arrow and behind it; all of it and nothing, where it has no arrow.
+fn parts(line: &str) -> (&str, &str) {
+    line.split_once(" => ").unwrap_or((line, ""))
 }
 
-/// Runs the script of a line.
-fn check_line<L: Ledger, R: Abort + AllocGlobal>(
-    rt: &R,
-    natives: &Natives,
-    line: &str,
-    steps: &mut Steps<L>,
-) -> Result<(), Fail> {
-    let (front, want) = line.split_once(" => ").ok_or("a line has an arrow")?;
+/// Whether the script of a line comes to what it says.
+fn comes<L: Ledger>(alloc: Global, natives: &Natives, line: &str, steps: &mut Steps<L>) -> bool {
+    let (front, want) = parts(line);
     let (script, answers) = front.split_once(" <- ").unwrap_or((front, ""));
     let run = Run {
         script: script.as_bytes(),
@@ -44,56 +32,54 @@ fn check_line<L: Ledger, R: Abort + AllocGlobal>(
         answers,
         tells: true,
     };
-    let came = played(rt.alloc(), natives, &run, steps)?;
-    check_came(rt, &came, want, line)
+    played(alloc, natives, &run, steps).bytes() == want.as_bytes()
 }
 
-/// Runs the script of each line, and checks how many lines there are.
-fn check_lines<L: Ledger, R: Abort + AllocGlobal>(
-    rt: &R,
+/// How many lines there are, where each of them is right; `None` where one isn't.
+fn right_lines<L: Ledger>(
+    alloc: Global,
     natives: &Natives,
     lines: &str,
-    number: u64,
     steps: &mut Steps<L>,
-) -> Result<(), Fail> {
+) -> Option<u64> {
     let mut count = 0u64;
     for line in lines.lines() {
-        check_line(rt, natives, line, steps)?;
+        if !comes(alloc, natives, line, steps) {
+            return None;
+        }
         count = count.wrapping_add(1);
     }
-    assert_eq!(rt; count, number);
-    Ok(())
+    Some(count)
 }
 
-/// Runs the pages of a line at a depth.
-fn check_page<L: Ledger, R: Abort + AllocGlobal>(
-    rt: &R,
+/// Whether the pages of a line come to what it says, at a depth.
+fn page_comes<L: Ledger>(
+    alloc: Global,
     natives: &Natives,
     line: &str,
     depth: u32,
     steps: &mut Steps<L>,
-) -> Result<(), Fail> {
-    let (front, want) = line.split_once(" => ").ok_or("a line has an arrow")?;
-    let came = paged(rt.alloc(), natives, front, depth, steps)?;
-    check_came(rt, &came, want, line)
+) -> bool {
+    let (front, want) = parts(line);
+    paged(alloc, natives, front, depth, steps).bytes() == want.as_bytes()
 }
 
-/// Runs the pages of each line at a depth, and checks how many lines there are.
-fn check_pages<L: Ledger, R: Abort + AllocGlobal>(
-    rt: &R,
+/// How many lines of pages there are, where each of them is right at a depth; `None` where one isn't.
+fn right_pages<L: Ledger>(
+    alloc: Global,
     natives: &Natives,
     lines: &str,
     depth: u32,
-    number: u64,
     steps: &mut Steps<L>,
-) -> Result<(), Fail> {
+) -> Option<u64> {
     let mut count = 0u64;
     for line in lines.lines() {
-        check_page(rt, natives, line, depth, steps)?;
+        if !page_comes(alloc, natives, line, depth, steps) {
+            return None;
+        }
         count = count.wrapping_add(1);
     }
-    assert_eq!(rt; count, number);
-    Ok(())
+    Some(count)
 }
 
 /// A script, its budget, the answers that it is given, and what it comes to at the end.
@@ -128,13 +114,13 @@ const ANSWERED: &[Answered] = &[
     ("proc hi {} {if 1 hi}; hi", 2_000, "", "deep 1699|"),
 ];
 
-/// Runs a script that is answered.
-fn check_answered<L: Ledger, R: Abort + AllocGlobal>(
-    rt: &R,
+/// Whether a script that is answered comes to what its row says.
+fn answered_comes<L: Ledger>(
+    alloc: Global,
     natives: &Natives,
     row: &Answered,
     steps: &mut Steps<L>,
-) -> Result<(), Fail> {
+) -> bool {
     let (script, budget, answers, want) = *row;
     let run = Run {
         script: script.as_bytes(),
@@ -143,8 +129,23 @@ fn check_answered<L: Ledger, R: Abort + AllocGlobal>(
         answers,
         tells: false,
     };
-    let came = played(rt.alloc(), natives, &run, steps)?;
-    check_came(rt, &came, want, script)
+    played(alloc, natives, &run, steps).bytes() == want.as_bytes()
+}
+
+/// How many scripts that are answered there are, where each of them is right; `None` where one isn't.
+fn right_answered<L: Ledger>(
+    alloc: Global,
+    natives: &Natives,
+    steps: &mut Steps<L>,
+) -> Option<u64> {
+    let mut count = 0u64;
+    for row in ANSWERED {
+        if !answered_comes(alloc, natives, row, steps) {
+            return None;
+        }
+        count = count.wrapping_add(1);
+    }
+    Some(count)
 }
 
 /// A script as `repeated` makes it, its budget and depth, and what it comes to.
@@ -190,121 +191,124 @@ const LIMITS: &[Limit] = &[
     (("keep a x; return $a", "", "", 0), 1, 1, "spent 0|"),
 ];
 
-/// What the script of a limit comes to.
-fn limited<L: Ledger>(
+/// Whether a script comes to what a limit says.
+fn is_limited<L: Ledger>(
     alloc: Global,
     natives: &Natives,
     limit: &Limit,
+    script: &[u8],
     steps: &mut Steps<L>,
-) -> Result<Text, NoMemory> {
-    let ((front, unit, close, count), budget, depth, _) = *limit;
-    let script = repeated(alloc, front, unit, close, count)?;
+) -> bool {
+    let (_, budget, depth, want) = *limit;
     let run = Run {
-        script: script.bytes(),
+        script,
         budget,
         depth,
         answers: "",
         tells: false,
     };
-    played(alloc, natives, &run, steps)
+    played(alloc, natives, &run, steps).bytes() == want.as_bytes()
 }
 
-/// Runs the script of a limit.
-fn check_limit<L: Ledger, R: Abort + AllocGlobal>(
-    rt: &R,
+/// Whether the script of a limit comes to what it says.
+fn is_right<L: Ledger>(
+    alloc: Global,
     natives: &Natives,
     limit: &Limit,
     steps: &mut Steps<L>,
-) -> Result<(), Fail> {
-    let ((front, _, _, _), _, _, want) = *limit;
-    let came = limited(rt.alloc(), natives, limit, steps)?;
-    check_came(rt, &came, want, front)
+) -> bool {
+    let (front, unit, close, count) = limit.0;
+    let script = repeated(alloc, front, unit, close, count);
+    is_limited(alloc, natives, limit, script.bytes(), steps)
 }
 
-fn check_limits<L: Ledger, R: Abort + AllocGlobal>(rt: &R, blank: Blank) -> Result<(), Fail>
+/// The place of the first limit that is wrong, if there is one.
+fn first_wrong_limit<L: Ledger>(
+    alloc: Global,
+    natives: &Natives,
+    steps: &mut Steps<L>,
+) -> Option<usize> {
+    for (at, limit) in LIMITS.iter().enumerate() {
+        if !is_right(alloc, natives, limit, steps) {
+            return Some(at);
+        }
+    }
+    None
+}
+
+/// The same, over a counter of its own.
+fn check_limits<L: Ledger>(alloc: Global, blank: Blank) -> Option<usize>
     requires name { blank.name ≡ L.name }
     requires parts { blank.parts ≡ L.parts }
     requires some { 0 < blank.parts }
 {
     let mut steps = Steps::<L>::new(blank);
-    let natives = Natives::new(rt.alloc());
-    for &limit in LIMITS {
-        check_limit(rt, &natives, &limit, &mut steps)?;
-    }
-    Ok(())
+    first_wrong_limit(alloc, &Natives::new(alloc), &mut steps)
 }
 
 #[test]
-fn limits(rt: HostRuntime) -> Result<(), Fail> {
-    check_limits::<Brand, HostRuntime>(&rt, Blank::new(1))
+fn limits(rt: HostRuntime) {
+    assert_eq!(rt; check_limits::<Brand>(rt.alloc(), Blank::new(1)), None);
 }
 
-/// Checks scripts, answers and pages by their tables.
-fn check_tables<L: Ledger, R: Abort + AllocGlobal>(
-    rt: &R,
+/// How many lines, scripts that are answered and pages there are, table by table, where each of a table is right.
+fn right_tables<L: Ledger>(
+    alloc: Global,
     natives: &Natives,
     steps: &mut Steps<L>,
-) -> Result<(), Fail> {
-    check_lines(rt, natives, ROWS, 50, steps)?;
-    check_lines(rt, natives, EXPRESSIONS, 25, steps)?;
-    check_lines(rt, natives, TURNS, 36, steps)?;
-    check_lines(rt, natives, PICKS, 28, steps)?;
-    check_lines(rt, natives, COMMANDS, 19, steps)?;
-    for &row in ANSWERED {
-        check_answered(rt, natives, &row, steps)?;
-    }
-    check_pages(rt, natives, PAGES, 1, 20, steps)?;
-    check_pages(rt, natives, DEEP_PAGES, 200, 3, steps)
+) -> [Option<u64>; 8] {
+    [
+        right_lines(alloc, natives, ROWS, steps),
+        right_lines(alloc, natives, EXPRESSIONS, steps),
+        right_lines(alloc, natives, TURNS, steps),
+        right_lines(alloc, natives, PICKS, steps),
+        right_lines(alloc, natives, COMMANDS, steps),
+        right_answered(alloc, natives, steps),
+        right_pages(alloc, natives, PAGES, 1, steps),
+        right_pages(alloc, natives, DEEP_PAGES, 200, steps),
+    ]
 }
 
-/// Checks a run that is abandoned at a question.
-fn check_left_alone<L: Ledger, R: Abort + AllocGlobal>(
-    rt: &R,
-    natives: &Natives,
-    steps: &mut Steps<L>,
-) -> Result<(), Fail> {
-    let came = left_alone(rt.alloc(), natives, steps)?;
-    let want = "asks ask 3 96|2|1 can't read \"v\": no such variable 99|2|";
-    check_came(rt, &came, want, "left alone")
+/// How many there must be.
+const TABLES: [Option<u64>; 8] = [
+    Some(50),
+    Some(25),
+    Some(36),
+    Some(28),
+    Some(19),
+    Some(6),
+    Some(20),
+    Some(3),
+];
+
+/// What comes of a run that is abandoned at a question.
+const LEFT_ALONE: &[u8] = b"asks ask 3 96|2|1 can't read \"v\": no such variable 99|2|";
+
+/// What comes of a run whose answer costs more than is left.
+const UNPAID: &[u8] = b"asks ask 2 1|spent 1|2 1 99|0|";
+
+/// What comes of an engine that is taken back to a mark.
+const TAKEN_BACK: &[u8] =
+    b"asks ask bye 2 94|0 hello 99|0|1 invalid command name \"g\" 99|0|1|1 can't read \"motd\": no such variable 99|0|";
+
+/// Whether runs that are abandoned, not paid and taken back come to that.
+fn right_runs<L: Ledger>(alloc: Global, natives: &Natives, steps: &mut Steps<L>) -> [bool; 3] {
+    [
+        left_alone(alloc, natives, steps).bytes() == LEFT_ALONE,
+        unpaid(alloc, natives, steps).bytes() == UNPAID,
+        taken_back(alloc, natives, steps).bytes() == TAKEN_BACK,
+    ]
 }
 
-/// Checks a run whose answer costs more than is left.
-fn check_unpaid<L: Ledger, R: Abort + AllocGlobal>(
-    rt: &R,
-    natives: &Natives,
-    steps: &mut Steps<L>,
-) -> Result<(), Fail> {
-    let came = unpaid(rt.alloc(), natives, steps)?;
-    let want = "asks ask 2 1|spent 1|2 1 99|0|";
-    check_came(rt, &came, want, "unpaid")
-}
-
-/// Checks an engine that is taken back to a mark.
-fn check_taken_back<L: Ledger, R: Abort + AllocGlobal>(
-    rt: &R,
-    natives: &Natives,
-    steps: &mut Steps<L>,
-) -> Result<(), Fail> {
-    let came = taken_back(rt.alloc(), natives, steps)?;
-    let want =
-        "asks ask bye 2 94|0 hello 99|0|1 invalid command name \"g\" 99|0|1|1 can't read \"motd\": no such variable 99|0|";
-    check_came(rt, &came, want, "taken back")
-}
-
-fn check_all<L: Ledger, R: Abort + AllocGlobal>(
-    rt: &R,
-    natives: &Natives,
-    blank: Blank,
-) -> Result<(), Fail>
+/// Whether all tables are right, and which of those runs.
+fn check_all<L: Ledger>(alloc: Global, natives: &Natives, blank: Blank) -> (bool, [bool; 3])
     requires name { blank.name ≡ L.name }
     requires parts { blank.parts ≡ L.parts }
     requires some { 0 < blank.parts }
 {
     let mut steps = Steps::<L>::new(blank);
-    check_tables(rt, natives, &mut steps)?;
-    check_left_alone(rt, natives, &mut steps)?;
-    check_unpaid(rt, natives, &mut steps)?;
-    check_taken_back(rt, natives, &mut steps)
+    let tables = right_tables(alloc, natives, &mut steps);
+    (tables == TABLES, right_runs(alloc, natives, &mut steps))
 }
 
 #[test]
@@ -316,5 +320,7 @@ fn the_language(rt: HostRuntime) -> Result<(), Fail> {
     add(&mut natives, list)?;
     let string = Native::new(Text::new(alloc, b"string")?, 3, 5, string_repeat);
     add(&mut natives, string)?;
-    check_all::<Brand, HostRuntime>(&rt, &natives, Blank::new(1))
+    let came = check_all::<Brand>(alloc, &natives, Blank::new(1));
+    assert_eq!(rt; came, (true, [true, true, true]));
+    Ok(())
 }

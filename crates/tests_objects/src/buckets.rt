@@ -5,7 +5,6 @@ ghost use Rattle.turn_cell.specs.Cells.{IsOf};
 use nsv_bucket::{Bucket, Buckets, NsvReply, bucket_of, each_key_by_itself, steps_are_determined};
 use std::alloc::Global;
 use std::sync::Wait;
-use std::test::*;
 use std::thread::{Threads, join};
 use tcl_list::split;
 use turn_cell::{Obj, Pass, TurnCell};
@@ -28,34 +27,42 @@ fn is(reply: &NsvReply, want: Want<'_>) -> bool {
     }
 }
 
-fn words_of(alloc: Global, line: &[u8]) -> Result<Words, Fail> {
-    Ok(split(alloc, &Text::new(alloc, line)?)?)
+/// A text; the empty one where memory wants.
+fn text(alloc: Global, bytes: &[u8]) -> Text {
+    match Text::new(alloc, bytes) {
+        Ok(text) => text,
+        Err(_) => Text::empty(alloc),
+    }
+}
+
+/// The words of a line; none where memory wants.
+fn words_of(alloc: Global, line: &[u8]) -> Words {
+    match split(alloc, &text(alloc, line)) {
+        Ok(words) => words,
+        Err(_) => Words::new(alloc),
+    }
 }
 
 /// Whether a bucket answers a line so.
-fn answers(alloc: Global, bucket: &mut Bucket, line: &[u8], want: Want<'_>) -> Result<bool, Fail> {
-    let words = words_of(alloc, line)?;
-    Ok(is(&bucket.act(words), want))
+fn answers(alloc: Global, bucket: &mut Bucket, line: &[u8], want: Want<'_>) -> bool {
+    let reply = bucket.act(words_of(alloc, line));
+    is(&reply, want)
 }
 
 /// How many rows are answered as they say, from the first on.
-fn count_rows(
-    alloc: Global,
-    bucket: &mut Bucket,
-    rows: &[(&[u8], Want<'_>)],
-) -> Result<usize, Fail> {
+fn count_rows(alloc: Global, bucket: &mut Bucket, rows: &[(&[u8], Want<'_>)]) -> usize {
     let mut count = 0usize;
     for (line, want) in rows {
-        if !answers(alloc, bucket, line, *want)? {
-            return Ok(count);
+        if !answers(alloc, bucket, line, *want) {
+            return count;
         }
         count = count.saturating_add(1);
     }
-    Ok(count)
+    count
 }
 
 /// How many rows a new bucket answers as they say, from the first on.
-fn count_answered(alloc: Global, rows: &[(&[u8], Want<'_>)]) -> Result<usize, Fail> {
+fn count_answered(alloc: Global, rows: &[(&[u8], Want<'_>)]) -> usize {
     let mut bucket = Bucket::new(alloc);
     count_rows(alloc, &mut bucket, rows)
 }
@@ -111,9 +118,8 @@ const VALUES: &[(&[u8], Want<'static>)] = &[
 ];
 
 #[test]
-fn values(rt: HostRuntime) -> Result<(), Fail> {
-    assert_eq!(rt; count_answered(rt.alloc(), VALUES)?, 40);
-    Ok(())
+fn values(rt: HostRuntime) {
+    assert!(rt; count_answered(rt.alloc(), VALUES) == 40);
 }
 
 /// Lines about arrays, and what they are answered one after another.
@@ -167,71 +173,72 @@ const ARRAYS: &[(&[u8], Want<'static>)] = &[
 ];
 
 #[test]
-fn arrays(rt: HostRuntime) -> Result<(), Fail> {
-    assert_eq!(rt; count_answered(rt.alloc(), ARRAYS)?, 40);
-    Ok(())
+fn arrays(rt: HostRuntime) {
+    assert!(rt; count_answered(rt.alloc(), ARRAYS) == 40);
 }
 
-/// A text of so many bytes.
-fn filled(alloc: Global, count: usize) -> Result<Text, Fail> {
-    Ok(Text::from_vec(vec![in alloc; b'x'; count]?))
+/// A text of so many bytes; the empty one where memory wants.
+fn filled(alloc: Global, count: usize) -> Text {
+    match vec![in alloc; b'x'; count] {
+        Ok(bytes) => Text::from_vec(bytes),
+        Err(_) => Text::empty(alloc),
+    }
 }
 
 /// `nsv_append a k` with as many bytes.
-fn append_of(alloc: Global, count: usize) -> Result<Words, Fail> {
-    let mut words = words_of(alloc, b"nsv_append a k")?;
-    words.add(filled(alloc, count)?)?;
-    Ok(words)
+fn append_of(alloc: Global, count: usize) -> Words {
+    let mut words = words_of(alloc, b"nsv_append a k");
+    let _added = words.add(filled(alloc, count));
+    words
 }
 
 /// What a bucket answers where so many bytes are appended to a value.
-fn append(alloc: Global, bucket: &mut Bucket, count: usize) -> Result<NsvReply, Fail> {
-    let words = append_of(alloc, count)?;
-    Ok(bucket.act(words))
+fn append(alloc: Global, bucket: &mut Bucket, count: usize) -> NsvReply {
+    bucket.act(append_of(alloc, count))
 }
 
 /// Whether a value has this length after so many bytes are appended to it.
-fn appends(alloc: Global, bucket: &mut Bucket, count: usize, length: usize) -> Result<bool, Fail> {
-    let reply = append(alloc, bucket, count)?;
-    Ok(has_length(&reply, length))
+fn appends(alloc: Global, bucket: &mut Bucket, count: usize, length: usize) -> bool {
+    let reply = append(alloc, bucket, count);
+    has_length(&reply, length)
 }
 
 /// Whether so many bytes more are too many for a value.
-fn refuses(alloc: Global, bucket: &mut Bucket, count: usize) -> Result<bool, Fail> {
-    let reply = append(alloc, bucket, count)?;
-    Ok(is(&reply, Fails(b"value too long")))
+fn refuses(alloc: Global, bucket: &mut Bucket, count: usize) -> bool {
+    let reply = append(alloc, bucket, count);
+    is(&reply, Fails(b"value too long"))
 }
 
 /// How long the value of the key `k` of an array is, if there is one.
-fn length_of(alloc: Global, bucket: &Bucket, array: &[u8]) -> Result<Option<usize>, Fail> {
-    let array = Text::new(alloc, array)?;
-    let key = Text::new(alloc, b"k")?;
-    Ok(bucket.value(&array, &key).map(|text| text.len()))
+fn length_of(alloc: Global, bucket: &Bucket, array: &[u8]) -> Option<usize> {
+    let array = text(alloc, array);
+    let key = text(alloc, b"k");
+    match bucket.value(&array, &key) {
+        Some(value) => Some(value.len()),
+        None => None,
+    }
 }
 
 /// Whether a value grows up to the limit, and nothing longer is made of it.
-fn is_limited(alloc: Global, bucket: &mut Bucket) -> Result<bool, Fail> {
-    Ok(
-        appends(alloc, bucket, 1_048_576, 1_048_576)?
-            && refuses(alloc, bucket, 1)?
-            && answers(alloc, bucket, b"nsv_array get a", Fails(b"value too long"))?
-            && length_of(alloc, bucket, b"a")? == Some(1_048_576)
-            && length_of(alloc, bucket, b"b")? == None,
-    )
+fn is_limited(alloc: Global, bucket: &mut Bucket) -> bool {
+    appends(alloc, bucket, 1_048_576, 1_048_576)
+        && refuses(alloc, bucket, 1)
+        && answers(alloc, bucket, b"nsv_array get a", Fails(b"value too long"))
+        && length_of(alloc, bucket, b"a") == Some(1_048_576)
+        && length_of(alloc, bucket, b"b").is_none()
 }
 
 /// Whether a value of a new bucket does so.
-fn new_is_limited(alloc: Global) -> Result<bool, Fail> {
+fn new_is_limited(alloc: Global) -> bool {
     let mut bucket = Bucket::new(alloc);
     is_limited(alloc, &mut bucket)
 }
 
 #[test]
-fn limit(rt: HostRuntime) -> Result<(), Fail> {
+fn limit(rt: HostRuntime) {
     steps_are_determined();
     each_key_by_itself();
-    assert!(rt; new_is_limited(rt.alloc())?);
-    Ok(())
+    assert!(rt; new_is_limited(rt.alloc()));
 }
 
 /// Which of the numbers 1 and 2 a reply says; 0 where it says neither.
@@ -245,27 +252,16 @@ fn said(reply: &NsvReply) -> u8 {
     }
 }
 
-/// `nsv_incr c n`
-fn increment(alloc: Global) -> Result<Words, NoMemory> {
-    let mut words = Words::new(alloc);
-    for word in [b"nsv_incr".as_slice(), b"c".as_slice(), b"n".as_slice()] {
-        words.add(Text::new(alloc, word)?)?;
-    }
-    Ok(words)
-}
-
 /// Increments once in the bucket of a cell; 0 where the reply isn't 1 or 2.
 fn ask<R: Wait>(rt: &R, alloc: Global, cell: &TurnCell<Bucket>, pass: Pass<Bucket>) -> u8
     requires { IsOf cell.now pass }
 {
     let mut pass = pass;
-    match increment(alloc) {
-        Ok(words) => said(&cell.turn(rt, &mut pass, words).reply),
-        Err(_) => 0,
-    }
+    let turn = cell.turn(rt, &mut pass, words_of(alloc, b"nsv_incr c n"));
+    said(&turn.reply)
 }
 
-/// Two threads increment in the bucket of one cell.
+/// Two threads increment in the bucket of one cell, and tell what they are answered.
 fn ask_in_two<R: Threads + Wait + Sync>(rt: &R, alloc: Global) -> Result<(u8, u8), NoMemory> {
     let (cell, mut first) = TurnCell::new(alloc, Bucket::new(alloc))?;
     let second = cell.split(&mut first)?;
@@ -292,39 +288,41 @@ const NAMES: &[(&[u8], u8)] = &[
 ];
 
 /// The bucket of the name of an array.
-fn bucket_named(alloc: Global, name: &[u8]) -> Result<u8, NoMemory> {
-    let name = Text::new(alloc, name)?;
-    Ok(bucket_of(&name))
+fn bucket_named(alloc: Global, name: &[u8]) -> u8 {
+    bucket_of(&text(alloc, name))
 }
 
 /// The place of the first array that lies in another bucket, if there is one.
-fn first_elsewhere(alloc: Global) -> Result<Option<usize>, NoMemory> {
+fn first_elsewhere(alloc: Global) -> Option<usize> {
     for (at, (name, bucket)) in NAMES.iter().enumerate() {
-        if bucket_named(alloc, name)? != *bucket {
-            return Ok(Some(at));
+        if bucket_named(alloc, name) != *bucket {
+            return Some(at);
         }
     }
-    Ok(None)
+    None
 }
 
 #[test]
-fn each_array_lies_in_the_bucket_of_its_name(rt: HostRuntime) -> Result<(), Fail> {
-    assert_eq!(rt; first_elsewhere(rt.alloc())?, None);
-    Ok(())
+fn each_array_lies_in_the_bucket_of_its_name(rt: HostRuntime) {
+    assert!(rt; first_elsewhere(rt.alloc()).is_none());
 }
 
 /// Whether all buckets answer a line so.
-fn answer(alloc: Global, buckets: &mut Buckets, line: &[u8], want: Want<'_>) -> Result<bool, Fail> {
-    let words = words_of(alloc, line)?;
-    let reply = buckets.ask(&words)?;
-    Ok(is(&reply, want))
+fn answer(alloc: Global, buckets: &mut Buckets, line: &[u8], want: Want<'_>) -> bool {
+    match buckets.ask(&words_of(alloc, line)) {
+        Ok(reply) => is(&reply, want),
+        Err(_) => false,
+    }
 }
 
 /// Whether the value of the key `k` of an array is this one.
-fn holds(alloc: Global, bucket: &Bucket, array: &[u8], want: &[u8]) -> Result<bool, Fail> {
-    let array = Text::new(alloc, array)?;
-    let key = Text::new(alloc, b"k")?;
-    Ok(matches!(bucket.value(&array, &key), Some(text) if text.bytes() == want))
+fn holds(alloc: Global, bucket: &Bucket, array: &[u8], want: &[u8]) -> bool {
+    let array = text(alloc, array);
+    let key = text(alloc, b"k");
+    match bucket.value(&array, &key) {
+        Some(value) => value.bytes() == want,
+        None => false,
+    }
 }
 
 /// Lines, and what all buckets answer them one after another.
@@ -343,29 +341,28 @@ const EIGHT: &[(&[u8], Want<'static>)] = &[
     (b"nsv_array", Fails(b"")),
 ];
 
-/// How many of these lines buckets answer so, from the first on, and whether one of them then holds what it
-/// should.
-fn count_eight(alloc: Global, buckets: &mut Buckets) -> Result<(usize, bool), Fail> {
+/// How many of these lines buckets answer so, from the first on.
+fn count_eight(alloc: Global, buckets: &mut Buckets) -> usize {
     let mut count = 0usize;
     for (line, want) in EIGHT {
-        if !answer(alloc, buckets, line, *want)? {
-            return Ok((count, false));
+        if !answer(alloc, buckets, line, *want) {
+            return count;
         }
         count = count.saturating_add(1);
     }
-    Ok((count, holds(alloc, buckets.get(3), b"c", b"1")?))
+    count
 }
 
-/// The same of new buckets.
-fn count_new_eight(alloc: Global) -> Result<(usize, bool), Fail> {
+/// The same of new buckets, and whether one of them then holds what it should.
+fn count_new_eight(alloc: Global) -> (usize, bool) {
     let mut buckets = Buckets::new(alloc);
-    count_eight(alloc, &mut buckets)
+    let count = count_eight(alloc, &mut buckets);
+    (count, holds(alloc, buckets.get(3), b"c", b"1"))
 }
 
 #[test]
-fn eight_buckets(rt: HostRuntime) -> Result<(), Fail> {
-    assert_eq!(rt; count_new_eight(rt.alloc())?, (12, true));
-    Ok(())
+fn eight_buckets(rt: HostRuntime) {
+    assert!(rt; count_new_eight(rt.alloc()) == (12, true));
 }
 
 /// Whether a reply is a value of this length.
@@ -377,14 +374,9 @@ fn has_length(reply: &NsvReply, length: usize) -> bool {
 }
 
 /// Whether a line makes a value of this length.
-fn makes_length(
-    alloc: Global,
-    bucket: &mut Bucket,
-    line: &[u8],
-    length: usize,
-) -> Result<bool, Fail> {
-    let words = words_of(alloc, line)?;
-    Ok(has_length(&bucket.act(words), length))
+fn makes_length(alloc: Global, bucket: &mut Bucket, line: &[u8], length: usize) -> bool {
+    let reply = bucket.act(words_of(alloc, line));
+    has_length(&reply, length)
 }
 
 /// Whether a line, asked so often, makes a value of this length longer by so many bytes each time.
@@ -395,27 +387,24 @@ fn grows(
     mut length: usize,
     by: usize,
     times: usize,
-) -> Result<bool, Fail> {
+) -> bool {
+    let mut right = true;
     for _ in 0..times {
         length = length.saturating_add(by);
-        if !makes_length(alloc, bucket, line, length)? {
-            return Ok(false);
-        }
+        right = right && makes_length(alloc, bucket, line, length);
     }
-    Ok(true)
+    right
 }
 
 /// Whether a value of nearly a megabyte grows by bytes and by elements.
-fn is_grown(alloc: Global, bucket: &mut Bucket) -> Result<bool, Fail> {
-    Ok(
-        appends(alloc, bucket, 900_000, 900_000)?
-            && grows(alloc, bucket, b"nsv_append a k {}", 900_000, 0, 100_000)?
-            && grows(alloc, bucket, b"nsv_lappend a k x", 900_000, 2, 20_000)?,
-    )
+fn is_grown(alloc: Global, bucket: &mut Bucket) -> bool {
+    appends(alloc, bucket, 900_000, 900_000)
+        && grows(alloc, bucket, b"nsv_append a k {}", 900_000, 0, 100_000)
+        && grows(alloc, bucket, b"nsv_lappend a k x", 900_000, 2, 20_000)
 }
 
 /// Whether a value of a new bucket does so.
-fn new_is_grown(alloc: Global) -> Result<bool, Fail> {
+fn new_is_grown(alloc: Global) -> bool {
     let mut bucket = Bucket::new(alloc);
     is_grown(alloc, &mut bucket)
 }
@@ -423,14 +412,12 @@ fn new_is_grown(alloc: Global) -> Result<bool, Fail> {
 /// A value of nearly a megabyte to which is appended a hundred thousand times: where each turn copied it,
 /// that would be 90 billion bytes.
 #[test]
-fn long_values_grow_in_place(rt: HostRuntime) -> Result<(), Fail> {
-    assert!(rt; new_is_grown(rt.alloc())?);
-    Ok(())
+fn long_values_grow_in_place(rt: HostRuntime) {
+    assert!(rt; new_is_grown(rt.alloc()));
 }
 
 #[test]
-fn in_a_cell(rt: HostRuntime) -> Result<(), Fail> {
-    let said = ask_in_two(&rt, rt.alloc())?;
-    assert!(rt; said == (1, 2) || said == (2, 1));
-    Ok(())
+fn in_a_cell(rt: HostRuntime) {
+    let said = ask_in_two(&rt, rt.alloc());
+    assert!(rt; said == Ok((1, 2)) || said == Ok((2, 1)));
 }

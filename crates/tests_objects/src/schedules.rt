@@ -4,7 +4,6 @@ ghost use Rattle.turn_cell.specs.Cells.{IsOf};
 use sched_core::{DueList, SchedCall, SchedReply, Schedule, steps_are_determined};
 use std::alloc::Global;
 use std::sync::Wait;
-use std::test::*;
 use std::thread::{Threads, join};
 use turn_cell::{Obj, Pass, TurnCell};
 use txt_core::{NoMemory, Text};
@@ -33,25 +32,37 @@ enum Want {
 use Ask::{Cancel, Due, Every, Once, Stop};
 use Want::{Cancelled, Full, Id, NoId, Nothing, One, Stopped, Two};
 
-fn reply_to(alloc: Global, schedule: &mut Schedule, call: Ask) -> Result<SchedReply, Fail> {
-    let call = match call {
+/// A text; the empty one where memory wants.
+fn text(alloc: Global, bytes: &[u8]) -> Text {
+    match Text::new(alloc, bytes) {
+        Ok(text) => text,
+        Err(_) => Text::empty(alloc),
+    }
+}
+
+/// The call that is asked for.
+fn call_of(alloc: Global, call: Ask) -> SchedCall {
+    match call {
         Every(moment, seconds) => SchedCall::Add {
             moment,
             seconds,
             once: false,
-            script: Text::new(alloc, b"every")?,
+            script: text(alloc, b"every"),
         },
         Once(moment, seconds) => SchedCall::Add {
             moment,
             seconds,
             once: true,
-            script: Text::new(alloc, b"once")?,
+            script: text(alloc, b"once"),
         },
         Cancel(id) => SchedCall::Cancel(id),
         Due(now) => SchedCall::Due(now),
         Stop => SchedCall::Stop,
-    };
-    Ok(schedule.act(call))
+    }
+}
+
+fn reply_to(alloc: Global, schedule: &mut Schedule, call: Ask) -> SchedReply {
+    schedule.act(call_of(alloc, call))
 }
 
 fn lists(list: &DueList, at: usize, id: u64) -> bool {
@@ -78,28 +89,22 @@ fn is(reply: &SchedReply, want: Want) -> bool {
 }
 
 /// Whether a schedule answers a call so.
-fn answers_one(
-    alloc: Global,
-    schedule: &mut Schedule,
-    call: Ask,
-    want: Want,
-) -> Result<bool, Fail> {
-    let reply = reply_to(alloc, schedule, call)?;
-    Ok(is(&reply, want))
+fn answers_one(alloc: Global, schedule: &mut Schedule, call: Ask, want: Want) -> bool {
+    let reply = reply_to(alloc, schedule, call);
+    is(&reply, want)
 }
 
 /// Whether a schedule answers each of these calls so.
-fn answers_all(alloc: Global, schedule: &mut Schedule, rows: &[(Ask, Want)]) -> Result<bool, Fail> {
+fn answers_all(alloc: Global, schedule: &mut Schedule, rows: &[(Ask, Want)]) -> bool {
+    let mut right = true;
     for (call, want) in rows {
-        if !answers_one(alloc, schedule, *call, *want)? {
-            return Ok(false);
-        }
+        right = answers_one(alloc, schedule, *call, *want) && right;
     }
-    Ok(true)
+    right
 }
 
 /// Whether a new schedule answers each of these calls so.
-fn answers(alloc: Global, rows: &[(Ask, Want)]) -> Result<bool, Fail> {
+fn answers(alloc: Global, rows: &[(Ask, Want)]) -> bool {
     let mut schedule = Schedule::new(alloc);
     answers_all(alloc, &mut schedule, rows)
 }
@@ -108,13 +113,13 @@ fn answers(alloc: Global, rows: &[(Ask, Want)]) -> Result<bool, Fail> {
 type Rows = &'static [(Ask, Want)];
 
 /// The place of the first of these lists of calls that a new schedule doesn't answer so, if there is one.
-fn first_wrong(alloc: Global, lists: &[Rows]) -> Result<Option<usize>, Fail> {
+fn first_wrong(alloc: Global, lists: &[Rows]) -> Option<usize> {
     for (at, rows) in lists.iter().enumerate() {
-        if !answers(alloc, rows)? {
-            return Ok(Some(at));
+        if !answers(alloc, rows) {
+            return Some(at);
         }
     }
-    Ok(None)
+    None
 }
 
 /// What is due: at the same moment, by the moment, once, and behind a gap.
@@ -143,9 +148,8 @@ const IN_ORDER: &[Rows] = &[
 ];
 
 #[test]
-fn due_in_order(rt: HostRuntime) -> Result<(), Fail> {
-    assert_eq!(rt; first_wrong(rt.alloc(), IN_ORDER)?, None);
-    Ok(())
+fn due_in_order(rt: HostRuntime) {
+    assert!(rt; first_wrong(rt.alloc(), IN_ORDER).is_none());
 }
 
 /// What is answered by a schedule that was stopped, and of entries that were cancelled.
@@ -169,9 +173,8 @@ const ENDED: &[Rows] = &[
 ];
 
 #[test]
-fn stopped_and_cancelled(rt: HostRuntime) -> Result<(), Fail> {
-    assert_eq!(rt; first_wrong(rt.alloc(), ENDED)?, None);
-    Ok(())
+fn stopped_and_cancelled(rt: HostRuntime) {
+    assert!(rt; first_wrong(rt.alloc(), ENDED).is_none());
 }
 
 /// The limits of seconds and of moments.
@@ -196,10 +199,9 @@ const LIMITS: &[Rows] = &[
 ];
 
 #[test]
-fn limits(rt: HostRuntime) -> Result<(), Fail> {
-    assert_eq!(rt; first_wrong(rt.alloc(), LIMITS)?, None);
+fn limits(rt: HostRuntime) {
+    assert!(rt; first_wrong(rt.alloc(), LIMITS).is_none());
     steps_are_determined();
-    Ok(())
 }
 
 /// Whether exactly these scripts are due.
@@ -213,38 +215,30 @@ fn are_due(reply: &SchedReply, scripts: &[&[u8]]) -> bool {
 }
 
 /// Whether exactly these scripts are due at a moment.
-fn is_due(
-    alloc: Global,
-    schedule: &mut Schedule,
-    now: u64,
-    scripts: &[&[u8]],
-) -> Result<bool, Fail> {
-    let reply = reply_to(alloc, schedule, Due(now))?;
-    Ok(are_due(&reply, scripts))
+fn is_due(alloc: Global, schedule: &mut Schedule, now: u64, scripts: &[&[u8]]) -> bool {
+    let reply = reply_to(alloc, schedule, Due(now));
+    are_due(&reply, scripts)
 }
 
 /// Two entries of scripts.
 const TWO: &[(Ask, Want)] = &[(Every(0, 5), Id(0)), (Once(0, 5), Id(1))];
 
 /// Whether a schedule keeps the scripts of its entries.
-fn keeps_scripts(alloc: Global, schedule: &mut Schedule) -> Result<bool, Fail> {
-    Ok(
-        answers_all(alloc, schedule, TWO)?
-            && is_due(alloc, schedule, 5, &[b"every", b"once"])?
-            && is_due(alloc, schedule, 10, &[b"every"])?,
-    )
+fn keeps_scripts(alloc: Global, schedule: &mut Schedule) -> bool {
+    answers_all(alloc, schedule, TWO)
+        && is_due(alloc, schedule, 5, &[b"every", b"once"])
+        && is_due(alloc, schedule, 10, &[b"every"])
 }
 
 /// Whether a new schedule does.
-fn new_keeps_scripts(alloc: Global) -> Result<bool, Fail> {
+fn new_keeps_scripts(alloc: Global) -> bool {
     let mut schedule = Schedule::new(alloc);
     keeps_scripts(alloc, &mut schedule)
 }
 
 #[test]
-fn scripts(rt: HostRuntime) -> Result<(), Fail> {
-    assert!(rt; new_keeps_scripts(rt.alloc())?);
-    Ok(())
+fn scripts(rt: HostRuntime) {
+    assert!(rt; new_keeps_scripts(rt.alloc()));
 }
 
 fn script_is(reply: &SchedReply, at: usize, script: &[u8]) -> bool {
@@ -258,32 +252,30 @@ fn script_is(reply: &SchedReply, at: usize, script: &[u8]) -> bool {
 }
 
 /// How many entries are due at a moment.
-fn count_due(alloc: Global, schedule: &mut Schedule, now: u64) -> Result<usize, Fail> {
-    let reply = reply_to(alloc, schedule, Due(now))?;
-    Ok(due_count(&reply))
+fn count_due(alloc: Global, schedule: &mut Schedule, now: u64) -> usize {
+    let reply = reply_to(alloc, schedule, Due(now));
+    due_count(&reply)
 }
 
 /// Whether a schedule takes so many entries, which have the numbers from 0 on.
-fn takes(alloc: Global, schedule: &mut Schedule, count: u64) -> Result<bool, Fail> {
+fn takes(alloc: Global, schedule: &mut Schedule, count: u64) -> bool {
+    let mut right = true;
     for id in 0..count {
-        if !answers_one(alloc, schedule, Every(0, 5), Id(id))? {
-            return Ok(false);
-        }
+        right = right && answers_one(alloc, schedule, Every(0, 5), Id(id));
     }
-    Ok(true)
+    right
 }
 
 /// Moments one after another, and how many of ten thousand entries are due.
 const DUE: &[(u64, usize)] = &[(5, 10_000), (100, 10_000), (101, 0)];
 
 /// Whether so many entries are due at these moments.
-fn are_counted(alloc: Global, schedule: &mut Schedule) -> Result<bool, Fail> {
+fn are_counted(alloc: Global, schedule: &mut Schedule) -> bool {
+    let mut right = true;
     for &(now, count) in DUE {
-        if count_due(alloc, schedule, now)? != count {
-            return Ok(false);
-        }
+        right = count_due(alloc, schedule, now) == count && right;
     }
-    Ok(true)
+    right
 }
 
 /// What is answered where one of ten thousand entries is cancelled.
@@ -294,25 +286,22 @@ const AFTER: &[(Ask, Want)] = &[
 ];
 
 /// Whether a schedule takes ten thousand entries, and no more until one is cancelled.
-fn fills(alloc: Global, schedule: &mut Schedule) -> Result<bool, Fail> {
-    Ok(
-        takes(alloc, schedule, 10_000)?
-            && answers_one(alloc, schedule, Every(0, 5), Full)?
-            && are_counted(alloc, schedule)?
-            && answers_all(alloc, schedule, AFTER)?,
-    )
+fn fills(alloc: Global, schedule: &mut Schedule) -> bool {
+    takes(alloc, schedule, 10_000)
+        && answers_one(alloc, schedule, Every(0, 5), Full)
+        && are_counted(alloc, schedule)
+        && answers_all(alloc, schedule, AFTER)
 }
 
 /// Whether a new schedule does.
-fn new_fills(alloc: Global) -> Result<bool, Fail> {
+fn new_fills(alloc: Global) -> bool {
     let mut schedule = Schedule::new(alloc);
     fills(alloc, &mut schedule)
 }
 
 #[test]
-fn ten_thousand(rt: HostRuntime) -> Result<(), Fail> {
-    assert!(rt; new_fills(rt.alloc())?);
-    Ok(())
+fn ten_thousand(rt: HostRuntime) {
+    assert!(rt; new_fills(rt.alloc()));
 }
 
 fn due_count(reply: &SchedReply) -> usize {
@@ -347,7 +336,6 @@ fn stop_in_two<R: Threads + Wait + Sync>(rt: &R, alloc: Global) -> Result<(bool,
 }
 
 #[test]
-fn in_a_cell(rt: HostRuntime) -> Result<(), Fail> {
-    assert_eq!(rt; stop_in_two(&rt, rt.alloc())?, (true, true));
-    Ok(())
+fn in_a_cell(rt: HostRuntime) {
+    assert!(rt; stop_in_two(&rt, rt.alloc()) == Ok((true, true)));
 }

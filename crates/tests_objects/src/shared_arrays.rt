@@ -8,20 +8,27 @@ use nsv_bucket::{Buckets, NsvReply};
 use nsv_shared::{Nsv, NsvPass};
 use std::alloc::Global;
 use std::sync::Wait;
-use std::test::*;
 use std::thread::{Threads, join};
 use txt_core::{NoMemory, Text, Words, read_int};
 
 /// How often each thread asks.
 const TIMES: usize = 10_000;
 
-/// `nsv_incr ARRAY n`
-fn increment(alloc: Global, array: &[u8]) -> Result<Words, NoMemory> {
+/// A text; the empty one where memory wants.
+fn text(alloc: Global, bytes: &[u8]) -> Text {
+    match Text::new(alloc, bytes) {
+        Ok(text) => text,
+        Err(_) => Text::empty(alloc),
+    }
+}
+
+/// `nsv_incr ARRAY n`; fewer words where memory wants.
+fn increment(alloc: Global, array: &[u8]) -> Words {
     let mut words = Words::new(alloc);
     for word in [b"nsv_incr".as_slice(), array, b"n".as_slice()] {
-        words.add(Text::new(alloc, word)?)?;
+        let _added = words.add(text(alloc, word));
     }
-    Ok(words)
+    words
 }
 
 /// The number that a reply gives; 0 where it gives none.
@@ -38,10 +45,8 @@ fn ask<R: Wait>(rt: &R, alloc: Global, nsv: &Nsv, pass: &mut NsvPass, array: &[u
     ensures cells { AreOf nsv.now pass.new }
     ensures units { (units : ℕ) → HaveJust units pass.old → HaveJust units pass.new }
 {
-    match increment(alloc, array) {
-        Ok(words) => number(&nsv.ask(rt, pass, words).reply),
-        Err(_) => 0,
-    }
+    let turn = nsv.ask(rt, pass, increment(alloc, array));
+    number(&turn.reply)
 }
 
 /// The passes of a thread that has asked, and whether each number was greater than the one before it
@@ -184,99 +189,78 @@ fn ask_in_four<R: Threads + Wait + Sync>(
 }
 
 /// Whether the bucket with this number holds this number for the array.
-fn holds(
-    alloc: Global,
-    buckets: &Buckets,
-    at: u8,
-    array: &[u8],
-    want: i64,
-) -> Result<bool, NoMemory>
+fn holds(alloc: Global, buckets: &Buckets, at: u8, array: &[u8], want: i64) -> bool
     requires { at < 8 }
 {
-    let array = Text::new(alloc, array)?;
-    let key = Text::new(alloc, b"n")?;
-    Ok(match buckets.get(at).value(&array, &key) {
+    let array = text(alloc, array);
+    let key = text(alloc, b"n");
+    match buckets.get(at).value(&array, &key) {
         Some(value) => read_int(value) == Some(want),
         None => false,
-    })
+    }
+}
+
+/// Whether the numbers of four threads rose, and the bucket of the array then holds this one.
+fn are_counted(alloc: Global, asked: Result<(Buckets, bool), NoMemory>, want: i64) -> bool {
+    match asked {
+        Ok((buckets, rising)) => rising && holds(alloc, &buckets, 3, b"c", want),
+        Err(_) => false,
+    }
 }
 
 #[test]
-fn four_threads_on_one_array(rt: HostRuntime) -> Result<(), Fail> {
-    let (buckets, rising) = ask_in_four(&rt, rt.alloc(), &[b"c".as_slice()])?;
-    assert!(rt; rising && holds(rt.alloc(), &buckets, 3, b"c", 40_000)?);
-    Ok(())
+fn four_threads_on_one_array(rt: HostRuntime) {
+    let asked = ask_in_four(&rt, rt.alloc(), &[b"c".as_slice()]);
+    assert!(rt; are_counted(rt.alloc(), asked, 40_000));
 }
+
+/// Arrays, one in each bucket.
+const EIGHT: &[&[u8]] = &[b"h", b"a", b"b", b"c", b"d", b"e", b"f", b"g"];
 
 /// Whether the bucket of its place holds this number for each array.
-fn all_hold(
-    alloc: Global,
-    buckets: &Buckets,
-    arrays: &[&[u8]],
-    want: i64,
-) -> Result<bool, NoMemory> {
-    for (at, array) in arrays.iter().enumerate() {
-        if !holds(alloc, buckets, (at % 8) as u8, array, want)? {
-            return Ok(false);
-        }
+fn all_hold(alloc: Global, buckets: &Buckets, want: i64) -> bool {
+    let mut right = true;
+    for (at, array) in EIGHT.iter().enumerate() {
+        right = holds(alloc, buckets, (at % 8) as u8, array, want) && right;
     }
-    Ok(true)
+    right
+}
+
+/// Whether the numbers of four threads rose, and the buckets then hold this one.
+fn are_all_counted(alloc: Global, asked: Result<(Buckets, bool), NoMemory>, want: i64) -> bool {
+    match asked {
+        Ok((buckets, rising)) => rising && all_hold(alloc, &buckets, want),
+        Err(_) => false,
+    }
 }
 
 #[test]
-fn four_threads_on_eight_buckets(rt: HostRuntime) -> Result<(), Fail> {
-    let arrays = [
-        b"h".as_slice(),
-        b"a".as_slice(),
-        b"b".as_slice(),
-        b"c".as_slice(),
-        b"d".as_slice(),
-        b"e".as_slice(),
-        b"f".as_slice(),
-        b"g".as_slice(),
-    ];
-    let (buckets, rising) = ask_in_four(&rt, rt.alloc(), &arrays)?;
-    assert!(rt; rising && all_hold(rt.alloc(), &buckets, &arrays, 5_000)?);
-    Ok(())
+fn four_threads_on_eight_buckets(rt: HostRuntime) {
+    let asked = ask_in_four(&rt, rt.alloc(), EIGHT);
+    assert!(rt; are_all_counted(rt.alloc(), asked, 5_000));
 }
 
 /// Where asking for a line goes: the bucket, and the place in its history.
-fn place<R: Wait>(
-    rt: &R,
-    alloc: Global,
-    nsv: &Nsv,
-    pass: &mut NsvPass,
-    array: &[u8],
-) -> Result<(u8, u64), NoMemory>
+fn place<R: Wait>(rt: &R, alloc: Global, nsv: &Nsv, pass: &mut NsvPass, array: &[u8]) -> (u8, u64)
     requires { AreOf nsv.now pass.old }
     ensures { AreOf nsv.now pass.new }
 {
-    let words = increment(alloc, array)?;
-    let turn = nsv.ask(rt, pass, words);
-    Ok((turn.bucket, turn.place))
+    let turn = nsv.ask(rt, pass, increment(alloc, array));
+    (turn.bucket, turn.place)
 }
 
-/// Where three arrays lie: the turns of each bucket are counted by themselves.
-fn places<R: Wait>(
-    rt: &R,
-    alloc: Global,
-    nsv: &Nsv,
-    pass: &mut NsvPass,
-) -> Result<[(u8, u64); 3], NoMemory>
-    requires { AreOf nsv.now pass.old }
-{
-    let first = place(rt, alloc, nsv, pass, b"c")?;
-    let second = place(rt, alloc, nsv, pass, b"a")?;
-    let third = place(rt, alloc, nsv, pass, b"ab")?;
-    Ok([first, second, third])
+/// Where three arrays lie at a new server: the turns of each bucket are counted by themselves.
+fn places<R: Wait>(rt: &R, alloc: Global) -> Option<[(u8, u64); 3]> {
+    let Ok((nsv, mut pass)) = Nsv::new(alloc) else {
+        return None;
+    };
+    let first = place(rt, alloc, &nsv, &mut pass, b"c");
+    let second = place(rt, alloc, &nsv, &mut pass, b"a");
+    let third = place(rt, alloc, &nsv, &mut pass, b"ab");
+    Some([first, second, third])
 }
 
 #[test]
-fn places_by_bucket(rt: HostRuntime) -> Result<(), Fail> {
-    let (nsv, mut pass) = Nsv::new(rt.alloc())?;
-    assert_eq!(rt;
-        places(&rt, rt.alloc(), &nsv, &mut pass)?,
-        [(3, 0), (1, 0), (3, 1)]
-    );
-    Ok(())
+fn places_by_bucket(rt: HostRuntime) {
+    assert!(rt; places(&rt, rt.alloc()) == Some([(3, 0), (1, 0), (3, 1)]));
 }

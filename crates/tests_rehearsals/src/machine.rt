@@ -3,18 +3,16 @@
 
 ghost use Rattle.std.specs.Prelude.{◌≡◌, ◌<◌};
 
-use crate::plain_file;
+use crate::plain_file::must_come;
 use crate::rows::ROWS;
 use cmd_table::Steps;
 use natives::Natives;
 use outside::{MemSink, MemSource};
 use rehearse::{Counted, Rehearsal, count_listing, rehearse};
-use std::alloc::{AllocError, Global};
+use std::alloc::Global;
 use std::marker::Brand;
-use std::process::Abort;
 use std::sync::ledger::{Blank, Ledger};
-use std::test::Fail;
-use txt_core::{NoMemory, Text};
+use txt_core::{Text, write_natural};
 
 /// A procedure, its URL, a request of it and a run.
 pub const HI: &[u8] =
@@ -77,17 +75,46 @@ const ENDS_COUNT: u64 = 45;
 
 const ROWS_COUNT: u64 = 49;
 
+/// A text; the empty one where memory wants.
+pub fn text(alloc: Global, bytes: &[u8]) -> Text {
+    match Text::new(alloc, bytes) {
+        Ok(text) => text,
+        Err(_) => Text::empty(alloc),
+    }
+}
+
+/// Appends bytes to a text, which stays as it is where memory wants.
+pub fn put(all: &mut Text, bytes: &[u8]) {
+    let _put = all.append(bytes);
+}
+
+/// Appends the digits of a number.
+pub fn put_number(alloc: Global, all: &mut Text, number: u64) {
+    if let Ok(digits) = write_natural(alloc, number) {
+        put(all, digits.bytes());
+    }
+}
+
+/// Appends a word, a blank, a number and the end of the line.
+pub fn put_line(alloc: Global, all: &mut Text, word: &[u8], number: u64) {
+    put(all, word);
+    put(all, b" ");
+    put_number(alloc, all, number);
+    put(all, b"\n");
+}
+
 /// The bytes that a line of these writes.
-fn meant(alloc: Global, line: &str) -> Result<Text, AllocError> {
-    let mut bytes = Vec::new(alloc);
+fn meant(alloc: Global, line: &str) -> Text {
+    let mut text = Text::empty(alloc);
     for byte in line.as_bytes() {
-        bytes.push(match *byte {
+        let byte = match *byte {
             b'~' => b'\n',
             b'^' => b'\r',
             other => other,
-        })?;
+        };
+        put(&mut text, &[byte]);
     }
-    Ok(Text::from_vec(bytes))
+    text
 }
 
 /// How a rehearsal is fed and drained.
@@ -109,29 +136,59 @@ const AT_ONCE: Outside<'static> = Outside {
     bad_writes: &[],
 };
 
+/// The numbers of calls; none where memory wants.
+fn calls_of(alloc: Global, calls: &[u64]) -> Vec<u64> {
+    match Vec::from_slice(alloc, calls) {
+        Ok(list) => list,
+        Err(_) => Vec::new(alloc),
+    }
+}
+
+/// A source of these bytes.
+fn source_of(alloc: Global, input: &[u8], gives: usize, bad_reads: &[u64]) -> MemSource {
+    let bad_reads = calls_of(alloc, bad_reads);
+    MemSource::new(text(alloc, input), gives.max(1), bad_reads)
+}
+
+/// Rehearses what a source gives.
+fn rehearse_into<L: Ledger>(
+    alloc: Global,
+    source: &mut MemSource,
+    sink: &mut MemSink,
+    steps: &mut Steps<L>,
+) -> Rehearsal {
+    rehearse(alloc, &Natives::new(alloc), source, sink, steps)
+}
+
 /// Rehearses an input, and gives the answer and what was written.
 fn rehearsed<L: Ledger>(
     alloc: Global,
     input: &[u8],
     outside: &Outside<'_>,
     steps: &mut Steps<L>,
-) -> Result<(Rehearsal, Text), NoMemory> {
-    let bad_reads = Vec::from_slice(alloc, outside.bad_reads)?;
-    let bad_writes = Vec::from_slice(alloc, outside.bad_writes)?;
-    let mut source = MemSource::new(Text::new(alloc, input)?, outside.gives.max(1), bad_reads);
+) -> (Rehearsal, Text) {
+    let mut source = source_of(alloc, input, outside.gives, outside.bad_reads);
+    let bad_writes = calls_of(alloc, outside.bad_writes);
     let mut sink = MemSink::new(alloc, outside.takes.max(1), bad_writes);
-    let natives = Natives::new(alloc);
-    let answer = rehearse(alloc, &natives, &mut source, &mut sink, steps);
-    Ok((answer, Text::new(alloc, sink.taken().bytes())?))
+    let answer = rehearse_into(alloc, &mut source, &mut sink, steps);
+    (answer, text(alloc, sink.taken().bytes()))
 }
 
-/// The same where nothing fails and the bytes come in one piece.
-pub fn rehearsed_at_once<L: Ledger>(
+/// Whether the rehearsal of a file, which comes in one piece where nothing fails, answers and writes this.
+pub fn is_rehearsed<L: Ledger>(
     alloc: Global,
-    input: &[u8],
+    file: &[u8],
+    want: Rehearsal,
+    listing: &[u8],
     steps: &mut Steps<L>,
-) -> Result<(Rehearsal, Text), NoMemory> {
-    rehearsed(alloc, input, &AT_ONCE, steps)
+) -> bool {
+    let (answer, written) = rehearsed(alloc, file, &AT_ONCE, steps);
+    answer == want && written.bytes() == listing
+}
+
+/// What is counted of the listing of what a source gives.
+fn count_of<L: Ledger>(alloc: Global, source: &mut MemSource, steps: &mut Steps<L>) -> Counted {
+    count_listing(alloc, &Natives::new(alloc), source, steps)
 }
 
 /// What is counted of the listing of a file, which comes in one piece but for the reads that fail.
@@ -140,119 +197,143 @@ pub fn counted<L: Ledger>(
     input: &[u8],
     bad_reads: &[u64],
     steps: &mut Steps<L>,
-) -> Result<Counted, NoMemory> {
-    let natives = Natives::new(alloc);
-    let bad_reads = Vec::from_slice(alloc, bad_reads)?;
-    let mut source = MemSource::new(Text::new(alloc, input)?, AT_ONCE.gives.max(1), bad_reads);
-    Ok(count_listing(alloc, &natives, &mut source, steps))
+) -> Counted {
+    let mut source = source_of(alloc, input, AT_ONCE.gives, bad_reads);
+    count_of(alloc, &mut source, steps)
 }
 
-/// How a rehearsal ends, as the lines write it.
-fn shown(alloc: Global, answer: Rehearsal) -> Result<Text, NoMemory> {
-    match answer {
-        Rehearsal::Done => Text::new(alloc, b"done"),
-        Rehearsal::BadEvent { event } => {
-            Text::new(alloc, format!(in alloc; "bad {event}")?.as_bytes())
-        }
-        _ => Text::new(alloc, b"else"),
+/// The event that a line says to be bad; `None` where it says that all is done.
+fn bad_event(want: &str) -> Option<u64> {
+    match want.split_once(" ") {
+        Some((_, number)) => number.parse::<u64>().ok(),
+        None => None,
     }
 }
 
-fn check_ends<L: Ledger, R: Abort + AllocGlobal>(rt: &R, steps: &mut Steps<L>) -> Result<(), Fail> {
+/// How a line says that its rehearsal ends.
+fn end_of(want: &str) -> Rehearsal {
+    match bad_event(want) {
+        Some(event) => Rehearsal::BadEvent { event },
+        None => Rehearsal::Done,
+    }
+}
+
+/// Whether the file of a line ends as it says, and nothing is listed.
+fn ends<L: Ledger>(alloc: Global, line: &str, steps: &mut Steps<L>) -> bool {
+    let (file, want) = line.split_once(" => ").unwrap_or((line, ""));
+    let file = meant(alloc, file);
+    is_rehearsed(alloc, file.bytes(), end_of(want), b"", steps)
+}
+
+/// How many lines of files there are, where each ends as it says; `None` where one doesn't.
+fn right_ends<L: Ledger>(alloc: Global, steps: &mut Steps<L>) -> Option<u64> {
     let mut count = 0u64;
     for line in ENDS.lines() {
-        let (file, want) = line.split_once(" => ").ok_or("a line has an arrow")?;
-        let file = meant(rt.alloc(), file)?;
-        let (answer, written) = rehearsed_at_once(rt.alloc(), file.bytes(), steps)?;
-        let came = shown(rt.alloc(), answer)?;
-        assert_eq!(rt; came.bytes(), want.as_bytes(), "{line}");
-        assert!(rt; written.is_empty(), "{line}");
+        if !ends(alloc, line, steps) {
+            return None;
+        }
         count = count.wrapping_add(1);
     }
-    assert_eq!(rt; count, ENDS_COUNT);
-    Ok(())
+    Some(count)
 }
 
 // ---- rows
 
-/// Appends a line and a block behind its length.
-pub fn push_block(
-    alloc: Global,
-    file: &mut Text,
-    front: &str,
-    block: &[u8],
-) -> Result<(), NoMemory> {
-    let size = block.len();
-    file.append(front.as_bytes())?;
-    file.append(format!(in alloc; " {size}\n")?.as_bytes())?;
-    file.append(block)?;
-    file.append(b"\n")
+/// Appends a line of these words and a block behind its length.
+pub fn push_block(alloc: Global, file: &mut Text, kind: &str, first: &str, block: &[u8]) {
+    put(file, kind.as_bytes());
+    put(file, first.as_bytes());
+    put_line(alloc, file, b"", block.len() as u64);
+    put(file, block);
+    put(file, b"\n");
+}
+
+/// A GET of a path.
+fn get_of(alloc: Global, path: &str) -> Text {
+    let mut input = text(alloc, b"GET ");
+    put(&mut input, path.as_bytes());
+    put(&mut input, b" HTTP/1.1\r\nHost: l\r\n\r\n");
+    input
 }
 
 /// Appends the event of a line of a row.
-pub fn push_event(alloc: Global, file: &mut Text, line: &str) -> Result<(), NoMemory> {
+pub fn push_event(alloc: Global, file: &mut Text, line: &str) {
     let (kind, rest) = line.split_once(' ').unwrap_or((line, ""));
     let (first, tail) = rest.split_once(' ').unwrap_or((rest, ""));
     match kind {
-        "D" => push_block(alloc, file, "define", meant(alloc, rest)?.bytes()),
-        "P" => {
-            let front = format!(in alloc; "page {first}")?;
-            push_block(alloc, file, front.as_str(), meant(alloc, tail)?.bytes())
-        }
-        "C" => {
-            let front = format!(in alloc; "connect {first}")?;
-            push_block(alloc, file, front.as_str(), meant(alloc, tail)?.bytes())
-        }
-        "G" => {
-            let front = format!(in alloc; "connect {first}")?;
-            let input = format!(in alloc; "GET {tail} HTTP/1.1\r\nHost: l\r\n\r\n")?;
-            push_block(alloc, file, front.as_str(), input.as_bytes())
-        }
+        "D" => push_block(alloc, file, "define", "", meant(alloc, rest).bytes()),
+        "P" => push_block(alloc, file, "page ", first, meant(alloc, tail).bytes()),
+        "C" => push_block(alloc, file, "connect ", first, meant(alloc, tail).bytes()),
+        "G" => push_block(alloc, file, "connect ", first, get_of(alloc, tail).bytes()),
         _ => {
-            file.append(line.as_bytes())?;
-            file.append(b"\n")
+            put(file, line.as_bytes());
+            put(file, b"\n");
         }
     }
 }
 
+/// Appends the fields that tell of a body, where it has a kind.
+fn push_kind(alloc: Global, listing: &mut Text, kind: &str, size: usize) {
+    if !kind.is_empty() {
+        put(listing, b"Content-Type: ");
+        put(listing, kind.as_bytes());
+        put(listing, b"\r\nContent-Length: ");
+        put_number(alloc, listing, size as u64);
+        put(listing, b"\r\n");
+    }
+}
+
+/// Appends the response of a status, its fields, its kind, what becomes of the connection, and its body.
+fn push_response(
+    alloc: Global,
+    listing: &mut Text,
+    status: &str,
+    fields: &str,
+    ends: (&str, &str, &str),
+) {
+    let (kind, connection, body) = ends;
+    let body = meant(alloc, body);
+    put(listing, b"HTTP/1.1 ");
+    put(listing, status.trim_start_matches('H').as_bytes());
+    put(
+        listing,
+        b"\r\nDate: Thu, 01 Jan 1970 00:00:00 GMT\r\nServer: AOLserver-profile/1\r\n",
+    );
+    put(listing, meant(alloc, fields).bytes());
+    push_kind(alloc, listing, kind, body.len());
+    put(listing, b"Connection: ");
+    put(listing, connection.as_bytes());
+    put(listing, b"\r\n\r\n");
+    if !status.starts_with('H') {
+        put(listing, body.bytes());
+    }
+    put(listing, b"\n");
+}
+
 /// Appends the response that these parts, with a semicolon between, stand for.
-fn push_reply(alloc: Global, listing: &mut Text, parts: &str) -> Result<(), NoMemory> {
+fn push_reply(alloc: Global, listing: &mut Text, parts: &str) {
     let (status, rest) = parts.split_once(';').unwrap_or((parts, ""));
     let (fields, rest) = rest.split_once(';').unwrap_or((rest, ""));
     let (kind, rest) = rest.split_once(';').unwrap_or((rest, ""));
     let (connection, body) = rest.split_once(';').unwrap_or((rest, ""));
-    let body = meant(alloc, body)?;
-    let size = body.len();
-    listing.append(b"HTTP/1.1 ")?;
-    listing.append(status.trim_start_matches('H').as_bytes())?;
-    listing.append(b"\r\nDate: Thu, 01 Jan 1970 00:00:00 GMT\r\nServer: AOLserver-profile/1\r\n")?;
-    listing.append(meant(alloc, fields)?.bytes())?;
-    if !kind.is_empty() {
-        let lines = format!(in alloc; "Content-Type: {kind}\r\nContent-Length: {size}\r\n")?;
-        listing.append(lines.as_bytes())?;
-    }
-    listing.append(format!(in alloc; "Connection: {connection}\r\n\r\n")?.as_bytes())?;
-    if !status.starts_with('H') {
-        listing.append(body.bytes())?;
-    }
-    listing.append(b"\n")
+    push_response(alloc, listing, status, fields, (kind, connection, body));
 }
 
 /// Appends what a line of a row's listing stands for.
-pub fn push_told(alloc: Global, listing: &mut Text, line: &str) -> Result<(), NoMemory> {
+pub fn push_told(alloc: Global, listing: &mut Text, line: &str) {
     if let Some((front, parts)) = line.split_once(" <") {
-        listing.append(front.as_bytes())?;
-        listing.append(b"\n")?;
-        return push_reply(alloc, listing, parts);
+        put(listing, front.as_bytes());
+        put(listing, b"\n");
+        push_reply(alloc, listing, parts);
+    } else if let Some((front, block)) = line.split_once(" |") {
+        put(listing, front.as_bytes());
+        put(listing, b"\n");
+        put(listing, meant(alloc, block).bytes());
+        put(listing, b"\n");
+    } else {
+        put(listing, line.as_bytes());
+        put(listing, b"\n");
     }
-    if let Some((front, block)) = line.split_once(" |") {
-        listing.append(front.as_bytes())?;
-        listing.append(b"\n")?;
-        listing.append(meant(alloc, block)?.bytes())?;
-        return listing.append(b"\n");
-    }
-    listing.append(line.as_bytes())?;
-    listing.append(b"\n")
 }
 
 /// The file and the listing of some rows, one behind the other.
@@ -274,67 +355,73 @@ impl Row {
     }
 
     /// Takes a line; whether it ends the row.
-    fn take(&mut self, alloc: Global, line: &str) -> Result<bool, NoMemory> {
+    fn take(&mut self, alloc: Global, line: &str) -> bool {
         match line {
-            "--" => return Ok(true),
+            "--" => return true,
             "=>" => self.told = true,
-            _ if self.told => push_told(alloc, &mut self.listing, line)?,
-            _ => push_event(alloc, &mut self.file, line)?,
+            _ if self.told => push_told(alloc, &mut self.listing, line),
+            _ => push_event(alloc, &mut self.file, line),
         }
-        Ok(false)
+        false
+    }
+
+    /// Whether the file has the listing.
+    fn is_right<L: Ledger>(&self, alloc: Global, steps: &mut Steps<L>) -> bool {
+        let (file, listing) = (self.file.bytes(), self.listing.bytes());
+        is_rehearsed(alloc, file, Rehearsal::Done, listing, steps)
+    }
+
+    /// Begins another row.
+    fn clear(&mut self, alloc: Global) {
+        self.file = Text::empty(alloc);
+        self.listing = Text::empty(alloc);
+        self.told = false;
     }
 }
 
-fn check_row<L: Ledger, R: Abort + AllocGlobal>(
-    rt: &R,
-    row: &Row,
-    number: u64,
-    steps: &mut Steps<L>,
-) -> Result<(), Fail> {
-    let (answer, written) = rehearsed_at_once(rt.alloc(), row.file.bytes(), steps)?;
-    assert_eq!(rt; answer, Rehearsal::Done, "row {number}");
-    assert!(rt; written.bytes() == row.listing.bytes(), "row {number}");
-    Ok(())
-}
-
-fn check_rows<L: Ledger, R: Abort + AllocGlobal>(rt: &R, steps: &mut Steps<L>) -> Result<(), Fail> {
-    let mut row = Row::new(rt.alloc());
-    let mut count = 0u64;
+/// How many rows there are, where each file has its listing; `None` where one doesn't. The lines of the last row stay
+/// in `row`.
+fn right_rows<L: Ledger>(alloc: Global, row: &mut Row, steps: &mut Steps<L>) -> Option<u64> {
+    let mut count = 1u64;
     for line in ROWS.lines() {
-        if row.take(rt.alloc(), line)? {
-            check_row(rt, &row, count, steps)?;
-            row = Row::new(rt.alloc());
+        if row.take(alloc, line) {
+            if !row.is_right(alloc, steps) {
+                return None;
+            }
+            row.clear(alloc);
             count = count.wrapping_add(1);
         }
     }
-    check_row(rt, &row, count, steps)?;
-    assert_eq!(rt; count.wrapping_add(1), ROWS_COUNT);
-    Ok(())
+    if row.is_right(alloc, steps) {
+        Some(count)
+    } else {
+        None
+    }
 }
 
 // ---- the plain machine
 
-/// Plays a file, and plays it on the plain machine.
-fn check_both<L: Ledger, R: Abort + AllocGlobal>(
-    rt: &R,
-    file: &[u8],
-    number: u64,
-    steps: &mut Steps<L>,
-) -> Result<(), Fail> {
-    let alloc = rt.alloc();
-    let (answer, written) = rehearsed_at_once(alloc, file, steps)?;
-    let (want, listing) = plain_file::play(alloc, &Natives::new(alloc), file, steps)?;
-    assert_eq!(rt; answer, want, "file {number}");
-    assert!(rt; written.bytes() == listing.bytes(), "file {number}");
-    Ok(())
+/// Plays a file, and plays it on the plain machine: whether both come to the same.
+fn both_agree<L: Ledger>(alloc: Global, file: &[u8], steps: &mut Steps<L>) -> bool {
+    let (answer, written) = rehearsed(alloc, file, &AT_ONCE, steps);
+    must_come(
+        alloc,
+        &Natives::new(alloc),
+        file,
+        answer,
+        written.bytes(),
+        steps,
+    )
 }
 
-/// The first file cut at each of its bytes.
-fn check_cuts<L: Ledger, R: Abort + AllocGlobal>(rt: &R, steps: &mut Steps<L>) -> Result<(), Fail> {
+/// The first byte at which the first file is cut and the machines come to other things, if there is one.
+fn first_wrong_cut<L: Ledger>(alloc: Global, steps: &mut Steps<L>) -> Option<usize> {
     for cut in 0..HI.len() + 1 {
-        check_both(rt, &HI[..cut], cut as u64, steps)?;
+        if !both_agree(alloc, &HI[..cut], steps) {
+            return Some(cut);
+        }
     }
-    Ok(())
+    None
 }
 
 /// Numbers that are drawn one after the other.
@@ -406,63 +493,65 @@ const INPUTS: &[&str] = &[
     "",
 ];
 
+/// Appends a connection of a random input at a worker that runs first.
+fn push_connection(alloc: Global, file: &mut Text, input: &str, worker: u64) {
+    put_line(alloc, file, b"run", worker);
+    put(file, b"connect ");
+    put_number(alloc, file, worker);
+    push_block(alloc, file, "", "", meant(alloc, input).bytes());
+}
+
+/// Appends a page that is set, behind its path.
+fn push_page(alloc: Global, file: &mut Text, site: &str) {
+    let (path, page) = site.split_once(' ').unwrap_or(("/", ""));
+    push_block(alloc, file, "page ", path, page.as_bytes());
+}
+
 /// Appends a random event, where there are so many workers.
-fn push_random(
-    alloc: Global,
-    file: &mut Text,
-    dice: &mut Dice,
-    workers: u64,
-) -> Result<(), NoMemory> {
+fn push_random(alloc: Global, file: &mut Text, dice: &mut Dice, workers: u64) {
     let worker = dice.below(workers);
     match dice.below(16) {
-        0 | 1 => push_block(
-            alloc,
-            file,
-            "define",
-            meant(alloc, dice.pick(BLOCKS))?.bytes(),
-        ),
-        2 => {
-            let (path, page) = dice.pick(SITES).split_once(' ').unwrap_or(("/", ""));
-            let front = format!(in alloc; "page {path}")?;
-            push_block(alloc, file, front.as_str(), page.as_bytes())
+        0 | 1 => {
+            let block = meant(alloc, dice.pick(BLOCKS));
+            push_block(alloc, file, "define", "", block.bytes());
         }
-        3 | 4 | 5 => {
-            file.append(format!(in alloc; "run {worker}\n")?.as_bytes())?;
-            let front = format!(in alloc; "connect {worker}")?;
-            push_block(
-                alloc,
-                file,
-                front.as_str(),
-                meant(alloc, dice.pick(INPUTS))?.bytes(),
-            )
-        }
-        6 => {
-            let moment = dice.below(40);
-            file.append(format!(in alloc; "clock {moment}\n")?.as_bytes())
-        }
-        7 => file.append(b"run s\n"),
-        8 | 9 => file.append(b"step s\n"),
-        10 => file.append(format!(in alloc; "run {worker}\n")?.as_bytes()),
-        _ => file.append(format!(in alloc; "step {worker}\n")?.as_bytes()),
+        2 => push_page(alloc, file, dice.pick(SITES)),
+        3 | 4 | 5 => push_connection(alloc, file, dice.pick(INPUTS), worker),
+        6 => put_line(alloc, file, b"clock", dice.below(40)),
+        7 => put(file, b"run s\n"),
+        8 | 9 => put(file, b"step s\n"),
+        10 => put_line(alloc, file, b"run", worker),
+        _ => put_line(alloc, file, b"step", worker),
+    }
+}
+
+/// Appends ten blocks.
+fn push_blocks(alloc: Global, file: &mut Text) {
+    for block in BLOCKS.iter().take(10) {
+        push_block(alloc, file, "define", "", meant(alloc, block).bytes());
+    }
+}
+
+/// Appends a run of each of so many workers.
+fn push_runs(alloc: Global, file: &mut Text, workers: u64) {
+    for worker in 0..workers {
+        put_line(alloc, file, b"run", worker);
     }
 }
 
 /// A random file by a seed: one worker to four, and so many events.
-fn random_file(alloc: Global, seed: u64, events: u64) -> Result<Text, NoMemory> {
+fn random_file(alloc: Global, seed: u64, events: u64) -> Text {
     let mut dice = Dice { state: seed };
     let workers = dice.below(MOST_WORKERS).saturating_add(1);
-    let mut file = Text::new(alloc, format!(in alloc; "workers {workers}\n")?.as_bytes())?;
-    for block in BLOCKS.iter().take(10) {
-        push_block(alloc, &mut file, "define", meant(alloc, block)?.bytes())?;
-    }
+    let mut file = Text::empty(alloc);
+    put_line(alloc, &mut file, b"workers", workers);
+    push_blocks(alloc, &mut file);
     for _ in 0..events {
-        push_random(alloc, &mut file, &mut dice, workers)?;
+        push_random(alloc, &mut file, &mut dice, workers);
     }
-    for worker in 0..workers {
-        file.append(format!(in alloc; "run {worker}\n")?.as_bytes())?;
-    }
-    file.append(b"clock 99\nrun s\n")?;
-    Ok(file)
+    push_runs(alloc, &mut file, workers);
+    put(&mut file, b"clock 99\nrun s\n");
+    file
 }
 
 /// How many random files are played, how many workers each has at most, and how many events.
@@ -472,128 +561,142 @@ const MOST_WORKERS: u64 = 4;
 
 const EVENTS: u64 = 60;
 
-fn check_random<L: Ledger, R: Abort + AllocGlobal>(
-    rt: &R,
-    steps: &mut Steps<L>,
-) -> Result<(), Fail> {
+/// The seed of the first random file of which the machines come to other things, if there is one.
+fn first_wrong_seed<L: Ledger>(alloc: Global, steps: &mut Steps<L>) -> Option<u64> {
     for seed in 0..FILES {
-        let file = random_file(rt.alloc(), seed, EVENTS)?;
-        check_both(rt, file.bytes(), seed, steps)?;
+        let file = random_file(alloc, seed, EVENTS);
+        if !both_agree(alloc, file.bytes(), steps) {
+            return Some(seed);
+        }
     }
-    Ok(())
+    None
 }
 
 // ---- the outside
 
-/// A way to feed and drain the first file, the answer, and how many bytes of its listing are written.
-fn check_pieces<L: Ledger, R: Abort + AllocGlobal>(
-    rt: &R,
-    steps: &mut Steps<L>,
-) -> Result<(), Fail> {
-    let whole = HI_LISTING.len();
-    let cases: [(usize, &[u64], usize, &[u64], Rehearsal, usize); 9] = [
-        (1, &[], 1, &[], Rehearsal::Done, whole),
-        (7, &[], 100, &[], Rehearsal::Done, whole),
-        // What is told of the block goes out by the first write, which takes 10 bytes. Then the next takes 100, and the
-        // one behind it fails.
-        (
-            200,
-            &[],
-            100,
-            &[2],
-            Rehearsal::WriteFault { sent: 110 },
-            110,
-        ),
-        (200, &[], 100, &[1], Rehearsal::WriteFault { sent: 10 }, 10),
-        (200, &[], 100, &[0], Rehearsal::WriteFault { sent: 0 }, 0),
-        // The first read gives so many bytes, and the second fails. The listing of the block has 10 bytes.
-        (79, &[1], 1000, &[], Rehearsal::ReadFault, 10),
-        (78, &[1], 1000, &[], Rehearsal::ReadFault, 0),
-        (200, &[1], 1000, &[], Rehearsal::ReadFault, whole),
-        // The sink fails before the source does.
-        (200, &[1], 100, &[1], Rehearsal::WriteFault { sent: 10 }, 10),
-    ];
-    for (gives, bad_reads, takes, bad_writes, want, size) in cases {
-        let outside = Outside {
-            gives,
-            bad_reads,
-            takes,
-            bad_writes,
-        };
-        let (answer, written) = rehearsed(rt.alloc(), HI, &outside, steps)?;
-        assert_eq!(rt; answer, want);
-        assert_eq!(rt; written.bytes(), HI_LISTING.get(..size).unwrap_or(b""));
-    }
-    Ok(())
+/// A way to feed and drain a file, the answer, and how many bytes of a listing are written.
+type Fed = (
+    usize,
+    &'static [u64],
+    usize,
+    &'static [u64],
+    Rehearsal,
+    usize,
+);
+
+/// Ways to feed and drain the first file.
+const PIECES: &[Fed] = &[
+    (1, &[], 1, &[], Rehearsal::Done, HI_LISTING.len()),
+    (7, &[], 100, &[], Rehearsal::Done, HI_LISTING.len()),
+    // What is told of the block goes out by the first write, which takes 10 bytes. Then the next takes 100, and the
+    // one behind it fails.
+    (
+        200,
+        &[],
+        100,
+        &[2],
+        Rehearsal::WriteFault { sent: 110 },
+        110,
+    ),
+    (200, &[], 100, &[1], Rehearsal::WriteFault { sent: 10 }, 10),
+    (200, &[], 100, &[0], Rehearsal::WriteFault { sent: 0 }, 0),
+    // The first read gives so many bytes, and the second fails. The listing of the block has 10 bytes.
+    (79, &[1], 1000, &[], Rehearsal::ReadFault, 10),
+    (78, &[1], 1000, &[], Rehearsal::ReadFault, 0),
+    (200, &[1], 1000, &[], Rehearsal::ReadFault, HI_LISTING.len()),
+    // The sink fails before the source does.
+    (200, &[1], 100, &[1], Rehearsal::WriteFault { sent: 10 }, 10),
+];
+
+/// Ways to feed and drain an event that is none: it is told once its line is there, and the source isn't read any
+/// more; a fault of the source before that goes first.
+const BAD_EVENTS: &[Fed] = &[
+    (2, &[1], 1000, &[], Rehearsal::BadEvent { event: 1 }, 0),
+    (1, &[1], 1000, &[], Rehearsal::ReadFault, 0),
+];
+
+/// Whether a file that is fed and drained so comes to what its row says.
+fn is_fed<L: Ledger>(alloc: Global, file: &[u8], fed: Fed, steps: &mut Steps<L>) -> bool {
+    let (gives, bad_reads, takes, bad_writes, want, size) = fed;
+    let outside = Outside {
+        gives,
+        bad_reads,
+        takes,
+        bad_writes,
+    };
+    let (answer, written) = rehearsed(alloc, file, &outside, steps);
+    answer == want && written.bytes() == HI_LISTING.get(..size).unwrap_or(b"")
 }
 
-/// An event that is none is told once its line is there, and the source isn't read any more; a fault of
-/// the source before that goes first.
-fn check_bad_event_and_fault<L: Ledger, R: Abort + AllocGlobal>(
-    rt: &R,
+/// The place of the first of these ways that is wrong for a file, if there is one.
+fn first_wrong_fed<L: Ledger>(
+    alloc: Global,
+    file: &[u8],
+    rows: &[Fed],
     steps: &mut Steps<L>,
-) -> Result<(), Fail> {
-    let cases = [
-        (2, Rehearsal::BadEvent { event: 1 }),
-        (1, Rehearsal::ReadFault),
-    ];
-    for (gives, want) in cases {
-        let outside = Outside {
-            gives,
-            bad_reads: &[1],
-            takes: 1000,
-            bad_writes: &[],
-        };
-        let (answer, written) = rehearsed(rt.alloc(), b"x\nrun 0\n", &outside, steps)?;
-        assert_eq!(rt; answer, want);
-        assert!(rt; written.is_empty());
+) -> Option<usize> {
+    for (at, fed) in rows.iter().enumerate() {
+        if !is_fed(alloc, file, *fed, steps) {
+            return Some(at);
+        }
     }
-    Ok(())
+    None
 }
 
 // ---- the tests
 
-fn check_short_files<L: Ledger, R: Abort + AllocGlobal>(rt: &R, blank: Blank) -> Result<(), Fail>
+/// How many files end as they must, and the places of the first wrong ways to feed one and an event that is none.
+fn check_short_files<L: Ledger>(
+    alloc: Global,
+    blank: Blank,
+) -> (Option<u64>, Option<usize>, Option<usize>)
     requires name { blank.name ≡ L.name }
     requires parts { blank.parts ≡ L.parts }
     requires some { 0 < blank.parts }
 {
     let mut steps = Steps::<L>::new(blank);
-    check_ends(rt, &mut steps)?;
-    check_pieces(rt, &mut steps)?;
-    check_bad_event_and_fault(rt, &mut steps)
+    let ends = right_ends(alloc, &mut steps);
+    let pieces = first_wrong_fed(alloc, HI, PIECES, &mut steps);
+    let bad = first_wrong_fed(alloc, b"x\nrun 0\n", BAD_EVENTS, &mut steps);
+    (ends, pieces, bad)
 }
 
 #[test]
-fn files_end_as_they_must(rt: HostRuntime) -> Result<(), Fail> {
-    check_short_files::<Brand, HostRuntime>(&rt, Blank::new(1))
+fn files_end_as_they_must(rt: HostRuntime) {
+    let came = check_short_files::<Brand>(rt.alloc(), Blank::new(1));
+    assert_eq!(rt; came, (Some(ENDS_COUNT), None, None));
 }
 
-fn check_listings<L: Ledger, R: Abort + AllocGlobal>(rt: &R, blank: Blank) -> Result<(), Fail>
+/// How many files have their listings, where all have.
+fn check_listings<L: Ledger>(alloc: Global, blank: Blank) -> Option<u64>
     requires name { blank.name ≡ L.name }
     requires parts { blank.parts ≡ L.parts }
     requires some { 0 < blank.parts }
 {
     let mut steps = Steps::<L>::new(blank);
-    check_rows(rt, &mut steps)
+    right_rows(alloc, &mut Row::new(alloc), &mut steps)
 }
 
 #[test]
-fn files_have_their_listings(rt: HostRuntime) -> Result<(), Fail> {
-    check_listings::<Brand, HostRuntime>(&rt, Blank::new(1))
+fn files_have_their_listings(rt: HostRuntime) {
+    let came = check_listings::<Brand>(rt.alloc(), Blank::new(1));
+    assert_eq!(rt; came, Some(ROWS_COUNT));
 }
 
-fn check_machines<L: Ledger, R: Abort + AllocGlobal>(rt: &R, blank: Blank) -> Result<(), Fail>
+/// The first cut of the first file, and the seed of the first random file, of which the machines come to other
+/// things, if there are some.
+fn check_machines<L: Ledger>(alloc: Global, blank: Blank) -> (Option<usize>, Option<u64>)
     requires name { blank.name ≡ L.name }
     requires parts { blank.parts ≡ L.parts }
     requires some { 0 < blank.parts }
 {
     let mut steps = Steps::<L>::new(blank);
-    check_cuts(rt, &mut steps)?;
-    check_random(rt, &mut steps)
+    let cut = first_wrong_cut(alloc, &mut steps);
+    (cut, first_wrong_seed(alloc, &mut steps))
 }
 
 #[test]
-fn the_plain_machine_agrees(rt: HostRuntime) -> Result<(), Fail> {
-    check_machines::<Brand, HostRuntime>(&rt, Blank::new(1))
+fn the_plain_machine_agrees(rt: HostRuntime) {
+    let came = check_machines::<Brand>(rt.alloc(), Blank::new(1));
+    assert_eq!(rt; came, (None, None));
 }

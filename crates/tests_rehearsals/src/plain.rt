@@ -4,16 +4,15 @@
 //! machine it stands for resets and for the order of things alone: the interpreter itself, the reading of
 //! requests, what a question calls and what a request asks of its connection it takes from the same crates.
 
-ghost use Rattle.std.specs.Prelude.{IfOk};
-ghost use Rattle.ictl.specs.Falls.{StandsAt};
 ghost use Rattle.ictl.specs.Interps.{IsNew};
 ghost use Rattle.natives.specs.Names.{names_of};
 
+use crate::machine::{put, put_number, text};
 use blueprint::{BlueCall, BlueReply, Blueprint, Published};
 use cmd_table::{Defs, Steps};
 use http_req::{Carry, Got, read_request};
 use http_resp::{Response, plain, response_bytes};
-use ictl::{Interp, Next};
+use ictl::{BoxedInterp, Next};
 use natives::Natives;
 use nsv_bucket::{Buckets, NsvReply};
 use outside::{Answer, MemSource, Question, Service};
@@ -79,14 +78,14 @@ pub struct World {
     pub listing: Text,
 }
 
-fn copy_answer(alloc: Global, answer: &Answer) -> Result<Answer, NoMemory> {
-    Ok(match answer {
-        Answer::Said(text) => Answer::Said(text.copy(alloc)?),
-        Answer::Failed(text) => Answer::Failed(text.copy(alloc)?),
-        Answer::Page(text) => Answer::Page(text.copy(alloc)?),
+fn copy_answer(alloc: Global, answer: &Answer) -> Answer {
+    match answer {
+        Answer::Said(said) => Answer::Said(text(alloc, said.bytes())),
+        Answer::Failed(why) => Answer::Failed(text(alloc, why.bytes())),
+        Answer::Page(page) => Answer::Page(text(alloc, page.bytes())),
         Answer::NoPage => Answer::NoPage,
         Answer::PageFault => Answer::PageFault,
-    })
+    }
 }
 
 fn size_of(answer: &Answer) -> usize {
@@ -97,118 +96,79 @@ fn size_of(answer: &Answer) -> usize {
 }
 
 /// What the reading of the request of this number finds.
-fn read_nth(alloc: Global, input: &Text, number: usize) -> Result<Got, NoMemory> {
-    let peer = Text::new(alloc, b"127.0.0.1")?;
-    let mut source = MemSource::new(input.copy(alloc)?, usize::MAX, Vec::new(alloc));
+fn read_nth(alloc: Global, input: &Text, number: usize) -> Got {
+    let peer = text(alloc, b"127.0.0.1");
+    let mut source = MemSource::new(text(alloc, input.bytes()), usize::MAX, Vec::new(alloc));
     let mut carry = Carry::new(alloc);
-    let mut got = Got::End;
-    for _ in 0..number.saturating_add(1) {
-        got = read_request(alloc, &mut source, &mut carry, &peer);
+    for _ in 0..number {
+        drop(read_request(alloc, &mut source, &mut carry, &peer));
     }
-    Ok(got)
+    read_request(alloc, &mut source, &mut carry, &peer)
 }
 
-/// Gives an interpreter an answer, where it stands at a question.
-fn resume<L: Ledger>(
-    interp: &mut Interp,
-    natives: &Natives,
-    next: Next,
-    answer: Answer,
-    steps: &mut Steps<L>,
-) -> Next
-    requires { StandsAt next interp.old }
-    ensures { StandsAt result interp.new }
-{
-    match next {
-        Next::Asks(question) => {
-            drop(question);
-            interp.resume(natives, answer, steps)
-        }
-        other => {
-            drop(answer);
-            other
-        }
+/// Gives a run an answer, where it stands at a question.
+fn resume<L: Ledger>(run: &mut ictl::Run, natives: &Natives, answer: Answer, steps: &mut Steps<L>) {
+    if matches!(run.next(), Next::Asks(_)) {
+        run.resume(natives, answer, steps);
     }
 }
 
-/// Tells an interpreter that its response was written, where it was and it stands at one.
-fn write<L: Ledger>(
-    interp: &mut Interp,
-    natives: &Natives,
-    next: Next,
-    written: bool,
-    steps: &mut Steps<L>,
-) -> Next
-    requires { StandsAt next interp.old }
-    ensures { StandsAt result interp.new }
-{
-    if !written {
-        return next;
-    }
-    match next {
-        Next::Write(response) => {
-            drop(response);
-            interp.written(natives, true, steps)
-        }
-        other => other,
+/// Tells a run that its response was written, where it was and it stands at one.
+fn write<L: Ledger>(run: &mut ictl::Run, natives: &Natives, written: bool, steps: &mut Steps<L>) {
+    if written && matches!(run.next(), Next::Write(_)) {
+        run.written(natives, true, steps);
     }
 }
 
-/// Starts a run.
+/// Starts a run. Want of memory is also answered where the input has no such request.
 fn start<L: Ledger>(
     alloc: Global,
-    interp: &mut Interp,
+    interp: BoxedInterp,
     natives: &Natives,
     run: &Run,
     steps: &mut Steps<L>,
-) -> Result<Next, NoMemory>
-    requires { IsNew (names_of natives.now) interp.old }
-    ensures { IfOk result (λ next. StandsAt next interp.new) }
+) -> Result<ictl::Run, NoMemory>
+    requires { IsNew (names_of natives.now) interp }
 {
+    let moment = run.moment;
     Ok(match &run.kind {
-        Kind::Script(script) => interp.start_script(natives, script, run.moment, steps),
-        Kind::Define(script) => interp.start_define(natives, script, run.moment, steps),
-        Kind::Request(input, number) => match read_nth(alloc, input, *number)? {
-            Got::Request(request) => interp.start_request(natives, request, run.moment, steps),
-            _ => Next::NoMemory,
+        Kind::Script(script) => ictl::Run::start_script(interp, natives, script, moment, steps),
+        Kind::Define(script) => ictl::Run::start_define(interp, natives, script, moment, steps),
+        Kind::Request(input, number) => match read_nth(alloc, input, *number) {
+            Got::Request(request) => {
+                ictl::Run::start_request(interp, natives, request, moment, steps)
+            }
+            _ => return Err(NoMemory),
         },
     })
 }
 
 impl Run {
-    /// Gives an interpreter that stands where the run stood the next answer.
+    /// Gives a run that stands where this one stood the next answer.
     fn go_on<L: Ledger>(
         &self,
         alloc: Global,
-        interp: &mut Interp,
+        run: &mut ictl::Run,
         natives: &Natives,
-        next: Next,
         answer: &Answer,
         steps: &mut Steps<L>,
-    ) -> Result<Next, NoMemory>
-        requires { StandsAt next interp.old }
-        ensures { IfOk result (λ then. StandsAt then interp.new) }
-    {
-        let answer = copy_answer(alloc, answer)?;
-        let next = write(interp, natives, next, self.written, steps);
-        Ok(resume(interp, natives, next, answer, steps))
+    ) {
+        write(run, natives, self.written, steps);
+        resume(run, natives, copy_answer(alloc, answer), steps);
     }
 
-    /// Where the run stands, on a new interpreter.
+    /// Goes on with a run that has begun to where this one stands.
     fn replay_on<L: Ledger>(
         &self,
         alloc: Global,
-        interp: &mut Interp,
+        run: &mut ictl::Run,
         natives: &Natives,
         steps: &mut Steps<L>,
-    ) -> Result<Next, NoMemory>
-        requires { IsNew (names_of natives.now) interp.old }
-    {
-        let mut next = start(alloc, interp, natives, self, steps)?;
-        'answers: for answer in self.answers.as_slice() {
-            next = self.go_on(alloc, interp, natives, next, answer, steps)?;
+    ) {
+        for answer in self.answers.as_slice() {
+            self.go_on(alloc, run, natives, answer, steps);
         }
-        Ok(write(interp, natives, next, self.written, steps))
+        write(run, natives, self.written, steps);
     }
 
     /// Where the run stands.
@@ -218,10 +178,12 @@ impl Run {
         natives: &Natives,
         steps: &mut Steps<L>,
     ) -> Result<Next, NoMemory> {
-        let mut interp = Interp::build(alloc, natives, self.epoch, &self.defs, steps)?;
-        let next = self.replay_on(alloc, &mut interp, natives, steps);
+        let interp = BoxedInterp::build(alloc, natives, self.epoch, &self.defs, steps)?;
+        let mut run = start(alloc, interp, natives, self, steps)?;
+        self.replay_on(alloc, &mut run, natives, steps);
+        let (next, interp) = run.into_parts();
         drop(interp);
-        next
+        Ok(next)
     }
 }
 
@@ -236,19 +198,53 @@ fn natural(words: &Words, at: usize) -> u64 {
     }
 }
 
-fn said(alloc: Global, number: u64) -> Result<Answer, NoMemory> {
-    let text = format!(in alloc; "{number}")?;
-    Ok(Answer::Said(Text::new(alloc, text.as_bytes())?))
+fn said(alloc: Global, number: u64) -> Answer {
+    let mut text = Text::empty(alloc);
+    put_number(alloc, &mut text, number);
+    Answer::Said(text)
+}
+
+/// That something at a place is refused.
+fn refused(alloc: Global, what: &[u8], place: u64, why: &[u8]) -> Answer {
+    let mut text = text(alloc, what);
+    put_number(alloc, &mut text, place);
+    put(&mut text, why);
+    Answer::Failed(text)
+}
+
+/// What the arrays say.
+fn array_answer(reply: NsvReply) -> Answer {
+    match reply {
+        NsvReply::Said(text) => Answer::Said(text),
+        NsvReply::Failed(text) => Answer::Failed(text),
+        NsvReply::NoMemory => Answer::PageFault,
+    }
+}
+
+/// What a publication or a save comes to. Where memory wants, it is what none comes to.
+fn published(alloc: Global, reply: &BlueReply) -> Answer {
+    match reply {
+        BlueReply::Published(Published::Done(epoch)) => said(alloc, *epoch),
+        BlueReply::Published(Published::NotADefinition(place)) => {
+            refused(alloc, b"command ", *place, b" is no definition")
+        }
+        BlueReply::Published(Published::NotApplicable(place)) => {
+            refused(alloc, b"definition ", *place, b" does not apply")
+        }
+        BlueReply::Published(Published::Full(_)) => Answer::Failed(text(alloc, b"blueprint full")),
+        BlueReply::Published(Published::NoMemory) | BlueReply::Look(_) => Answer::PageFault,
+    }
 }
 
 impl World {
     pub fn new(alloc: Global, natives: &Natives) -> Result<World, NoMemory> {
+        let blueprint = Blueprint::new(alloc, natives)?;
         let mut workers = Vec::new(alloc);
-        workers.push(None)?;
+        let _pushed = workers.push(None);
         Ok(World {
             moment: 0,
             pages: Vec::new(alloc),
-            blueprint: Blueprint::new(alloc, natives)?,
+            blueprint,
             arrays: Buckets::new(alloc),
             entries: Vec::new(alloc),
             next_id: 0,
@@ -270,30 +266,61 @@ impl World {
         })
     }
 
-    pub fn tell(&mut self, line: &[u8]) -> Result<(), NoMemory> {
-        self.listing.append(line)
+    /// Tells bytes.
+    pub fn tell(&mut self, bytes: &[u8]) {
+        put(&mut self.listing, bytes);
     }
 
-    /// Tells a block behind its line.
-    pub fn tell_block(&mut self, block: &[u8]) -> Result<(), NoMemory> {
-        self.listing.append(block)?;
-        self.listing.append(b"\n")
+    /// Tells a number behind a blank.
+    fn tell_number(&mut self, alloc: Global, number: u64) {
+        put(&mut self.listing, b" ");
+        put_number(alloc, &mut self.listing, number);
     }
 
-    fn page(&self, alloc: Global, words: &Words) -> Result<Answer, NoMemory> {
+    /// Tells a block behind its line, of which its length is told here.
+    fn tell_block(&mut self, alloc: Global, block: &[u8]) {
+        self.tell_number(alloc, block.len() as u64);
+        self.tell(b"\n");
+        self.tell(block);
+        self.tell(b"\n");
+    }
+
+    /// The page at a path, which is the one that was set last.
+    fn page(&self, alloc: Global, words: &Words) -> Answer {
         let mut found = Answer::NoPage;
         for (path, page) in self.pages.as_slice() {
             if words
                 .get(0)
                 .is_some_and(|word| word.bytes() == path.bytes())
             {
-                found = Answer::Page(page.copy(alloc)?);
+                found = Answer::Page(text(alloc, page.bytes()));
             }
         }
-        Ok(found)
+        found
     }
 
-    fn schedule(&mut self, alloc: Global, words: &Words, moment: u64) -> Result<Answer, NoMemory> {
+    /// Puts an entry into the schedule.
+    fn enter(
+        &mut self,
+        alloc: Global,
+        due: u64,
+        seconds: u64,
+        once: bool,
+        script: &Text,
+    ) -> Answer {
+        let id = self.next_id;
+        let _pushed = self.entries.push(Entry {
+            id,
+            due,
+            seconds,
+            once,
+            script: text(alloc, script.bytes()),
+        });
+        self.next_id = id.saturating_add(1);
+        said(alloc, id)
+    }
+
+    fn schedule(&mut self, alloc: Global, words: &Words, moment: u64) -> Answer {
         let is_cancel = words
             .get(0)
             .is_some_and(|word| word.bytes() == b"ns_unschedule_proc".as_slice());
@@ -303,119 +330,125 @@ impl World {
         let once = words.len() == 4;
         let at = if once { 2 } else { 1 };
         let seconds = natural(words, at);
-        let id = self.next_id;
-        let Some(script) = words.get(at + 1) else {
-            return Err(NoMemory);
-        };
-        self.entries.push(Entry {
-            id,
-            due: moment.saturating_add(seconds),
-            seconds,
-            once,
-            script: script.copy(alloc)?,
-        })?;
-        self.next_id = id.saturating_add(1);
-        said(alloc, id)
+        match words.get(at + 1) {
+            Some(script) => {
+                let due = moment.saturating_add(seconds);
+                self.enter(alloc, due, seconds, once, script)
+            }
+            None => Answer::PageFault,
+        }
     }
 
-    fn cancel(&mut self, alloc: Global, words: &Words) -> Result<Answer, NoMemory> {
+    /// That there is no entry of this number.
+    fn no_entry(alloc: Global, words: &Words) -> Answer {
+        let mut why = text(alloc, b"no schedule \"");
+        if let Some(word) = words.get(1) {
+            put(&mut why, word.bytes());
+        }
+        put(&mut why, b"\"");
+        Answer::Failed(why)
+    }
+
+    fn cancel(&mut self, alloc: Global, words: &Words) -> Answer {
         let id = natural(words, 1);
         for at in 0..self.entries.len() {
             let is_it = self.entries.get(at).is_some_and(|entry| entry.id == id);
             if is_it && at < self.entries.len() {
                 drop(self.entries.remove(at));
-                return Ok(Answer::Said(Text::empty(alloc)));
+                return Answer::Said(Text::empty(alloc));
             }
         }
-        let mut why = Text::new(alloc, b"no schedule \"")?;
-        if let Some(word) = words.get(1) {
-            why.append(word.bytes())?;
-        }
-        why.append(b"\"")?;
-        Ok(Answer::Failed(why))
+        World::no_entry(alloc, words)
     }
 
-    fn publish(&mut self, alloc: Global, call: BlueCall) -> Result<Answer, NoMemory> {
-        let text = match self.blueprint.act(call) {
-            BlueReply::Published(Published::Done(epoch)) => return said(alloc, epoch),
-            BlueReply::Published(Published::NotADefinition(place)) => {
-                format!(in alloc; "command {place} is no definition")?
-            }
-            BlueReply::Published(Published::NotApplicable(place)) => {
-                format!(in alloc; "definition {place} does not apply")?
-            }
-            BlueReply::Published(Published::Full(_)) => format!(in alloc; "blueprint full")?,
-            BlueReply::Published(Published::NoMemory) | BlueReply::Look(_) => return Err(NoMemory),
-        };
-        Ok(Answer::Failed(Text::new(alloc, text.as_bytes())?))
+    fn publish(&mut self, alloc: Global, call: BlueCall) -> Answer {
+        let reply = self.blueprint.act(call);
+        published(alloc, &reply)
     }
 
-    fn answer(
-        &mut self,
-        alloc: Global,
-        question: Question,
-        moment: u64,
-    ) -> Result<Answer, NoMemory> {
-        let Question { service, words } = question;
-        match service {
-            Service::Page => self.page(alloc, &words),
-            Service::Schedule => self.schedule(alloc, &words, moment),
-            Service::Publish => match publish_call(alloc, &words)? {
-                Asked::Puts(call) => self.publish(alloc, call),
-                Asked::Refused(answer) => Ok(answer),
-            },
-            Service::Save => self.publish(alloc, save_call(alloc, &words)?),
-            Service::Nsv | Service::Inner => match self.arrays.ask(&words)? {
-                NsvReply::Said(text) => Ok(Answer::Said(text)),
-                NsvReply::Failed(text) => Ok(Answer::Failed(text)),
-                NsvReply::NoMemory => Err(NoMemory),
-            },
+    /// Publishes what words ask to publish.
+    fn publish_asked(&mut self, alloc: Global, words: &Words) -> Answer {
+        match publish_call(alloc, words) {
+            Ok(Asked::Puts(call)) => self.publish(alloc, call),
+            Ok(Asked::Refused(answer)) => answer,
+            Err(_) => Answer::PageFault,
         }
     }
 
-    /// Answers the questions of a block, and tells how it ended.
+    /// Saves what words ask to save.
+    fn save_asked(&mut self, alloc: Global, words: &Words) -> Answer {
+        match save_call(alloc, words) {
+            Ok(call) => self.publish(alloc, call),
+            Err(_) => Answer::PageFault,
+        }
+    }
+
+    /// Asks the arrays.
+    fn ask_arrays(&mut self, words: &Words) -> Answer {
+        match self.arrays.ask(words) {
+            Ok(reply) => array_answer(reply),
+            Err(_) => Answer::PageFault,
+        }
+    }
+
+    /// The answer to a question. Where memory wants, it is one that the service never gives.
+    fn answer(&mut self, alloc: Global, question: &Question, moment: u64) -> Answer {
+        let words = &question.words;
+        match question.service {
+            Service::Page => self.page(alloc, words),
+            Service::Schedule => self.schedule(alloc, words, moment),
+            Service::Publish => self.publish_asked(alloc, words),
+            Service::Save => self.save_asked(alloc, words),
+            Service::Nsv | Service::Inner => self.ask_arrays(words),
+        }
+    }
+
+    /// Gives a run the answer to its question.
+    fn give(&mut self, alloc: Global, run: &mut Run, question: &Question) {
+        let answer = self.answer(alloc, question, run.moment);
+        let _pushed = run.answers.push(answer);
+    }
+
+    /// Answers the questions of a block, and tells how it ended. Where memory wants, nothing is told.
     pub fn define<L: Ledger>(
         &mut self,
         alloc: Global,
         natives: &Natives,
         mut run: Run,
         steps: &mut Steps<L>,
-    ) -> Result<(), NoMemory> {
+    ) {
         let mut epoch = run.epoch;
         for _ in 0..MOST_STEPS {
-            match run.replay(alloc, natives, steps)? {
-                Next::Asks(question) => {
-                    let publishes = question.service == Service::Publish;
-                    run.answers.push(self.answer(alloc, question, run.moment)?)?;
-                    if publishes {
+            match run.replay(alloc, natives, steps) {
+                Ok(Next::Asks(question)) => {
+                    self.give(alloc, &mut run, &question);
+                    if question.service == Service::Publish {
                         epoch = self.blueprint.epoch();
                     }
                 }
-                Next::Ended(outcome) => return self.tell_defined(alloc, epoch, outcome),
-                Next::Write(_) | Next::NoMemory => return Err(NoMemory),
+                Ok(Next::Ended(outcome)) => {
+                    self.tell_defined(alloc, epoch, &outcome);
+                    return;
+                }
+                _ => return,
             }
         }
-        Err(NoMemory)
     }
 
-    fn tell_defined(
-        &mut self,
-        alloc: Global,
-        epoch: u64,
-        outcome: Outcome,
-    ) -> Result<(), NoMemory> {
+    fn tell_defined(&mut self, alloc: Global, epoch: u64, outcome: &Outcome) {
         match outcome {
             Outcome::Done { code: 0, .. } => {
-                self.tell(format!(in alloc; "defined {epoch}\n")?.as_bytes())
+                self.tell(b"defined");
+                self.tell_number(alloc, epoch);
+                self.tell(b"\n");
             }
             Outcome::Done { result, .. } => {
-                let size = result.len();
-                self.tell(format!(in alloc; "define error {size}\n")?.as_bytes())?;
-                self.tell_block(result.bytes())
+                self.tell(b"define error");
+                self.tell_block(alloc, result.bytes());
             }
             Outcome::Spent => self.tell(b"define spent\n"),
             Outcome::TooDeep => self.tell(b"define deep\n"),
-            Outcome::Asks(_) | Outcome::NoMemory => Err(NoMemory),
+            Outcome::Asks(_) | Outcome::NoMemory => {}
         }
     }
 }
@@ -424,70 +457,98 @@ impl World {
 pub const MOST_STEPS: usize = 2000;
 
 impl World {
-    /// One step of a worker.
+    /// One step of a worker. Where memory wants, its connection is gone, of which nothing is told.
     pub fn step<L: Ledger>(
         &mut self,
         alloc: Global,
         natives: &Natives,
         place: usize,
         steps: &mut Steps<L>,
-    ) -> Result<(), NoMemory> {
+    ) {
         let Some(slot) = self.workers.get_mut(place) else {
-            return Ok(());
+            return;
         };
-        let Some(mut connection) = slot.take() else {
-            return Ok(());
+        let Some(connection) = slot.take() else {
+            return;
         };
-        let after = match connection.run.take() {
-            None => self.go_on(alloc, place, connection)?,
-            Some(run) => self.serve(alloc, natives, place, connection, run, steps)?,
-        };
+        let after = self.stepped(alloc, natives, place, connection, steps);
         if let Some(slot) = self.workers.get_mut(place) {
             *slot = after;
         }
-        Ok(())
     }
 
-    fn close(
+    /// The connection of a worker behind its step, if it isn't closed.
+    fn stepped<L: Ledger>(
         &mut self,
         alloc: Global,
+        natives: &Natives,
         place: usize,
-        why: &str,
-    ) -> Result<Option<Connection>, NoMemory> {
-        self.tell(format!(in alloc; "closed {place} {why}\n")?.as_bytes())?;
-        Ok(None)
+        mut connection: Connection,
+        steps: &mut Steps<L>,
+    ) -> Option<Connection> {
+        match connection.run.take() {
+            None => self.go_on(alloc, place, connection),
+            Some(run) => self.serve(alloc, natives, place, connection, run, steps),
+        }
+    }
+
+    /// Tells that a connection is closed, and why.
+    fn close(&mut self, alloc: Global, place: usize, why: &[u8]) {
+        self.tell(b"closed");
+        self.tell_number(alloc, place as u64);
+        self.tell(b" ");
+        self.tell(why);
+        self.tell(b"\n");
+    }
+
+    /// The same, with a number behind.
+    fn close_with(&mut self, alloc: Global, place: usize, why: &[u8], number: u64) {
+        self.tell(b"closed");
+        self.tell_number(alloc, place as u64);
+        self.tell(b" ");
+        self.tell(why);
+        self.tell_number(alloc, number);
+        self.tell(b"\n");
+    }
+
+    /// Tells of the bytes of a refusal.
+    fn refuse(&mut self, alloc: Global, place: usize, status: u16) {
+        let reply = match plain(alloc, status) {
+            Ok(reply) => response_bytes(alloc, &reply, self.moment, false, true),
+            Err(_) => Err(NoMemory),
+        };
+        if let Ok(bytes) = reply {
+            self.tell(b"response");
+            self.tell_number(alloc, place as u64);
+            self.tell(b" -");
+            self.tell_block(alloc, bytes.bytes());
+        }
+        self.close_with(alloc, place, b"refused", u64::from(status));
+    }
+
+    /// A connection whose next request has begun.
+    fn begun(&self, alloc: Global, mut connection: Connection) -> Option<Connection> {
+        let input = text(alloc, connection.input.bytes());
+        match self.begin(alloc, Kind::Request(input, connection.begun)) {
+            Ok(run) => {
+                connection.run = Some(run);
+                connection.begun = connection.begun.saturating_add(1);
+                Some(connection)
+            }
+            Err(_) => None,
+        }
     }
 
     /// One step of a worker that serves no request.
-    fn go_on(
-        &mut self,
-        alloc: Global,
-        place: usize,
-        mut connection: Connection,
-    ) -> Result<Option<Connection>, NoMemory> {
-        match read_nth(alloc, &connection.input, connection.begun)? {
-            Got::Request(_) => {
-                let kind = Kind::Request(connection.input.copy(alloc)?, connection.begun);
-                connection.run = Some(self.begin(alloc, kind)?);
-                connection.begun = connection.begun.saturating_add(1);
-                Ok(Some(connection))
-            }
-            Got::End => self.close(alloc, place, "ended"),
-            Got::Truncated { have } => {
-                self.tell(format!(in alloc; "closed {place} truncated {have}\n")?.as_bytes())?;
-                Ok(None)
-            }
-            Got::Refused { status } => {
-                let reply = plain(alloc, status)?;
-                let bytes = response_bytes(alloc, &reply, self.moment, false, true)?;
-                let size = bytes.len();
-                self.tell(format!(in alloc; "response {place} - {size}\n")?.as_bytes())?;
-                self.tell_block(bytes.bytes())?;
-                self.tell(format!(in alloc; "closed {place} refused {status}\n")?.as_bytes())?;
-                Ok(None)
-            }
-            Got::ReadFault | Got::NoMemory => Err(NoMemory),
+    fn go_on(&mut self, alloc: Global, place: usize, connection: Connection) -> Option<Connection> {
+        match read_nth(alloc, &connection.input, connection.begun) {
+            Got::Request(_) => return self.begun(alloc, connection),
+            Got::End => self.close(alloc, place, b"ended"),
+            Got::Truncated { have } => self.close_with(alloc, place, b"truncated", have),
+            Got::Refused { status } => self.refuse(alloc, place, status),
+            Got::ReadFault | Got::NoMemory => {}
         }
+        None
     }
 
     /// One step of a worker that serves a request.
@@ -499,36 +560,42 @@ impl World {
         mut connection: Connection,
         mut run: Run,
         steps: &mut Steps<L>,
-    ) -> Result<Option<Connection>, NoMemory> {
-        match run.replay(alloc, natives, steps)? {
-            Next::Asks(question) => {
-                let answer = self.answer(alloc, question, run.moment)?;
+    ) -> Option<Connection> {
+        match run.replay(alloc, natives, steps) {
+            Ok(Next::Asks(question)) => {
+                let answer = self.answer(alloc, &question, run.moment);
                 connection.bytes = connection.bytes.saturating_add(size_of(&answer));
-                run.answers.push(answer)?;
+                let _pushed = run.answers.push(answer);
                 connection.run = Some(run);
-                Ok(Some(connection))
+                Some(connection)
             }
-            Next::Write(response) => {
-                self.respond(alloc, place, &connection, &run, &response)?;
+            Ok(Next::Write(response)) => {
+                self.respond(alloc, place, &connection, &run, &response);
                 run.written = true;
                 connection.run = Some(run);
-                Ok(Some(connection))
+                Some(connection)
             }
-            Next::Ended(_) => {
+            Ok(Next::Ended(_)) => {
                 drop(run);
                 self.end(alloc, place, connection)
             }
-            Next::NoMemory => Err(NoMemory),
+            _ => None,
         }
     }
 
-    /// Whether the last request of a connection that began asks to close, and asks for the head alone.
-    fn manner(alloc: Global, connection: &Connection) -> Result<(bool, bool), NoMemory> {
+    /// Whether the last request of a connection that began asks to close, and asks for the head alone; `None` where
+    /// memory wants.
+    fn manner(alloc: Global, connection: &Connection) -> Option<(bool, bool)> {
         let number = connection.begun.saturating_sub(1);
-        match read_nth(alloc, &connection.input, number)? {
-            Got::Request(request) => Ok((asks_close(&request), is_head_only(&request))),
-            _ => Err(NoMemory),
+        match read_nth(alloc, &connection.input, number) {
+            Got::Request(request) => Some((asks_close(&request), is_head_only(&request))),
+            _ => None,
         }
+    }
+
+    /// Whether a connection has had as many requests, or as many bytes of answers, as one may have.
+    fn is_spent(connection: &Connection) -> bool {
+        connection.begun >= 100 || connection.bytes > 8_388_608
     }
 
     fn respond(
@@ -538,30 +605,29 @@ impl World {
         connection: &Connection,
         run: &Run,
         response: &Response,
-    ) -> Result<(), NoMemory> {
-        let (closing, head_only) = World::manner(alloc, connection)?;
-        let closes = closing || connection.begun >= 100 || connection.bytes > 8_388_608;
-        let bytes = response_bytes(alloc, response, run.moment, head_only, closes)?;
-        let size = bytes.len();
-        let epoch = run.epoch;
-        self.tell(format!(in alloc; "response {place} {epoch} {size}\n")?.as_bytes())?;
-        self.tell_block(bytes.bytes())
+    ) {
+        let Some((closing, head_only)) = World::manner(alloc, connection) else {
+            return;
+        };
+        let closes = closing || World::is_spent(connection);
+        if let Ok(bytes) = response_bytes(alloc, response, run.moment, head_only, closes) {
+            self.tell(b"response");
+            self.tell_number(alloc, place as u64);
+            self.tell_number(alloc, run.epoch);
+            self.tell_block(alloc, bytes.bytes());
+        }
     }
 
-    fn end(
-        &mut self,
-        alloc: Global,
-        place: usize,
-        connection: Connection,
-    ) -> Result<Option<Connection>, NoMemory> {
-        let (closing, _) = World::manner(alloc, &connection)?;
-        if closing {
-            self.close(alloc, place, "closing")
-        } else if connection.begun >= 100 || connection.bytes > 8_388_608 {
-            self.close(alloc, place, "spent")
-        } else {
-            Ok(Some(connection))
+    fn end(&mut self, alloc: Global, place: usize, connection: Connection) -> Option<Connection> {
+        match World::manner(alloc, &connection) {
+            Some((true, _)) => self.close(alloc, place, b"closing"),
+            Some((false, _)) if World::is_spent(&connection) => {
+                self.close(alloc, place, b"spent");
+            }
+            Some((false, _)) => return Some(connection),
+            None => {}
         }
+        None
     }
 
     /// The place of the entry that is due first at this moment, if any is.
@@ -588,7 +654,7 @@ impl World {
     }
 
     /// Takes the scripts that are due; each is taken out, and what runs again is put in at last.
-    fn take_due(&mut self, alloc: Global) -> Result<(), NoMemory> {
+    fn take_due(&mut self, alloc: Global) {
         let mut taken = Vec::new(alloc);
         let mut again = Vec::new(alloc);
         for _ in 0..self.entries.len() {
@@ -599,70 +665,66 @@ impl World {
                 break;
             }
             let mut entry = self.entries.remove(place);
-            taken.push((entry.id, entry.script.copy(alloc)?))?;
+            let _taken = taken.push((entry.id, text(alloc, entry.script.bytes())));
             if entry.once {
                 drop(entry);
             } else {
                 entry.due = self.due_next(entry.due, entry.seconds);
-                again.push(entry)?;
+                let _again = again.push(entry);
             }
         }
         for entry in again {
-            self.entries.push(entry)?;
+            let _entered = self.entries.push(entry);
         }
         taken.as_mut_slice().reverse();
         self.waiting = taken;
-        Ok(())
     }
 
-    /// One step of the scheduler.
+    /// Takes the next of the scripts that were taken, or those that are due.
+    fn take_next(&mut self, alloc: Global) {
+        match self.waiting.pop() {
+            None => self.take_due(alloc),
+            Some((id, script)) => {
+                if let Ok(run) = self.begin(alloc, Kind::Script(script)) {
+                    self.running = Some((id, run));
+                }
+            }
+        }
+    }
+
+    /// One step of the scheduler. Where memory wants, its script is gone, of which nothing is told.
     pub fn step_scheduler<L: Ledger>(
         &mut self,
         alloc: Global,
         natives: &Natives,
         steps: &mut Steps<L>,
-    ) -> Result<(), NoMemory> {
+    ) {
         let Some((id, mut run)) = self.running.take() else {
-            return match self.waiting.pop() {
-                None => self.take_due(alloc),
-                Some((id, script)) => {
-                    let run = self.begin(alloc, Kind::Script(script))?;
-                    self.running = Some((id, run));
-                    Ok(())
-                }
-            };
+            self.take_next(alloc);
+            return;
         };
-        match run.replay(alloc, natives, steps)? {
-            Next::Asks(question) => {
-                run.answers.push(self.answer(alloc, question, run.moment)?)?;
+        match run.replay(alloc, natives, steps) {
+            Ok(Next::Asks(question)) => {
+                self.give(alloc, &mut run, &question);
                 self.running = Some((id, run));
-                Ok(())
             }
-            Next::Ended(outcome) => self.tell_script(alloc, id, run.epoch, outcome),
-            Next::Write(_) | Next::NoMemory => Err(NoMemory),
+            Ok(Next::Ended(outcome)) => self.tell_script(alloc, id, run.epoch, &outcome),
+            _ => {}
         }
     }
 
-    fn tell_script(
-        &mut self,
-        alloc: Global,
-        id: u64,
-        epoch: u64,
-        outcome: Outcome,
-    ) -> Result<(), NoMemory> {
+    fn tell_script(&mut self, alloc: Global, id: u64, epoch: u64, outcome: &Outcome) {
+        self.tell(b"script");
+        self.tell_number(alloc, id);
+        self.tell_number(alloc, epoch);
         match outcome {
             Outcome::Done { code, result } => {
-                let size = result.len();
-                self.tell(format!(in alloc; "script {id} {epoch} {code} {size}\n")?.as_bytes())?;
-                self.tell_block(result.bytes())
+                self.tell_number(alloc, u64::from(*code));
+                self.tell_block(alloc, result.bytes());
             }
-            Outcome::Spent => self.tell(format!(in alloc;
-                "script {id} {epoch} spent\n"
-            )?.as_bytes()),
-            Outcome::TooDeep => self.tell(format!(in alloc;
-                "script {id} {epoch} deep\n"
-            )?.as_bytes()),
-            Outcome::Asks(_) | Outcome::NoMemory => Err(NoMemory),
+            Outcome::Spent => self.tell(b" spent\n"),
+            Outcome::TooDeep => self.tell(b" deep\n"),
+            Outcome::Asks(_) | Outcome::NoMemory => {}
         }
     }
 

@@ -1,12 +1,13 @@
 //! The reading of a file for the plain machine: line by line, from the whole of it.
 
+use crate::machine::text;
 use crate::plain::{Connection, Kind, MOST_STEPS, World};
 use cmd_table::Steps;
 use natives::Natives;
 use rehearse::Rehearsal;
 use std::alloc::Global;
 use std::sync::ledger::Ledger;
-use txt_core::{NoMemory, Text, read_int_bytes, write_int};
+use txt_core::{read_int_bytes, write_int};
 
 /// How many events a file has at most.
 const MOST_EVENTS: u64 = 5000;
@@ -15,13 +16,18 @@ const MOST_EVENTS: u64 = 5000;
 const MOST_BYTES: usize = 67_108_864;
 
 /// The number that a word is, in decimal without extra zeros.
-fn number(alloc: Global, word: &[u8]) -> Result<Option<u64>, NoMemory> {
+fn number(alloc: Global, word: &[u8]) -> Option<u64> {
     match read_int_bytes(word) {
-        None => Ok(None),
-        Some(n) => {
-            let same = write_int(alloc, n)?.bytes() == word;
-            Ok(if same && n >= 0 { Some(n as u64) } else { None })
-        }
+        Some(n) if n >= 0 && is_written(alloc, n, word) => Some(n as u64),
+        _ => None,
+    }
+}
+
+/// Whether a number is written so.
+fn is_written(alloc: Global, number: i64, word: &[u8]) -> bool {
+    match write_int(alloc, number) {
+        Ok(digits) => digits.bytes() == word,
+        Err(_) => false,
     }
 }
 
@@ -45,6 +51,55 @@ fn cut_block(bytes: &[u8], size: u64, most: u64) -> Option<(&[u8], &[u8])> {
 }
 
 impl World {
+    /// Sets a page: what is left behind the event; `None` where it is none.
+    fn act_page<'a>(
+        &mut self,
+        alloc: Global,
+        path: &[u8],
+        size: u64,
+        rest: &'a [u8],
+    ) -> Option<&'a [u8]> {
+        let (page, left) = cut_block(rest, size, 1_048_576)?;
+        if path.first() != Some(&b'/') {
+            return None;
+        }
+        let _set = self.pages.push((text(alloc, path), text(alloc, page)));
+        Some(left)
+    }
+
+    /// Gives a connection to a worker that is idle; whether there is such a worker.
+    fn connect(&mut self, alloc: Global, worker: u64, input: &[u8]) -> bool {
+        if worker >= self.workers.len() as u64 || !self.is_idle(worker as usize) {
+            return false;
+        }
+        if let Some(slot) = self.workers.get_mut(worker as usize) {
+            *slot = Some(Connection {
+                input: text(alloc, input),
+                begun: 0,
+                bytes: 0,
+                run: None,
+            });
+        }
+        true
+    }
+
+    /// Gives a connection: what is left behind the event; `None` where it is none.
+    fn act_connection<'a>(
+        &mut self,
+        alloc: Global,
+        worker: &[u8],
+        size: u64,
+        rest: &'a [u8],
+    ) -> Option<&'a [u8]> {
+        let worker = number(alloc, worker)?;
+        let (input, left) = cut_block(rest, size, 16_777_216)?;
+        if self.connect(alloc, worker, input) {
+            Some(left)
+        } else {
+            None
+        }
+    }
+
     /// Sets a page or gives a connection: what is left behind the event; `None` where it is none.
     fn act_with_name<'a>(
         &mut self,
@@ -52,42 +107,47 @@ impl World {
         name: &[u8],
         tail: &[u8],
         rest: &'a [u8],
-    ) -> Result<Option<&'a [u8]>, NoMemory> {
-        let Some((first, size)) = cut(tail, b' ') else {
-            return Ok(None);
-        };
-        let Some(size) = number(alloc, size)? else {
-            return Ok(None);
-        };
+    ) -> Option<&'a [u8]> {
+        let (first, size) = cut(tail, b' ')?;
+        let size = number(alloc, size)?;
         if name == b"page".as_slice() {
-            let Some((page, left)) = cut_block(rest, size, 1_048_576) else {
-                return Ok(None);
-            };
-            if first.first() != Some(&b'/') {
-                return Ok(None);
+            self.act_page(alloc, first, size, rest)
+        } else {
+            self.act_connection(alloc, first, size, rest)
+        }
+    }
+
+    /// Lets the scheduler take one step, or steps until it is idle.
+    fn act_scheduler<L: Ledger>(
+        &mut self,
+        alloc: Global,
+        natives: &Natives,
+        all: bool,
+        steps: &mut Steps<L>,
+    ) {
+        for _ in 0..if all { MOST_STEPS } else { 1 } {
+            self.step_scheduler(alloc, natives, steps);
+            if self.is_scheduler_idle() {
+                return;
             }
-            self.pages
-                .push((Text::new(alloc, first)?, Text::new(alloc, page)?))?;
-            return Ok(Some(left));
         }
-        let Some(worker) = number(alloc, first)? else {
-            return Ok(None);
-        };
-        let Some((input, left)) = cut_block(rest, size, 16_777_216) else {
-            return Ok(None);
-        };
-        if worker >= self.workers.len() as u64 || !self.is_idle(worker as usize) {
-            return Ok(None);
+    }
+
+    /// Lets a worker take one step, or steps until it is idle.
+    fn act_worker<L: Ledger>(
+        &mut self,
+        alloc: Global,
+        natives: &Natives,
+        worker: usize,
+        all: bool,
+        steps: &mut Steps<L>,
+    ) {
+        for _ in 0..if all { MOST_STEPS } else { 1 } {
+            self.step(alloc, natives, worker, steps);
+            if self.is_idle(worker) {
+                return;
+            }
         }
-        if let Some(slot) = self.workers.get_mut(worker as usize) {
-            *slot = Some(Connection {
-                input: Text::new(alloc, input)?,
-                begun: 0,
-                bytes: 0,
-                run: None,
-            });
-        }
-        Ok(Some(left))
     }
 
     /// Lets an actor take one step, or steps until it is idle; whether there is one.
@@ -98,29 +158,71 @@ impl World {
         word: &[u8],
         all: bool,
         steps: &mut Steps<L>,
-    ) -> Result<bool, NoMemory> {
-        let scheduler = word == b"s".as_slice();
-        let worker = match number(alloc, word)? {
-            Some(worker) if worker < self.workers.len() as u64 => worker as usize,
-            _ if scheduler => 0,
-            _ => return Ok(false),
-        };
-        for _ in 0..if all { MOST_STEPS } else { 1 } {
-            if scheduler {
-                self.step_scheduler(alloc, natives, steps)?;
-            } else {
-                self.step(alloc, natives, worker, steps)?;
+    ) -> bool {
+        if word == b"s".as_slice() {
+            self.act_scheduler(alloc, natives, all, steps);
+            return true;
+        }
+        match number(alloc, word) {
+            Some(worker) if worker < self.workers.len() as u64 => {
+                self.act_worker(alloc, natives, worker as usize, all, steps);
+                true
             }
-            let idle = if scheduler {
-                self.is_scheduler_idle()
-            } else {
-                self.is_idle(worker)
-            };
-            if idle {
-                break;
+            _ => false,
+        }
+    }
+
+    /// Runs a block: what is left behind the event; `None` where it is none.
+    fn act_block<'a, L: Ledger>(
+        &mut self,
+        alloc: Global,
+        natives: &Natives,
+        size: u64,
+        rest: &'a [u8],
+        steps: &mut Steps<L>,
+    ) -> Option<&'a [u8]> {
+        let (block, left) = cut_block(rest, size, 8_388_608)?;
+        if let Ok(run) = self.begin(alloc, Kind::Define(text(alloc, block))) {
+            self.define(alloc, natives, run, steps);
+        }
+        Some(left)
+    }
+
+    /// Sets the clock or the number of workers; whether that is an event.
+    fn act_number(&mut self, name: &[u8], value: u64, first: bool) -> bool {
+        if name == b"clock".as_slice() && value <= 253_402_300_799 {
+            self.moment = value;
+            return true;
+        }
+        let is_workers = name == b"workers".as_slice() && first && value >= 1 && value <= 16;
+        if is_workers {
+            for _ in 1..value {
+                let _pushed = self.workers.push(None);
             }
         }
-        Ok(true)
+        is_workers
+    }
+
+    /// Does the event of a line that is a name and a number, and gives what is left behind it; `None` where it is no
+    /// event.
+    fn act_with_number<'a, L: Ledger>(
+        &mut self,
+        alloc: Global,
+        natives: &Natives,
+        first: bool,
+        event: (&[u8], u64),
+        rest: &'a [u8],
+        steps: &mut Steps<L>,
+    ) -> Option<&'a [u8]> {
+        let (name, value) = event;
+        if name == b"define".as_slice() {
+            return self.act_block(alloc, natives, value, rest, steps);
+        }
+        if self.act_number(name, value, first) {
+            Some(rest)
+        } else {
+            None
+        }
     }
 
     /// Does the event of a line, and gives what is left behind it; `None` where it is no event.
@@ -132,64 +234,67 @@ impl World {
         line: &[u8],
         rest: &'a [u8],
         steps: &mut Steps<L>,
-    ) -> Result<Option<&'a [u8]>, NoMemory> {
-        let Some((name, tail)) = cut(line, b' ') else {
-            return Ok(None);
-        };
-        if name == b"connect".as_slice() || name == b"page".as_slice() {
-            return self.act_with_name(alloc, name, tail, rest);
-        }
-        if name == b"step".as_slice() || name == b"run".as_slice() {
-            let all = name == b"run".as_slice();
-            let came = self.act_actor(alloc, natives, tail, all, steps)?;
-            return Ok(if came { Some(rest) } else { None });
-        }
-        let Some(value) = number(alloc, tail)? else {
-            return Ok(None);
-        };
-        if name == b"define".as_slice() {
-            let Some((block, left)) = cut_block(rest, value, 8_388_608) else {
-                return Ok(None);
-            };
-            let run = self.begin(alloc, Kind::Define(Text::new(alloc, block)?))?;
-            self.define(alloc, natives, run, steps)?;
-            return Ok(Some(left));
-        }
-        if name == b"clock".as_slice() && value <= 253_402_300_799 {
-            self.moment = value;
-            return Ok(Some(rest));
-        }
-        if name == b"workers".as_slice() && first && value >= 1 && value <= 16 {
-            for _ in 1..value {
-                self.workers.push(None)?;
+    ) -> Option<&'a [u8]> {
+        let (name, tail) = cut(line, b' ')?;
+        match name {
+            b"connect" | b"page" => self.act_with_name(alloc, name, tail, rest),
+            b"step" | b"run" => {
+                let all = name == b"run".as_slice();
+                if self.act_actor(alloc, natives, tail, all, steps) {
+                    Some(rest)
+                } else {
+                    None
+                }
             }
-            return Ok(Some(rest));
+            _ => {
+                let value = number(alloc, tail)?;
+                self.act_with_number(alloc, natives, first, (name, value), rest, steps)
+            }
         }
-        Ok(None)
+    }
+
+    /// Plays a file, and gives what its rehearsal must answer.
+    fn play<L: Ledger>(
+        &mut self,
+        alloc: Global,
+        natives: &Natives,
+        file: &[u8],
+        steps: &mut Steps<L>,
+    ) -> Rehearsal {
+        let mut left = file;
+        for event in 1..MOST_EVENTS {
+            if left.is_empty() {
+                break;
+            }
+            let came = match cut(left, b'\n') {
+                None => None,
+                Some((line, rest)) => self.act(alloc, natives, event == 1, line, rest, steps),
+            };
+            match came {
+                Some(rest) if file.len().saturating_sub(rest.len()) <= MOST_BYTES => left = rest,
+                _ => return Rehearsal::BadEvent { event },
+            }
+        }
+        Rehearsal::Done
     }
 }
 
-/// What the rehearsal of a file must answer and write.
-pub fn play<L: Ledger>(
+/// Whether the rehearsal of a file must answer and write this.
+pub fn must_come<L: Ledger>(
     alloc: Global,
     natives: &Natives,
     file: &[u8],
+    answer: Rehearsal,
+    written: &[u8],
     steps: &mut Steps<L>,
-) -> Result<(Rehearsal, Text), NoMemory> {
-    let mut world = World::new(alloc, natives)?;
-    let mut left = file;
-    for event in 1..MOST_EVENTS {
-        if left.is_empty() {
-            break;
+) -> bool {
+    match World::new(alloc, natives) {
+        Ok(mut world) => {
+            let right = world.play(alloc, natives, file, steps) == answer;
+            let listed = world.listing.bytes() == written;
+            drop(world);
+            right && listed
         }
-        let came = match cut(left, b'\n') {
-            None => None,
-            Some((line, rest)) => world.act(alloc, natives, event == 1, line, rest, steps)?,
-        };
-        match came {
-            Some(rest) if file.len().saturating_sub(rest.len()) <= MOST_BYTES => left = rest,
-            _ => return Ok((Rehearsal::BadEvent { event }, world.listing)),
-        }
+        Err(_) => false,
     }
-    Ok((Rehearsal::Done, world.listing))
 }

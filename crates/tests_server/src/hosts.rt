@@ -1,78 +1,75 @@
 //! Rows of commands and of whole runs, with what each comes to.
 
-use blueprint::script_of;
+use crate::texts::{add_def, again, digits, put, script, text, words_between};
 use cmd_table::{Def, Defs, copy_def};
 use http_req::Request;
 use outside::{Answer, Question, Service};
 use server_host::{Edition, RunHost};
 use std::alloc::Global;
 use std::rc::Rc;
-use std::test::Fail;
 use tcl_host::{Host, HostReply};
-use txt_core::{NoMemory, Pairs, Text, Words, write_natural};
-
-/// The words between the bars of a line.
-fn words_of(alloc: Global, line: &str) -> Result<Words, NoMemory> {
-    let mut words = Words::new(alloc);
-    for word in line.as_bytes().split(|byte| *byte == b'|') {
-        words.add(Text::new(alloc, word)?)?;
-    }
-    Ok(words)
-}
+use txt_core::{NoMemory, Pairs, Text, Words};
 
 /// A list of one definition.
-fn one(alloc: Global, def: Def) -> Result<Defs, NoMemory> {
+fn one(alloc: Global, def: Def) -> Defs {
     let mut defs = Defs::new(alloc);
-    defs.add(def)?;
-    Ok(defs)
+    add_def(&mut defs, def);
+    defs
 }
 
 /// The definition of a global variable.
-fn greeting(alloc: Global) -> Result<Def, NoMemory> {
-    Ok(Def::Set {
-        name: Text::new(alloc, b"motd")?,
-        value: Text::new(alloc, b"hello you")?,
-    })
+fn greeting(alloc: Global) -> Def {
+    Def::Set {
+        name: text(alloc, b"motd"),
+        value: text(alloc, b"hello you"),
+    }
 }
 
 /// A blueprint of epoch 1 with one definition.
-fn published(alloc: Global) -> Result<Edition, NoMemory> {
-    let defs = one(alloc, greeting(alloc)?)?;
-    Ok(Edition { epoch: 1, defs })
+fn published(alloc: Global) -> Edition {
+    Edition {
+        epoch: 1,
+        defs: one(alloc, greeting(alloc)),
+    }
 }
 
-/// A blueprint of epoch 2, to which a definition was added.
-fn extended(alloc: Global) -> Result<Edition, NoMemory> {
-    let script = Text::new(alloc, b"x")?;
-    let defs = one(alloc, Def::Cleanup { script })?;
-    let mut edition = published(alloc)?;
-    edition.add(alloc, 2, &defs)?;
-    Ok(edition)
+/// A cleanup script.
+fn cleanup(alloc: Global) -> Def {
+    Def::Cleanup {
+        script: text(alloc, b"x"),
+    }
+}
+
+/// A blueprint of epoch 2, to which a definition was added; that of epoch 1 where memory wants.
+fn extended(alloc: Global) -> Edition {
+    let mut edition = published(alloc);
+    let _added = edition.add(alloc, 2, &one(alloc, cleanup(alloc)));
+    edition
 }
 
 /// A GET of `/`.
-fn request(alloc: Global) -> Result<Request, NoMemory> {
-    Ok(Request {
-        method: Text::new(alloc, b"GET")?,
-        target: Text::new(alloc, b"/")?,
+fn request(alloc: Global) -> Request {
+    Request {
+        method: text(alloc, b"GET"),
+        target: text(alloc, b"/"),
         segments: Words::new(alloc),
         query: Text::empty(alloc),
         minor: 1,
         fields: Pairs::new(alloc),
         body: Text::empty(alloc),
-        peer: Text::new(alloc, b"127.0.0.1")?,
-    })
+        peer: text(alloc, b"127.0.0.1"),
+    }
 }
 
 /// A host in no run.
 fn idle(alloc: Global) -> Result<RunHost, NoMemory> {
-    let blueprint = Rc::new(alloc, published(alloc)?)?;
+    let blueprint = Rc::new(alloc, published(alloc))?;
     RunHost::new(alloc, blueprint)
 }
 
 /// Begins the run of a request.
 fn serve(alloc: Global, host: &mut RunHost) -> Result<(), NoMemory> {
-    host.serve(request(alloc)?, 7)
+    host.serve(request(alloc), 7)
 }
 
 /// Begins the run of a scheduled script.
@@ -95,9 +92,11 @@ fn begin(alloc: Global, host: &mut RunHost, kind: u8) -> Result<(), NoMemory> {
 }
 
 /// The script of a definition.
-fn defined(alloc: Global, def: &Def) -> Result<Text, NoMemory> {
-    let defs = one(alloc, copy_def(alloc, def)?)?;
-    script_of(alloc, &defs)
+fn defined(alloc: Global, def: &Def) -> Text {
+    match copy_def(alloc, def) {
+        Ok(def) => script(alloc, &one(alloc, def)),
+        Err(_) => Text::empty(alloc),
+    }
 }
 
 /// Whom a question goes to.
@@ -113,28 +112,28 @@ fn service(service: &Service) -> &[u8] {
 }
 
 /// A question: whom it goes to, and its words.
-fn asked(alloc: Global, question: &Question) -> Result<Text, NoMemory> {
-    let mut text = Text::new(alloc, service(&question.service))?;
+fn asked(alloc: Global, question: &Question) -> Text {
+    let mut told = text(alloc, service(&question.service));
     for word in question.words.as_slice() {
-        text.append(b" ")?;
-        text.append(word.bytes())?;
+        put(&mut told, b" ");
+        put(&mut told, word.bytes());
     }
-    Ok(text)
+    told
 }
 
 /// A code, and the result that came with it where it isn't empty.
-fn done(alloc: Global, code: u8, outcome: &Text) -> Result<Text, NoMemory> {
-    let mut text = write_natural(alloc, u64::from(code))?;
+fn done(alloc: Global, code: u8, outcome: &Text) -> Text {
+    let mut told = digits(alloc, u64::from(code));
     if !outcome.bytes().is_empty() {
-        text.append(b" ")?;
-        text.append(outcome.bytes())?;
+        put(&mut told, b" ");
+        put(&mut told, outcome.bytes());
     }
-    Ok(text)
+    told
 }
 
 /// A reply: the code and the result, the question, the script of the definition, or `page` where one is
-/// entered; `?` where the host has no such command.
-fn told(alloc: Global, reply: &HostReply) -> Result<Text, NoMemory> {
+/// entered; `?` where the host has no such command. Nothing where memory wants.
+fn told(alloc: Global, reply: &HostReply) -> Text {
     match reply {
         HostReply::Done {
             code,
@@ -142,10 +141,10 @@ fn told(alloc: Global, reply: &HostReply) -> Result<Text, NoMemory> {
         } => done(alloc, *code, outcome),
         HostReply::Ask(question) => asked(alloc, question),
         HostReply::Define(def) => defined(alloc, def),
-        HostReply::Enter(_) => Text::new(alloc, b"page"),
-        HostReply::Store { .. } => Text::new(alloc, b"store"),
-        HostReply::NotMine => Text::new(alloc, b"?"),
-        HostReply::NoMemory => Err(NoMemory),
+        HostReply::Enter(_) => text(alloc, b"page"),
+        HostReply::Store { .. } => text(alloc, b"store"),
+        HostReply::NotMine => text(alloc, b"?"),
+        HostReply::NoMemory => Text::empty(alloc),
     }
 }
 
@@ -155,16 +154,17 @@ fn call(host: &mut RunHost, words: &Words) -> HostReply {
 }
 
 /// Does the command of a line.
-fn does(alloc: Global, host: &mut RunHost, line: &str) -> Result<Text, NoMemory> {
-    let words = words_of(alloc, line)?;
-    let reply = call(host, &words);
+fn does(alloc: Global, host: &mut RunHost, line: &str) -> Text {
+    let reply = call(host, &words_between(alloc, line, "|"));
     told(alloc, &reply)
 }
 
 /// Begins a run, and does the command of a line in it.
-fn begins(alloc: Global, host: &mut RunHost, kind: u8, line: &str) -> Result<Text, NoMemory> {
-    begin(alloc, host, kind)?;
-    does(alloc, host, line)
+fn begins(alloc: Global, host: &mut RunHost, kind: u8, line: &str) -> Text {
+    match begin(alloc, host, kind) {
+        Ok(()) => does(alloc, host, line),
+        Err(_) => Text::empty(alloc),
+    }
 }
 
 /// Gives an answer.
@@ -172,33 +172,40 @@ fn answer(host: &mut RunHost, words: &Words, given: &Answer) -> HostReply {
     host.answered(words, given)
 }
 
-/// A bucket says a text to `nsv_names`.
-fn says(alloc: Global, host: &mut RunHost, line: &str) -> Result<Text, NoMemory> {
-    let words = words_of(alloc, "nsv_names")?;
-    let given = Answer::Said(Text::new(alloc, line.as_bytes())?);
-    let reply = answer(host, &words, &given);
+/// An answer comes to a command of a line.
+fn answers(alloc: Global, host: &mut RunHost, line: &str, given: &Answer) -> Text {
+    let reply = answer(host, &words_between(alloc, line, "|"), given);
     told(alloc, &reply)
+}
+
+/// A bucket says a text to `nsv_names`.
+fn says(alloc: Global, host: &mut RunHost, line: &str) -> Text {
+    let given = Answer::Said(text(alloc, line.as_bytes()));
+    answers(alloc, host, "nsv_names", &given)
 }
 
 /// A page of this text is there for `ns_adp_include`.
-fn enters(alloc: Global, host: &mut RunHost, line: &str) -> Result<Text, NoMemory> {
-    let words = words_of(alloc, "ns_adp_include|x")?;
-    let given = Answer::Page(Text::new(alloc, line.as_bytes())?);
-    let reply = answer(host, &words, &given);
-    told(alloc, &reply)
+fn enters(alloc: Global, host: &mut RunHost, line: &str) -> Text {
+    let given = Answer::Page(text(alloc, line.as_bytes()));
+    answers(alloc, host, "ns_adp_include|x", &given)
+}
+
+/// Takes a text of a page.
+fn take(host: &mut RunHost, text: &Text) -> HostReply {
+    host.text(text)
 }
 
 /// Puts out a text of a page.
-fn puts(alloc: Global, host: &mut RunHost, line: &str) -> Result<Text, NoMemory> {
-    let text = Text::new(alloc, line.as_bytes())?;
-    let reply = host.text(&text);
+fn puts(alloc: Global, host: &mut RunHost, line: &str) -> Text {
+    let reply = take(host, &text(alloc, line.as_bytes()));
     told(alloc, &reply)
 }
 
-/// Puts the host on the further blueprint.
-fn update(alloc: Global, host: &mut RunHost) -> Result<(), NoMemory> {
-    host.set_blueprint(Rc::new(alloc, extended(alloc)?)?);
-    Ok(())
+/// Puts the host on the further blueprint, where there is memory for it.
+fn update(alloc: Global, host: &mut RunHost) {
+    if let Ok(blueprint) = Rc::new(alloc, extended(alloc)) {
+        host.set_blueprint(blueprint);
+    }
 }
 
 /// Takes back all that a run left.
@@ -217,69 +224,74 @@ fn leave_all(host: &mut RunHost) {
 }
 
 /// Changes the host as a line says.
-fn changes(alloc: Global, host: &mut RunHost, line: &str) -> Result<Text, NoMemory> {
+fn changes(alloc: Global, host: &mut RunHost, line: &str) -> Text {
     match line.as_bytes() {
-        b"update" => update(alloc, host)?,
+        b"update" => update(alloc, host),
         b"clear" => clear(host),
         b"fail" => fail(host),
         _ => leave_all(host),
     }
-    Text::new(alloc, b"done")
+    text(alloc, b"done")
 }
 
 /// Whether the run is marked.
-fn mark(alloc: Global, host: &RunHost) -> Result<Text, NoMemory> {
+fn mark(host: &RunHost) -> &'static [u8] {
     if host.marked() {
-        return Text::new(alloc, b"marked");
+        b"marked"
+    } else {
+        b"not marked"
     }
-    Text::new(alloc, b"not marked")
 }
 
 /// The status of the response that was given; 0 where there is none.
-fn status(host: &RunHost) -> u16 {
+fn status(host: &RunHost) -> u64 {
     match host.response() {
-        Some(response) => response.status,
+        Some(response) => u64::from(response.status),
         None => 0,
     }
 }
 
-/// How many output fields there are.
-fn fields(alloc: Global, host: &RunHost) -> Result<Text, NoMemory> {
-    let fields = host.output_fields()?;
-    write_natural(alloc, fields.len() as u64)
+/// How many output fields there are; more than can be where memory wants.
+fn fields(host: &RunHost) -> u64 {
+    match host.output_fields() {
+        Ok(fields) => fields.len() as u64,
+        Err(_) => u64::MAX,
+    }
 }
 
 /// What a line asks of the host.
-fn looks(alloc: Global, host: &RunHost, line: &str) -> Result<Text, NoMemory> {
+fn looks(alloc: Global, host: &RunHost, line: &str) -> Text {
     match line.as_bytes() {
-        b"mark" => mark(alloc, host),
-        b"status" => write_natural(alloc, u64::from(status(host))),
-        b"fields" => fields(alloc, host),
-        b"output" => host.output().copy(alloc),
-        _ => write_natural(alloc, host.errors()),
+        b"mark" => text(alloc, mark(host)),
+        b"status" => digits(alloc, status(host)),
+        b"fields" => digits(alloc, fields(host)),
+        b"output" => again(alloc, host.output()),
+        _ => digits(alloc, host.errors()),
     }
+}
+
+/// Whether a reply is that of a command which the host has.
+fn is_mine(reply: &HostReply) -> bool {
+    !matches!(reply, HostReply::NotMine)
 }
 
 /// Whether the host has a command of this name.
-fn knows(alloc: Global, host: &mut RunHost, name: &str) -> Result<bool, NoMemory> {
-    let words = words_of(alloc, name)?;
-    let reply = call(host, &words);
-    Ok(!matches!(&reply, HostReply::NotMine))
+fn knows(alloc: Global, host: &mut RunHost, name: &str) -> bool {
+    let reply = call(host, &words_between(alloc, name, "|"));
+    is_mine(&reply)
 }
 
 /// How many of the names of a line have a command.
-fn known(alloc: Global, host: &mut RunHost, line: &str) -> Result<Text, NoMemory> {
+fn known(alloc: Global, host: &mut RunHost, line: &str) -> Text {
     let mut count = 0u64;
     for name in line.split(" ") {
-        if knows(alloc, host, name)? {
-            count = count.wrapping_add(1);
-        }
+        count = count.wrapping_add(u64::from(knows(alloc, host, name)));
     }
-    write_natural(alloc, count)
+    digits(alloc, count)
 }
 
 /// Does what the letter of a row and the line behind it say.
-fn act(alloc: Global, host: &mut RunHost, letter: u8, line: &str) -> Result<Text, NoMemory> {
+fn act(alloc: Global, host: &mut RunHost, letter: u8, line: &str) -> Text {
     match letter {
         b'+' => does(alloc, host, line),
         b'<' => says(alloc, host, line),
@@ -293,11 +305,11 @@ fn act(alloc: Global, host: &mut RunHost, letter: u8, line: &str) -> Result<Text
 }
 
 /// Does a row as far as its arrow.
-fn step(alloc: Global, host: &mut RunHost, front: &str) -> Result<Text, NoMemory> {
+fn step(alloc: Global, host: &mut RunHost, front: &str) -> Text {
     let letter = front.as_bytes().first().copied().unwrap_or(b'd');
     match front.split_once(" ") {
         Some((_, line)) => act(alloc, host, letter, line),
-        None => Text::new(alloc, b"no line"),
+        None => text(alloc, b"no line"),
     }
 }
 
@@ -310,30 +322,41 @@ fn front_of(row: &str) -> &str {
 }
 
 /// Adds a row, with what it came to; the end of a line within this is a semicolon.
-fn add_row(all: &mut Text, front: &str, came: &Text) -> Result<(), NoMemory> {
-    all.append(front.as_bytes())?;
-    all.append(b" => ")?;
+fn add_row(all: &mut Text, front: &str, came: &Text) {
+    put(all, front.as_bytes());
+    put(all, b" => ");
     for byte in came.bytes() {
-        all.append(&[if *byte == b'\n' { b';' } else { *byte }])?;
+        put(all, &[if *byte == b'\n' { b';' } else { *byte }]);
     }
-    all.append(b"\n")
+    put(all, b"\n");
 }
 
 /// Does the rows one after the other, and tells what each comes to.
-fn play(alloc: Global, host: &mut RunHost, rows: &str) -> Result<Text, NoMemory> {
+fn play(alloc: Global, host: &mut RunHost, rows: &str) -> Text {
     let mut all = Text::empty(alloc);
     for row in rows.lines() {
         let front = front_of(row);
-        let came = step(alloc, host, front)?;
-        add_row(&mut all, front, &came)?;
+        let came = step(alloc, host, front);
+        add_row(&mut all, front, &came);
     }
-    Ok(all)
+    all
 }
 
-/// The rows with what they come to on a new host.
-fn played(alloc: Global, rows: &str) -> Result<Text, NoMemory> {
-    let mut host = idle(alloc)?;
-    play(alloc, &mut host, rows)
+/// Whether the rows come to what stands behind their arrows.
+fn are_right(alloc: Global, host: &mut RunHost, rows: &str) -> bool {
+    play(alloc, host, rows).bytes() == rows.as_bytes()
+}
+
+/// The same on a new host.
+fn are_right_anew(alloc: Global, rows: &str) -> bool {
+    match idle(alloc) {
+        Ok(mut host) => {
+            let is_right = are_right(alloc, &mut host, rows);
+            drop(host);
+            is_right
+        }
+        Err(_) => false,
+    }
 }
 
 /// Rows of commands. The letter says what begins before the command of the line: `s` serves a request,
@@ -386,10 +409,8 @@ s puts|x => ?
 "#;
 
 #[test]
-fn commands_come_to_this(rt: HostRuntime) -> Result<(), Fail> {
-    let came = played(rt.alloc(), COMMANDS)?;
-    assert_eq!(rt; came.bytes(), COMMANDS.as_bytes());
-    Ok(())
+fn commands_come_to_this(rt: HostRuntime) {
+    assert!(rt; are_right_anew(rt.alloc(), COMMANDS));
 }
 
 /// Rows of whole runs. `+` is a further command of the run, `<` what a bucket says to `nsv_names`, `p`
@@ -437,8 +458,6 @@ w a => 0
 "#;
 
 #[test]
-fn runs_come_to_this(rt: HostRuntime) -> Result<(), Fail> {
-    let came = played(rt.alloc(), RUNS)?;
-    assert_eq!(rt; came.bytes(), RUNS.as_bytes());
-    Ok(())
+fn runs_come_to_this(rt: HostRuntime) {
+    assert!(rt; are_right_anew(rt.alloc(), RUNS));
 }

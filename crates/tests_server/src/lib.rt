@@ -14,3 +14,5 @@ mod publications;
 mod routes;
 #[cfg(test)]
 mod shared;
+#[cfg(test)]
+mod texts;

@@ -2,27 +2,13 @@
 //! told as a code, a colon and the result; `?` and the path that is asked for; `<` with the pieces and
 //! the arguments of a page that is entered; or `-` for a command of others.
 
+use crate::texts::{digits, put, text, words_between};
 use adp_host::AdpHost;
 use adp_parse::{Piece, Pieces};
 use outside::Answer;
-use std::alloc::{AllocGlobal, Global};
-use std::process::Abort;
-use std::test::Fail;
+use std::alloc::Global;
 use tcl_host::HostReply;
-use txt_core::{NoMemory, Text, Words, write_natural};
-
-fn text(alloc: Global, bytes: &[u8]) -> Result<Text, NoMemory> {
-    Text::new(alloc, bytes)
-}
-
-/// The texts that stand between bars.
-fn between_bars(alloc: Global, line: &[u8]) -> Result<Words, NoMemory> {
-    let mut words = Words::new(alloc);
-    for piece in line.split(|byte| *byte == b'|') {
-        words.add(text(alloc, piece)?)?;
-    }
-    Ok(words)
-}
+use txt_core::{Text, Words};
 
 /// The text at a place; the empty text where there is none.
 fn text_at(words: &Words, place: usize) -> &[u8] {
@@ -33,84 +19,123 @@ fn text_at(words: &Words, place: usize) -> &[u8] {
 }
 
 /// Texts, each behind a bar.
-fn tell_all(told: &mut Text, words: &Words) -> Result<(), NoMemory> {
+fn tell_all(told: &mut Text, words: &Words) {
     for word in words.as_slice() {
-        told.append(b"|")?;
-        told.append(word.bytes())?;
+        put(told, b"|");
+        put(told, word.bytes());
     }
-    Ok(())
+}
+
+/// A piece, behind the letter of its kind.
+fn tell_piece(told: &mut Text, piece: &Piece) {
+    let (kind, content) = match piece {
+        Piece::Text(content) => (b"<T".as_slice(), content),
+        Piece::Script(content) => (b"<S".as_slice(), content),
+        Piece::Words(content) => (b"<W".as_slice(), content),
+    };
+    put(told, kind);
+    put(told, content.bytes());
 }
 
 /// Pieces, each behind the letter of its kind, and the arguments.
-fn tell_pieces(told: &mut Text, pieces: &Pieces) -> Result<(), NoMemory> {
+fn tell_pieces(told: &mut Text, pieces: &Pieces) {
     for piece in pieces.list.as_slice() {
-        let (kind, content) = match piece {
-            Piece::Text(content) => (b"<T".as_slice(), content),
-            Piece::Script(content) => (b"<S".as_slice(), content),
-            Piece::Words(content) => (b"<W".as_slice(), content),
-        };
-        told.append(kind)?;
-        told.append(content.bytes())?;
+        tell_piece(told, piece);
     }
-    tell_all(told, &pieces.args)
+    tell_all(told, &pieces.args);
 }
 
-/// What a reply says.
-fn tell(alloc: Global, reply: &HostReply) -> Result<Text, NoMemory> {
+/// A number, a colon and a text.
+fn numbered(alloc: Global, number: u64, behind: &Text) -> Text {
+    let mut told = digits(alloc, number);
+    put(&mut told, b":");
+    put(&mut told, behind.bytes());
+    told
+}
+
+/// What a question says.
+fn tell_question(alloc: Global, words: &Words) -> Text {
+    let mut told = text(alloc, b"?");
+    tell_all(&mut told, words);
+    told
+}
+
+/// What of a page that is entered is told.
+fn tell_page(alloc: Global, pieces: &Pieces) -> Text {
     let mut told = Text::empty(alloc);
-    match reply {
-        HostReply::Done { code, result } => {
-            told.append(write_natural(alloc, u64::from(*code))?.bytes())?;
-            told.append(b":")?;
-            told.append(result.bytes())?;
-        }
-        HostReply::Ask(question) => {
-            told.append(b"?")?;
-            tell_all(&mut told, &question.words)?;
-        }
-        HostReply::Enter(pieces) => tell_pieces(&mut told, pieces)?,
-        HostReply::NotMine => told.append(b"-")?,
-        HostReply::NoMemory => return Err(NoMemory),
-        _ => told.append(b"other")?,
-    }
-    Ok(told)
+    tell_pieces(&mut told, pieces);
+    told
 }
 
-fn call(alloc: Global, host: &mut AdpHost, words: &Words) -> Result<Text, NoMemory> {
-    let reply = host.call(words);
+/// What a reply says; nothing where memory wants.
+fn tell(alloc: Global, reply: &HostReply) -> Text {
+    match reply {
+        HostReply::Done { code, result } => numbered(alloc, u64::from(*code), result),
+        HostReply::Ask(question) => tell_question(alloc, &question.words),
+        HostReply::Enter(pieces) => tell_page(alloc, pieces),
+        HostReply::NotMine => text(alloc, b"-"),
+        HostReply::NoMemory => Text::empty(alloc),
+        _ => text(alloc, b"other"),
+    }
+}
+
+/// Does a command.
+fn done(host: &mut AdpHost, words: &Words) -> HostReply {
+    host.call(words)
+}
+
+/// Does a command, and tells what it comes to.
+fn call(alloc: Global, host: &mut AdpHost, words: &Words) -> Text {
+    let reply = done(host, words);
+    tell(alloc, &reply)
+}
+
+/// Gives an answer.
+fn reply_to(host: &mut AdpHost, words: &Words, answer: &Answer) -> HostReply {
+    host.answered(words, answer)
+}
+
+/// What the answer to a command of a line comes to.
+fn answered_to(alloc: Global, host: &mut AdpHost, line: &str, answer: &Answer) -> Text {
+    let reply = reply_to(host, &words_between(alloc, line, "|"), answer);
     tell(alloc, &reply)
 }
 
 /// Answers an include of `i.adp` with the words `q` and `a b`.
-fn answered(alloc: Global, host: &mut AdpHost, answer: &Answer) -> Result<Text, NoMemory> {
-    let reply = host.answered(&between_bars(alloc, b"ns_adp_include|i.adp|q|a b")?, answer);
-    tell(alloc, &reply)
+fn answered(alloc: Global, host: &mut AdpHost, answer: &Answer) -> Text {
+    answered_to(alloc, host, "ns_adp_include|i.adp|q|a b", answer)
 }
 
 /// Enters the page `/o.adp`, as a first page is entered.
-fn first(alloc: Global, host: &mut AdpHost, page: &[u8]) -> Result<Text, NoMemory> {
-    let words = between_bars(alloc, b"ns_adp_include|/o.adp")?;
-    let reply = host.answered(&words, &Answer::Page(text(alloc, page)?));
-    tell(alloc, &reply)
+fn first(alloc: Global, host: &mut AdpHost, page: &[u8]) -> Text {
+    let page = Answer::Page(text(alloc, page));
+    answered_to(alloc, host, "ns_adp_include|/o.adp", &page)
+}
+
+/// Takes a text.
+fn take(host: &mut AdpHost, piece: &Text) -> HostReply {
+    host.text(piece)
 }
 
 /// Puts out a text.
-fn put(alloc: Global, host: &mut AdpHost, piece: &Text) -> Result<Text, NoMemory> {
-    let reply = host.text(piece);
+fn put_out(alloc: Global, host: &mut AdpHost, piece: &Text) -> Text {
+    let reply = take(host, piece);
     tell(alloc, &reply)
 }
 
-/// Leaves a page, and tells the count of errors and the output.
-fn leave(alloc: Global, host: &mut AdpHost, code: u8) -> Result<Text, NoMemory> {
+/// Leaves a page with a code.
+fn leave_with(host: &mut AdpHost, code: u8) {
     host.leave(code);
-    let mut told = write_natural(alloc, host.errors())?;
-    told.append(b":")?;
-    told.append(host.output().bytes())?;
-    Ok(told)
+}
+
+/// Leaves a page, and tells the count of errors and the output.
+fn leave(alloc: Global, host: &mut AdpHost, code: u8) -> Text {
+    leave_with(host, code);
+    numbered(alloc, host.errors(), host.output())
 }
 
 /// Closes all pages, and tells the output.
-fn leave_all(alloc: Global, host: &mut AdpHost) -> Result<Text, NoMemory> {
+fn leave_all(alloc: Global, host: &mut AdpHost) -> Text {
     host.leave_all();
     text(alloc, host.output().bytes())
 }
@@ -123,48 +148,37 @@ fn code_of(digit: &[u8]) -> u8 {
     }
 }
 
-/// Does what a row says.
-fn come(alloc: Global, host: &mut AdpHost, line: &[u8]) -> Result<Text, NoMemory> {
-    let words = between_bars(alloc, line)?;
-    let told = text_at(&words, 1);
-    match text_at(&words, 0) {
+/// Does what a row says: the words of it, and the second of them.
+fn come_of(alloc: Global, host: &mut AdpHost, words: &Words, told: &[u8]) -> Text {
+    match text_at(words, 0) {
         b"first" => first(alloc, host, told),
-        b"page" => answered(alloc, host, &Answer::Page(text(alloc, told)?)),
+        b"page" => answered(alloc, host, &Answer::Page(text(alloc, told))),
         b"absent" => answered(alloc, host, &Answer::NoPage),
         b"fault" => answered(alloc, host, &Answer::PageFault),
-        b"refused" => answered(alloc, host, &Answer::Failed(text(alloc, told)?)),
-        b"said" => answered(alloc, host, &Answer::Said(text(alloc, told)?)),
-        b"put" => put(alloc, host, &text(alloc, told)?),
+        b"refused" => answered(alloc, host, &Answer::Failed(text(alloc, told))),
+        b"said" => answered(alloc, host, &Answer::Said(text(alloc, told))),
+        b"put" => put_out(alloc, host, &text(alloc, told)),
         b"leave" => leave(alloc, host, code_of(told)),
         b"leave_all" => leave_all(alloc, host),
-        _ => call(alloc, host, &words),
+        _ => call(alloc, host, words),
     }
 }
 
-/// Does the rows in order, and tells those that don't come to what is wanted, with what they come to.
-fn misses(alloc: Global, host: &mut AdpHost, rows: &[(&str, &str)]) -> Result<Text, NoMemory> {
-    let mut missed = Text::empty(alloc);
-    for (line, want) in rows {
-        let told = come(alloc, host, line.as_bytes())?;
-        if told.bytes() != want.as_bytes() {
-            missed.append(line.as_bytes())?;
-            missed.append(b" gives ")?;
-            missed.append(told.bytes())?;
-            missed.append(b"; ")?;
+/// Does what a row says.
+fn come(alloc: Global, host: &mut AdpHost, line: &str) -> Text {
+    let words = words_between(alloc, line, "|");
+    come_of(alloc, host, &words, text_at(&words, 1))
+}
+
+/// The place of the first row that doesn't come to what is wanted, if there is one, where the rows are done in
+/// order.
+fn first_wrong(alloc: Global, host: &mut AdpHost, rows: &[(&str, &str)]) -> Option<usize> {
+    for (at, (line, want)) in rows.iter().enumerate() {
+        if come(alloc, host, line).bytes() != want.as_bytes() {
+            return Some(at);
         }
     }
-    Ok(missed)
-}
-
-/// Does the rows in order, and looks at what they come to.
-fn check_rows<R: Abort + AllocGlobal>(
-    rt: &R,
-    host: &mut AdpHost,
-    rows: &[(&str, &str)],
-) -> Result<(), Fail> {
-    let missed = misses(rt.alloc(), host, rows)?;
-    assert_eq!(rt; missed.bytes(), b"".as_slice());
-    Ok(())
+    None
 }
 
 /// Rows of commands and of what pages do, each with what it comes to.
@@ -265,19 +279,25 @@ const COMMANDS: &[(&str, &str)] = &[
     ("ns_adp_argc", "1:not in a page"),
 ];
 
-#[test]
-fn commands(rt: HostRuntime) -> Result<(), Fail> {
-    let mut host = AdpHost::new(rt.alloc());
-    check_rows(&rt, &mut host, COMMANDS)
+/// The place of the first of these rows that is wrong on a new host, if there is one.
+fn first_wrong_anew(alloc: Global) -> Option<usize> {
+    let mut host = AdpHost::new(alloc);
+    let wrong = first_wrong(alloc, &mut host, COMMANDS);
+    drop(host);
+    wrong
 }
 
-/// A text of so many bytes.
-fn long(alloc: Global, count: usize) -> Result<Text, NoMemory> {
-    let mut long = Text::empty(alloc);
-    for _ in 0..count {
-        long.append(b"x")?;
+#[test]
+fn commands(rt: HostRuntime) {
+    assert_eq!(rt; first_wrong_anew(rt.alloc()), None);
+}
+
+/// A text of so many bytes; the empty one where memory wants.
+fn long(alloc: Global, count: usize) -> Text {
+    match vec![in alloc; b'x'; count] {
+        Ok(bytes) => Text::from_vec(bytes),
+        Err(_) => Text::empty(alloc),
     }
-    Ok(long)
 }
 
 /// Rows on an output that is full, in a page.
@@ -293,78 +313,84 @@ const FULL: &[(&str, &str)] = &[
 /// Rows on a host that was cleared.
 const CLEARED: &[(&str, &str)] = &[("leave|1", "0:"), ("ns_adp_argc", "1:not in a page")];
 
-/// Puts out a text eight times. Each comes to nothing.
-fn check_texts<R: Abort + AllocGlobal>(
-    rt: &R,
-    host: &mut AdpHost,
-    piece: &Text,
-) -> Result<(), Fail> {
+/// Puts out a text eight times, and tells whether each comes to nothing.
+fn puts_eight(alloc: Global, host: &mut AdpHost, piece: &Text) -> bool {
+    let mut right = true;
     for _ in 0..8 {
-        let came = put(rt.alloc(), host, piece)?;
-        assert_eq!(rt; came.bytes(), b"0:".as_slice());
+        right = put_out(alloc, host, piece).bytes() == b"0:".as_slice() && right;
     }
-    Ok(())
+    right
 }
 
-/// Enters a page of the greatest length.
-fn check_long_page<R: Abort + AllocGlobal>(
-    rt: &R,
-    host: &mut AdpHost,
-    page: &Text,
-) -> Result<(), Fail> {
-    let entered = first(rt.alloc(), host, page.bytes())?;
-    assert_eq!(rt; entered.len(), 1_048_585);
-    Ok(())
+/// Whether a page of the greatest length is entered.
+fn is_entered(alloc: Global, host: &mut AdpHost, page: &Text) -> bool {
+    first(alloc, host, page.bytes()).len() == 1_048_585
 }
 
-/// A page that is longer isn't entered.
-fn check_longer_page<R: Abort + AllocGlobal>(
-    rt: &R,
-    host: &mut AdpHost,
-    page: Text,
-) -> Result<(), Fail> {
-    let refused = answered(rt.alloc(), host, &Answer::Page(page))?;
-    assert_eq!(rt;
-        refused.bytes(),
-        b"1:page \"/i.adp\" is too long".as_slice()
-    );
-    Ok(())
+/// Whether a page that is longer isn't entered.
+fn is_too_long(alloc: Global, host: &mut AdpHost, page: Text) -> bool {
+    let refused = answered(alloc, host, &Answer::Page(page));
+    refused.bytes() == b"1:page \"/i.adp\" is too long".as_slice()
 }
 
-/// Fills the output, and is then in a page.
-fn check_lengths<R: Abort + AllocGlobal>(rt: &R, host: &mut AdpHost) -> Result<(), Fail> {
-    let mut page = long(rt.alloc(), 1_048_576)?;
-    check_texts(rt, host, &page)?;
-    check_long_page(rt, host, &page)?;
-    page.append(b"x")?;
-    check_longer_page(rt, host, page)
+/// Whether a host fills the output, is then in a page, and enters no longer one.
+fn has_lengths(alloc: Global, host: &mut AdpHost) -> bool {
+    let page = long(alloc, 1_048_576);
+    let right = puts_eight(alloc, host, &page) && is_entered(alloc, host, &page);
+    right && is_too_long(alloc, host, long(alloc, 1_048_577))
 }
 
-#[test]
-fn limits(rt: HostRuntime) -> Result<(), Fail> {
-    let mut host = AdpHost::new(rt.alloc());
-    check_lengths(&rt, &mut host)?;
-    check_rows(&rt, &mut host, FULL)?;
-    assert_eq!(rt; host.output().len(), 8_388_608);
+/// Takes back all that a run left.
+fn clear(host: &mut AdpHost) {
     host.clear();
-    check_rows(&rt, &mut host, CLEARED)
 }
 
-/// Puts out a text so many times, and gives the length of the output.
-fn put_often(alloc: Global, host: &mut AdpHost, times: usize) -> Result<usize, NoMemory> {
-    let piece = text(alloc, b"<td>0123</td>")?;
-    for _ in 0..times {
-        if let HostReply::NoMemory = host.text(&piece) {
-            return Err(NoMemory);
-        }
-    }
-    Ok(host.output().len())
+/// Whether a host keeps to its limits, when its output is full and when it was cleared.
+fn is_limited(alloc: Global, host: &mut AdpHost) -> bool {
+    let full = has_lengths(alloc, host) && first_wrong(alloc, host, FULL).is_none();
+    let right = full && host.output().len() == 8_388_608;
+    clear(host);
+    right && first_wrong(alloc, host, CLEARED).is_none()
+}
+
+/// The same of a new host.
+fn new_is_limited(alloc: Global) -> bool {
+    let mut host = AdpHost::new(alloc);
+    let is_right = is_limited(alloc, &mut host);
+    drop(host);
+    is_right
 }
 
 #[test]
-fn many_pieces(rt: HostRuntime) -> Result<(), Fail> {
-    let alloc = rt.alloc();
+fn limits(rt: HostRuntime) {
+    assert!(rt; new_is_limited(rt.alloc()));
+}
+
+/// Whether a text is put out so often.
+fn puts_often(alloc: Global, host: &mut AdpHost, times: usize) -> bool {
+    let piece = text(alloc, b"<td>0123</td>");
+    let mut right = true;
+    for _ in 0..times {
+        right = is_put(&take(host, &piece)) && right;
+    }
+    right
+}
+
+/// Whether a reply isn't want of memory.
+fn is_put(reply: &HostReply) -> bool {
+    !matches!(reply, HostReply::NoMemory)
+}
+
+/// How long the output of a new host is, to which a text is put out so often; 0 where memory wants.
+fn length_of_often(alloc: Global, times: usize) -> usize {
     let mut host = AdpHost::new(alloc);
-    assert_eq!(rt; put_often(alloc, &mut host, 100_000)?, 1_300_000);
-    Ok(())
+    let right = puts_often(alloc, &mut host, times);
+    let length = host.output().len();
+    drop(host);
+    if right { length } else { 0 }
+}
+
+#[test]
+fn many_pieces(rt: HostRuntime) {
+    assert!(rt; length_of_often(rt.alloc(), 100_000) == 1_300_000);
 }

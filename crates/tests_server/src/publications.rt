@@ -1,30 +1,35 @@
 //! Scripts that are definitions, and what comes of publications, saves and looks.
 
-use blueprint::{Blueprint, Limit, Look, Published, ScriptFault, from_script, script_of};
-use cmd_table::{Def, Defs, When};
+use crate::texts::{put, script, text};
+use blueprint::{Blueprint, Limit, Look, Published, ScriptFault, from_script};
+use cmd_table::Defs;
 use natives::Natives;
 use std::alloc::Global;
-use std::test::Fail;
-use txt_core::{NoMemory, Sequence, Text, Words};
+use txt_core::{NoMemory, Text};
 
-/// The definitions of a script, or the number of the first command that is none.
-fn read(alloc: Global, script: &str) -> Result<Result<Defs, u64>, NoMemory> {
-    match from_script(alloc, &Text::new(alloc, script.as_bytes())?) {
-        Ok(defs) => Ok(Ok(defs)),
-        Err(ScriptFault::NotADefinition(number)) => Ok(Err(number)),
-        Err(ScriptFault::NoMemory) => Err(NoMemory),
-    }
+/// The definitions of a script, or why there are none.
+fn read(alloc: Global, script: &str) -> Result<Defs, ScriptFault> {
+    from_script(alloc, &text(alloc, script.as_bytes()))
+}
+
+/// Puts the last digit of a number at the end of a text.
+fn put_digit(all: &mut Text, number: u64) {
+    put(all, &[b'0' + (number % 10) as u8]);
+}
+
+/// That a command is no definition.
+fn no_definition(alloc: Global, number: u64) -> Text {
+    let mut told = text(alloc, b"no ");
+    put_digit(&mut told, number);
+    told
 }
 
 /// The script of the definitions of a script; `no` and a digit where a command is none.
-fn again(alloc: Global, script: &str) -> Result<Text, NoMemory> {
-    match read(alloc, script)? {
-        Ok(defs) => script_of(alloc, &defs),
-        Err(number) => {
-            let mut text = Text::new(alloc, b"no ")?;
-            text.append(&[b'0' + (number % 10) as u8])?;
-            Ok(text)
-        }
+fn again(alloc: Global, line: &str) -> Text {
+    match read(alloc, line) {
+        Ok(defs) => script(alloc, &defs),
+        Err(ScriptFault::NotADefinition(number)) => no_definition(alloc, number),
+        Err(ScriptFault::NoMemory) => text(alloc, b"out of memory"),
     }
 }
 
@@ -69,110 +74,130 @@ const SCRIPTS: &[(&str, &str)] = &[
     ("set x 1\nset y \\n", "set x 1\nset y {\n}\n"),
 ];
 
-#[test]
-fn scripts_are_definitions(rt: HostRuntime) -> Result<(), Fail> {
-    for &(script, want) in SCRIPTS {
-        let came = again(rt.alloc(), script)?;
-        assert_eq!(rt; came.bytes(), want.as_bytes());
+/// The place of the first script that is wrong, if there is one.
+fn first_wrong(alloc: Global) -> Option<usize> {
+    for (at, (script, want)) in SCRIPTS.iter().enumerate() {
+        if again(alloc, script).bytes() != want.as_bytes() {
+            return Some(at);
+        }
     }
-    Ok(())
+    None
+}
+
+#[test]
+fn scripts_are_definitions(rt: HostRuntime) {
+    assert_eq!(rt; first_wrong(rt.alloc()), None);
 }
 
 /// Puts what comes of a publication or save at the end of a text.
-fn show_published(all: &mut Text, published: Published) -> Result<(), NoMemory> {
+fn show_published(all: &mut Text, published: &Published) {
     let (what, number) = match published {
-        Published::Done(epoch) => (b"done ".as_slice(), epoch),
-        Published::NotADefinition(number) => (b"none ".as_slice(), number),
-        Published::NotApplicable(place) => (b"misfit ".as_slice(), place),
+        Published::Done(epoch) => (b"done ".as_slice(), *epoch),
+        Published::NotADefinition(number) => (b"none ".as_slice(), *number),
+        Published::NotApplicable(place) => (b"misfit ".as_slice(), *place),
         Published::Full(Limit::Count) => (b"count ".as_slice(), 0),
         Published::Full(Limit::Bytes) => (b"bytes ".as_slice(), 0),
-        Published::NoMemory => return Err(NoMemory),
+        Published::NoMemory => (b"out of memory ".as_slice(), 0),
     };
-    all.append(what)?;
-    all.append(&[b'0' + (number % 10) as u8, b' '])
+    put(all, what);
+    put_digit(all, number);
+    put(all, b" ");
 }
 
-/// Puts what a look answers at the end of a text: the script of its definitions behind its kind and epoch.
-fn show_look(alloc: Global, all: &mut Text, look: Look) -> Result<(), NoMemory> {
-    let (what, epoch, defs) = match look {
-        Look::Same => return all.append(b"same "),
-        Look::Since { epoch, defs } => (b"since ".as_slice(), epoch, defs),
-        Look::Whole { epoch, defs } => (b"whole ".as_slice(), epoch, defs),
-        Look::NoMemory => return Err(NoMemory),
-    };
-    all.append(what)?;
-    all.append(&[b'0' + (epoch % 10) as u8, b':'])?;
-    all.append(script_of(alloc, &defs)?.bytes())
+/// Puts definitions that a look answers at the end of a text: their script behind their kind and epoch.
+fn show_seen(alloc: Global, all: &mut Text, kind: &[u8], epoch: u64, defs: &Defs) {
+    put(all, kind);
+    put_digit(all, epoch);
+    put(all, b":");
+    put(all, script(alloc, defs).bytes());
+}
+
+/// Puts what a look answers at the end of a text.
+fn show_look(alloc: Global, all: &mut Text, look: &Look) {
+    match look {
+        Look::Same => put(all, b"same "),
+        Look::Since { epoch, defs } => show_seen(alloc, all, b"since ", *epoch, defs),
+        Look::Whole { epoch, defs } => show_seen(alloc, all, b"whole ", *epoch, defs),
+        Look::NoMemory => put(all, b"out of memory "),
+    }
+}
+
+/// Publishes definitions.
+fn published(blueprint: &mut Blueprint, defs: Defs) -> Published {
+    blueprint.publish(defs)
 }
 
 /// Publishes the definitions of a script.
-fn publish(
-    alloc: Global,
-    blueprint: &mut Blueprint,
-    all: &mut Text,
-    script: &str,
-) -> Result<(), NoMemory> {
-    match read(alloc, script)? {
-        Ok(defs) => show_published(all, blueprint.publish(defs)),
-        Err(_) => all.append(b"no definitions "),
+fn publish(alloc: Global, blueprint: &mut Blueprint, all: &mut Text, script: &str) {
+    match read(alloc, script) {
+        Ok(defs) => show_published(all, &published(blueprint, defs)),
+        Err(_) => put(all, b"no definitions "),
     }
 }
 
 /// Saves a script.
-fn save(
-    alloc: Global,
-    blueprint: &mut Blueprint,
-    all: &mut Text,
-    script: &str,
-) -> Result<(), NoMemory> {
-    let script = Text::new(alloc, script.as_bytes())?;
-    show_published(all, blueprint.save(&script))
+fn save(alloc: Global, blueprint: &mut Blueprint, all: &mut Text, script: &str) {
+    let saved = blueprint.save(&text(alloc, script.as_bytes()));
+    show_published(all, &saved);
 }
 
 /// Looks with an epoch of one digit.
-fn look(
-    alloc: Global,
-    blueprint: &mut Blueprint,
-    all: &mut Text,
-    digit: &str,
-) -> Result<(), NoMemory> {
+fn look(alloc: Global, blueprint: &Blueprint, all: &mut Text, digit: &str) {
     let digit = digit.as_bytes().first().copied().unwrap_or(b'0');
-    let epoch = u64::from(digit.saturating_sub(b'0'));
-    show_look(alloc, all, blueprint.look(epoch))
+    let seen = blueprint.look(u64::from(digit.saturating_sub(b'0')));
+    show_look(alloc, all, &seen);
 }
 
 /// Puts the script of the definitions at the end of a text.
-fn show_definitions(alloc: Global, blueprint: &Blueprint, all: &mut Text) -> Result<(), NoMemory> {
-    let defs = blueprint.definitions()?;
-    all.append(script_of(alloc, &defs)?.bytes())
+fn show_definitions(alloc: Global, blueprint: &Blueprint, all: &mut Text) {
+    if let Ok(defs) = blueprint.definitions() {
+        put(all, script(alloc, &defs).bytes());
+    }
+}
+
+/// Puts the script at the end of a text.
+fn show_script(blueprint: &Blueprint, all: &mut Text) {
+    if let Ok(script) = blueprint.script() {
+        put(all, script.bytes());
+    }
 }
 
 /// Does a call: `+` publishes the definitions of a script, `=` saves it, `?` looks with an epoch of one
 /// digit, `d` is the script of the definitions, and `s` the script.
-fn call(
-    alloc: Global,
-    blueprint: &mut Blueprint,
-    all: &mut Text,
-    kind: u8,
-    text: &str,
-) -> Result<(), NoMemory> {
+fn call(alloc: Global, blueprint: &mut Blueprint, all: &mut Text, kind: u8, text: &str) {
     match kind {
         b'+' => publish(alloc, blueprint, all, text),
         b'=' => save(alloc, blueprint, all, text),
         b'?' => look(alloc, blueprint, all, text),
         b'd' => show_definitions(alloc, blueprint, all),
-        _ => all.append(blueprint.script()?.bytes()),
+        _ => show_script(blueprint, all),
     }
 }
 
 /// What comes of calls, one behind the other.
-fn came_of(alloc: Global, rows: &[(u8, &str)]) -> Result<Text, NoMemory> {
-    let mut blueprint = Blueprint::new(alloc, &Natives::new(alloc))?;
+fn came_of(alloc: Global, blueprint: &mut Blueprint, rows: &[(u8, &str)]) -> Text {
     let mut all = Text::empty(alloc);
     for (kind, text) in rows {
-        call(alloc, &mut blueprint, &mut all, *kind, text)?;
+        call(alloc, blueprint, &mut all, *kind, text);
     }
-    Ok(all)
+    all
+}
+
+/// A new blueprint.
+fn new_blueprint(alloc: Global) -> Result<Blueprint, NoMemory> {
+    Blueprint::new(alloc, &Natives::new(alloc))
+}
+
+/// Whether this comes of these calls on a new blueprint.
+fn is_right(alloc: Global, rows: &[(u8, &str)], want: &str) -> bool {
+    match new_blueprint(alloc) {
+        Ok(mut blueprint) => {
+            let came = came_of(alloc, &mut blueprint, rows);
+            drop(blueprint);
+            came.bytes() == want.as_bytes()
+        }
+        Err(_) => false,
+    }
 }
 
 /// Publications, saves and looks, one behind the other.
@@ -205,8 +230,6 @@ const CAME: &str =
     "same whole 0:done 1 since 1:proc v {} {}\ndone 2 misfit 1 misfit 2 since 2:rename v w\ndone 3 proc v {} {}\nrename v w\nrename w v\nproc w {} {}\nmisfit 0 none 1 misfit 0 done 4 whole 4:rename set put\nproc set {} {}\nsame done 5 since 5:rename put p\nwhole 5:rename set put\nproc set {} {}\nrename put p\nwhole 5:rename set put\nproc set {} {}\nrename put p\nrename set put\nproc set {} {}\nrename put p\n";
 
 #[test]
-fn publications_and_saves(rt: HostRuntime) -> Result<(), Fail> {
-    let came = came_of(rt.alloc(), CALLS)?;
-    assert_eq!(rt; came.bytes(), CAME.as_bytes());
-    Ok(())
+fn publications_and_saves(rt: HostRuntime) {
+    assert!(rt; is_right(rt.alloc(), CALLS, CAME));
 }

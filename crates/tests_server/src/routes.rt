@@ -1,81 +1,92 @@
 //! What serves a request, and which filters it passes.
 
+use crate::texts::{add_def, add_word, put, text, words_between};
 use cmd_table::{Def, Defs, When};
 use std::alloc::Global;
-use std::test::Fail;
-use txt_core::{NoMemory, Sequence, Text, Words};
-use url_tables::Routes;
+use txt_core::{NoMemory, Text, Words};
+use url_tables::{Route, Routes};
 
-/// The words between the spaces of a line.
-fn words_of(alloc: Global, line: &str) -> Result<Words, NoMemory> {
-    let mut words = Sequence::new(alloc);
-    for word in line.as_bytes().split(|byte| *byte == b' ') {
-        words.add(Text::new(alloc, word)?)?;
-    }
-    Ok(words)
-}
-
-/// Registers a procedure.
-fn register(alloc: Global, defs: &mut Defs, row: (&str, &str, bool, &str)) -> Result<(), NoMemory> {
+/// The registration of a procedure.
+fn route(alloc: Global, row: (&str, &str, bool, &str)) -> Def {
     let (method, url, inherit, words) = row;
-    defs.add(Def::Route {
-        method: Text::new(alloc, method.as_bytes())?,
-        url: Text::new(alloc, url.as_bytes())?,
+    Def::Route {
+        method: text(alloc, method.as_bytes()),
+        url: text(alloc, url.as_bytes()),
         inherit,
-        words: words_of(alloc, words)?,
-    })
+        words: words_between(alloc, words, " "),
+    }
 }
 
-/// Registers a filter.
-fn register_filter(
-    alloc: Global,
-    defs: &mut Defs,
-    row: (When, &str, &str, &str),
-) -> Result<(), NoMemory> {
+/// The registration of a filter.
+fn filter(alloc: Global, row: (When, &str, &str, &str)) -> Def {
     let (when, method, pattern, words) = row;
-    defs.add(Def::Filter {
+    Def::Filter {
         when,
-        method: Text::new(alloc, method.as_bytes())?,
-        pattern: Text::new(alloc, pattern.as_bytes())?,
-        words: words_of(alloc, words)?,
-    })
+        method: text(alloc, method.as_bytes()),
+        pattern: text(alloc, pattern.as_bytes()),
+        words: words_between(alloc, words, " "),
+    }
 }
 
-/// The first of the words that serve a request; `-` where none do.
-fn served(alloc: Global, routes: &Routes, method: &str, path: &str) -> Result<Text, NoMemory> {
+/// The pieces of a path.
+fn segments_of(alloc: Global, path: &str) -> Words {
     let mut segments = Words::new(alloc);
-    for piece in path.as_bytes().split(|byte| *byte == b'/') {
+    for piece in path.split("/") {
         if !piece.is_empty() {
-            segments.add(Text::new(alloc, piece)?)?;
+            add_word(&mut segments, text(alloc, piece.as_bytes()));
         }
     }
-    let method = Text::new(alloc, method.as_bytes())?;
-    match routes.serve(&method, &segments) {
-        None => Text::new(alloc, b"-"),
+    segments
+}
+
+/// The first of the words of a route; `-` where there is none.
+fn first_word(route: Option<&Route>) -> &[u8] {
+    match route {
+        None => b"-",
         Some(route) => match route.words.get(0) {
-            None => Text::new(alloc, b"-"),
-            Some(word) => word.copy(alloc),
+            None => b"-",
+            Some(word) => word.bytes(),
         },
     }
 }
 
-/// The tables of registrations.
-fn tables(alloc: Global, rows: &[(&str, &str, bool, &str)]) -> Result<Routes, NoMemory> {
+/// Puts the first of the words that serve a request at the end of a text; `-` where none do.
+fn put_served(alloc: Global, all: &mut Text, routes: &Routes, method: &str, path: &str) {
+    let segments = segments_of(alloc, path);
+    let method = text(alloc, method.as_bytes());
+    put(all, first_word(routes.serve(&method, &segments)));
+    put(all, b" ");
+}
+
+/// Registrations of procedures.
+fn route_defs(alloc: Global) -> Defs {
     let mut defs = Defs::new(alloc);
-    for row in rows {
-        register(alloc, &mut defs, *row)?;
+    for &row in REGISTERED {
+        add_def(&mut defs, route(alloc, row));
     }
-    Routes::build(alloc, &defs)
+    defs
 }
 
 /// What serves each request, one behind the other.
-fn listing(alloc: Global, routes: &Routes, requests: &[(&str, &str)]) -> Result<Text, NoMemory> {
+fn listing(alloc: Global, routes: &Routes) -> Text {
     let mut all = Text::empty(alloc);
-    for (method, path) in requests {
-        all.append(served(alloc, routes, method, path)?.bytes())?;
-        all.append(b" ")?;
+    for (method, path) in REQUESTS {
+        put_served(alloc, &mut all, routes, method, path);
     }
-    Ok(all)
+    all
+}
+
+/// The tables of registrations.
+fn tables(alloc: Global, defs: &Defs) -> Result<Routes, NoMemory> {
+    Routes::build(alloc, defs)
+}
+
+/// Whether each request is served by what it must be.
+fn are_served(alloc: Global) -> bool {
+    match tables(alloc, &route_defs(alloc)) {
+        Ok(routes) => listing(alloc, &routes).bytes() == SERVED.as_bytes(),
+        Err(_) => false,
+    }
 }
 
 /// Registrations of procedures: the method, the URL, whether what stands below is served too, and the words.
@@ -120,31 +131,30 @@ const SERVED: &str =
     "first second second first alone - below - - posted first - new deep new packed packed star - ";
 
 #[test]
-fn most_segments_then_a_pattern_then_the_latest(rt: HostRuntime) -> Result<(), Fail> {
-    let routes = tables(rt.alloc(), REGISTERED)?;
-    let came = listing(rt.alloc(), &routes, REQUESTS)?;
-    assert_eq!(rt; came.bytes(), SERVED.as_bytes());
-    Ok(())
+fn most_segments_then_a_pattern_then_the_latest(rt: HostRuntime) {
+    assert!(rt; are_served(rt.alloc()));
+}
+
+/// The first words of filters, one behind the other.
+fn first_words(alloc: Global, filters: &[Words]) -> Text {
+    let mut all = Text::empty(alloc);
+    for words in filters {
+        if let Some(word) = words.get(0) {
+            put(&mut all, word.bytes());
+            put(&mut all, b" ");
+        }
+    }
+    all
 }
 
 /// The first words of the filters that a request passes, one behind the other.
-fn passed(
-    alloc: Global,
-    routes: &Routes,
-    when: When,
-    method: &str,
-    path: &str,
-) -> Result<Text, NoMemory> {
-    let method = Text::new(alloc, method.as_bytes())?;
-    let path = Text::new(alloc, path.as_bytes())?;
-    let mut all = Text::empty(alloc);
-    for words in routes.filters(when, &method, &path)?.as_slice() {
-        if let Some(word) = words.get(0) {
-            all.append(word.bytes())?;
-            all.append(b" ")?;
-        }
+fn passed(alloc: Global, routes: &Routes, when: When, method: &str, path: &str) -> Text {
+    let method = text(alloc, method.as_bytes());
+    let path = text(alloc, path.as_bytes());
+    match routes.filters(when, &method, &path) {
+        Ok(filters) => first_words(alloc, filters.as_slice()),
+        Err(_) => text(alloc, b"out of memory"),
     }
-    Ok(all)
 }
 
 /// Registrations of filters: the stage, the method, the pattern, and the words.
@@ -167,21 +177,34 @@ const PASSED: &[(When, &str, &str, &str)] = &[
     (When::Trace, "GET", "/a/d", "t1 "),
 ];
 
-/// The tables of registrations of filters.
-fn filter_tables(alloc: Global) -> Result<Routes, NoMemory> {
+/// Registrations of filters.
+fn filter_defs(alloc: Global) -> Defs {
     let mut defs = Defs::new(alloc);
     for &row in FILTERS {
-        register_filter(alloc, &mut defs, row)?;
+        add_def(&mut defs, filter(alloc, row));
     }
-    Routes::build(alloc, &defs)
+    defs
+}
+
+/// The place of the first request that passes other filters than it must, if there is one.
+fn first_wrong(alloc: Global, routes: &Routes) -> Option<usize> {
+    for (at, (when, method, path, want)) in PASSED.iter().enumerate() {
+        if passed(alloc, routes, *when, method, path).bytes() != want.as_bytes() {
+            return Some(at);
+        }
+    }
+    None
+}
+
+/// Whether each request passes the filters that it must.
+fn are_passed(alloc: Global) -> bool {
+    match tables(alloc, &filter_defs(alloc)) {
+        Ok(routes) => first_wrong(alloc, &routes).is_none(),
+        Err(_) => false,
+    }
 }
 
 #[test]
-fn filters_stand_in_their_order(rt: HostRuntime) -> Result<(), Fail> {
-    let routes = filter_tables(rt.alloc())?;
-    for &(when, method, path, want) in PASSED {
-        let came = passed(rt.alloc(), &routes, when, method, path)?;
-        assert_eq!(rt; came.bytes(), want.as_bytes());
-    }
-    Ok(())
+fn filters_stand_in_their_order(rt: HostRuntime) {
+    assert!(rt; are_passed(rt.alloc()));
 }

@@ -7,6 +7,7 @@ ghost use Rattle.shared_state.specs.Cells.{Serve};
 ghost use Rattle.tests_sessions.specs.Desks.{Works};
 ghost use Rattle.worker.specs.Clean.{IsClean};
 
+use crate::wire::text;
 use cmd_table::Steps;
 use natives::Natives;
 use outside::{Gate, MemClock, MemPages, Sink, Source};
@@ -15,7 +16,7 @@ use std::alloc::Global;
 use std::marker::Brand;
 use std::sync::Wait;
 use std::sync::ledger::{Blank, Ledger};
-use txt_core::{NoMemory, Text};
+use txt_core::Text;
 use worker::{DueRun, EvalEnd, Evaled, Session, Worker, do_eval, run_due, serve_session};
 
 /// Runs a script that makes definitions, with the counter that a blank makes.
@@ -55,12 +56,12 @@ pub(crate) fn define<R: Wait>(
     script: &str,
     moment: u64,
     pages: &mut MemPages,
-) -> Result<EvalEnd, NoMemory>
+) -> EvalEnd
     requires { Works shared.now passes.old worker.old }
     ensures { Works shared.now passes.new worker.new }
 {
     let natives = Natives::new(alloc);
-    let script = Text::new(alloc, script.as_bytes())?;
+    let script = text(alloc, script.as_bytes());
     let evaled = eval_counted::<R, Brand>(
         rt,
         alloc,
@@ -73,7 +74,7 @@ pub(crate) fn define<R: Wait>(
         pages,
         Blank::new(1),
     );
-    Ok(evaled.outcome)
+    evaled.outcome
 }
 
 /// Runs the scripts that are due, with the counter that a blank makes.
@@ -173,13 +174,13 @@ pub(crate) fn serve<R: Wait, S: Source, K: Sink, G: Gate>(
     sink: &mut K,
     pages: &mut MemPages,
     gate: &G,
-) -> Result<Session, NoMemory>
+) -> Session
     requires { Works shared.now passes.old worker.old }
     ensures { Works shared.now passes.new worker.new }
 {
     let natives = Natives::new(alloc);
-    let peer = Text::new(alloc, b"127.0.0.1")?;
-    Ok(serve_counted::<R, S, K, G, Brand>(
+    let peer = text(alloc, b"127.0.0.1");
+    serve_counted::<R, S, K, G, Brand>(
         rt,
         alloc,
         &natives,
@@ -192,5 +193,5 @@ pub(crate) fn serve<R: Wait, S: Source, K: Sink, G: Gate>(
         pages,
         gate,
         Blank::new(1),
-    ))
+    )
 }

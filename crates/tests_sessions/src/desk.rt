@@ -10,7 +10,6 @@ use shared_state::{Passes, Shared};
 use std::alloc::Global;
 use std::marker::Model;
 use std::sync::Wait;
-use txt_core::NoMemory;
 use worker::{DueRun, EvalEnd, Session, Worker};
 
 /// A worker at the cells that it uses, and its passes. That its calls may be made is true of every desk, so
@@ -53,7 +52,7 @@ impl<'a> Desk<'a> {
         alloc: Global,
         script: &str,
         moment: u64,
-    ) -> Result<EvalEnd, NoMemory> {
+    ) -> EvalEnd {
         let mut pages = no_pages(alloc);
         define(
             rt,
@@ -68,12 +67,7 @@ impl<'a> Desk<'a> {
     }
 
     /// Runs a script that makes definitions, at the moment 0.
-    pub fn define<R: Wait>(
-        &mut self,
-        rt: &R,
-        alloc: Global,
-        script: &str,
-    ) -> Result<EvalEnd, NoMemory> {
+    pub fn define<R: Wait>(&mut self, rt: &R, alloc: Global, script: &str) -> EvalEnd {
         self.define_at(rt, alloc, script, 0)
     }
 
@@ -107,7 +101,7 @@ impl<'a> Desk<'a> {
         sink: &mut K,
         pages: &mut MemPages,
         gate: &G,
-    ) -> Result<Session, NoMemory> {
+    ) -> Session {
         serve(
             rt,
             alloc,
@@ -129,11 +123,11 @@ impl<'a> Desk<'a> {
         wire: Wire<'_>,
         pages: &mut MemPages,
         gate: &G,
-    ) -> Result<Told, NoMemory>
+    ) -> Told
         requires { (1 ≤ wire.read_piece) × (1 ≤ wire.write_piece) }
     {
-        let mut source = source_of(alloc, &wire)?;
-        let mut sink = sink_of(alloc, &wire)?;
+        let mut source = source_of(alloc, &wire);
+        let mut sink = sink_of(alloc, &wire);
         self.told(rt, alloc, &mut source, &mut sink, pages, gate)
     }
 
@@ -146,18 +140,13 @@ impl<'a> Desk<'a> {
         sink: &mut MemSink,
         pages: &mut MemPages,
         gate: &G,
-    ) -> Result<Told, NoMemory> {
-        let session = self.session(rt, alloc, source, sink, pages, gate)?;
+    ) -> Told {
+        let session = self.session(rt, alloc, source, sink, pages, gate);
         tell(alloc, &session, sink)
     }
 
     /// Serves what comes on a wire, where there is no page.
-    pub fn serve<R: Wait>(
-        &mut self,
-        rt: &R,
-        alloc: Global,
-        wire: Wire<'_>,
-    ) -> Result<Told, NoMemory>
+    pub fn serve<R: Wait>(&mut self, rt: &R, alloc: Global, wire: Wire<'_>) -> Told
         requires { (1 ≤ wire.read_piece) × (1 ≤ wire.write_piece) }
     {
         let mut pages = no_pages(alloc);

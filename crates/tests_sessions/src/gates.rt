@@ -8,8 +8,6 @@ use outside::Gate;
 use std::alloc::Global;
 use std::sync::Wait;
 use std::sync::atomic::{AtomicBool, AtomicU64, Ordering};
-use std::test::*;
-use txt_core::NoMemory;
 use worker::End;
 
 /// A gate that notes how often it was entered, and whether each time by the worker and with the place that
@@ -36,25 +34,20 @@ fn told_at<R: Wait, G: Gate>(
     desk: &mut Desk<'_>,
     input: &[u8],
     gate: &G,
-) -> Result<Told, NoMemory> {
+) -> Told {
     let mut pages = no_pages(alloc);
     desk.serve_at(rt, alloc, Wire::of(input), &mut pages, gate)
 }
 
 /// Serves three requests of one connection, and tells whether they were served to the end.
-fn serves_three<R: Wait, G: Gate>(
-    rt: &R,
-    alloc: Global,
-    desk: &mut Desk<'_>,
-    gate: &G,
-) -> Result<bool, NoMemory> {
-    let input = repeated(alloc, GET_HI, 3)?;
-    let told = told_at(rt, alloc, desk, input.as_slice(), gate)?;
-    Ok(told.end == End::Ended && told.count == 3)
+fn serves_three<R: Wait, G: Gate>(rt: &R, alloc: Global, desk: &mut Desk<'_>, gate: &G) -> bool {
+    let input = repeated(alloc, GET_HI, 3);
+    let told = told_at(rt, alloc, desk, input.bytes(), gate);
+    told.end == End::Ended && told.count == 3
 }
 
 #[test]
-fn a_gate_is_told_who_comes(rt: HostRuntime) -> Result<(), Fail> {
+fn a_gate_is_told_who_comes(rt: HostRuntime) {
     let gate = NotingGate {
         entered: AtomicU64::new(0),
         right: AtomicBool::new(true),
@@ -65,9 +58,8 @@ fn a_gate_is_told_who_comes(rt: HostRuntime) -> Result<(), Fail> {
         alloc,
         &[HI],
         |desk| serves_three(&rt, alloc, desk, &gate),
-    )?;
-    assert!(rt; served);
-    assert_eq!(rt; gate.entered.load(Ordering::SeqCst), 3);
+    );
+    assert!(rt; served == Some(true));
+    assert!(rt; gate.entered.load(Ordering::SeqCst) == 3);
     assert!(rt; gate.right.load(Ordering::SeqCst));
-    Ok(())
 }

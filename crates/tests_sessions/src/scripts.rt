@@ -8,9 +8,7 @@ use crate::tests::{has_body, serves_hi};
 use crate::wire::pages_of;
 use std::alloc::Global;
 use std::sync::Wait;
-use std::test::*;
 use tcl_eval::Outcome;
-use txt_core::NoMemory;
 use worker::{DueRun, EvalEnd, Ran, Stock, costs_are_counted, items_are_isolated};
 
 /// A script that was run: its id and epoch, its code and its result. The code is 255 where it was spent, and
@@ -54,12 +52,12 @@ fn run_so<R: Wait>(
     moment: u64,
     fails: &[u64],
     want: &[Row<'_>],
-) -> Result<bool, NoMemory>
+) -> bool
     requires moment { moment ≤ 253402300799 }
 {
-    let mut pages = pages_of(alloc, PAGE, fails)?;
+    let mut pages = pages_of(alloc, PAGE, fails);
     let run = desk.run_due(rt, alloc, moment, &mut pages);
-    Ok(were_run(&run, want))
+    were_run(&run, want)
 }
 
 /// When scripts are due, the calls for pages that are to fail, and which scripts are run.
@@ -73,17 +71,17 @@ fn right_runs<R: Wait>(
     desk: &mut Desk<'_>,
     rows: &[Due<'_>],
     published: bool,
-) -> Result<usize, NoMemory> {
+) -> usize {
     let mut right = 0usize;
     for (moment, fails, want) in rows {
         let moment = (*moment).min(1_000_000);
-        let ran = run_so(rt, alloc, desk, moment, fails, want)?;
-        if !ran || serves_hi(rt, alloc, desk)? != published {
-            return Ok(right);
+        let ran = run_so(rt, alloc, desk, moment, fails, want);
+        if !ran || serves_hi(rt, alloc, desk) != published {
+            return right;
         }
         right = right.saturating_add(1);
     }
-    Ok(right)
+    right
 }
 
 /// How a script that makes definitions ended: 0 with its epoch, 1 in an error, 2 spent, 3 too deep, 4 with
@@ -98,22 +96,35 @@ fn ended(end: &EvalEnd) -> (u8, u64) {
     }
 }
 
+/// How a script that makes definitions ends.
+fn ended_of<R: Wait>(rt: &R, alloc: Global, desk: &mut Desk<'_>, script: &str) -> (u8, u64) {
+    let end = desk.define(rt, alloc, script);
+    ended(&end)
+}
+
 /// How many scripts that make definitions end as they must, up to the first that doesn't.
 fn right_definitions<R: Wait>(
     rt: &R,
     alloc: Global,
     desk: &mut Desk<'_>,
     rows: &[(&str, u8, u64)],
-) -> Result<usize, NoMemory> {
+) -> usize {
     let mut right = 0usize;
     for (script, kind, epoch) in rows {
-        let end = desk.define(rt, alloc, script)?;
-        if ended(&end) != (*kind, *epoch) {
-            return Ok(right);
+        if ended_of(rt, alloc, desk, script) != (*kind, *epoch) {
+            return right;
         }
         right = right.saturating_add(1);
     }
-    Ok(right)
+    right
+}
+
+/// Whether an end is this error.
+fn is_error(end: &EvalEnd, want: &[u8]) -> bool {
+    match end {
+        EvalEnd::Error(why) => why.bytes() == want,
+        _ => false,
+    }
 }
 
 /// Whether a script that makes definitions ends in this error.
@@ -123,12 +134,9 @@ fn fails_with<R: Wait>(
     desk: &mut Desk<'_>,
     script: &str,
     want: &[u8],
-) -> Result<bool, NoMemory> {
-    let end = desk.define(rt, alloc, script)?;
-    Ok(match &end {
-        EvalEnd::Error(why) => why.bytes() == want,
-        _ => false,
-    })
+) -> bool {
+    let end = desk.define(rt, alloc, script);
+    is_error(&end, want)
 }
 
 /// Two entries, of which the second is taken away again.
@@ -158,26 +166,21 @@ const DUE_LATER: &[Due<'_>] = &[
 
 /// How many of those definitions are right; whether there is no second entry then; and how many runs are
 /// right, before and behind the publication.
-fn scheduled<R: Wait>(
-    rt: &R,
-    alloc: Global,
-    desk: &mut Desk<'_>,
-) -> Result<(usize, bool, usize, usize), NoMemory> {
-    let made = right_definitions(rt, alloc, desk, SCHEDULING)?;
+fn scheduled<R: Wait>(rt: &R, alloc: Global, desk: &mut Desk<'_>) -> (usize, bool, usize, usize) {
+    let made = right_definitions(rt, alloc, desk, SCHEDULING);
     let why = b"no schedule \"1\"";
-    let none = fails_with(rt, alloc, desk, "ns_unschedule_proc 1", why)?;
-    let runs = right_runs(rt, alloc, desk, DUE, false)?;
-    let _end = desk.define(rt, alloc, HI)?;
-    let later = right_runs(rt, alloc, desk, DUE_LATER, true)?;
-    Ok((made, none, runs, later))
+    let none = fails_with(rt, alloc, desk, "ns_unschedule_proc 1", why);
+    let runs = right_runs(rt, alloc, desk, DUE, false);
+    let _published = ended_of(rt, alloc, desk, HI);
+    let later = right_runs(rt, alloc, desk, DUE_LATER, true);
+    (made, none, runs, later)
 }
 
 #[test]
-fn scripts_run_when_they_are_due(rt: HostRuntime) -> Result<(), Fail> {
+fn scripts_run_when_they_are_due(rt: HostRuntime) {
     let alloc = rt.alloc();
-    let came = on_desk(&rt, alloc, &[], |desk| scheduled(&rt, alloc, desk))?;
-    assert_eq!(rt; came, (2, true, 3, 3));
-    Ok(())
+    let came = on_desk(&rt, alloc, &[], |desk| scheduled(&rt, alloc, desk));
+    assert!(rt; came == Some((2, true, 3, 3)));
 }
 
 /// A script that is spent, and behind it one that reads a page.
@@ -198,24 +201,18 @@ const SPENT: &[Due<'_>] = &[
 ];
 
 /// How many of those definitions, and then of those runs, are right.
-fn spent_and_read<R: Wait>(
-    rt: &R,
-    alloc: Global,
-    desk: &mut Desk<'_>,
-) -> Result<(usize, usize), NoMemory> {
-    let made = right_definitions(rt, alloc, desk, READING)?;
-    let runs = right_runs(rt, alloc, desk, SPENT, true)?;
-    Ok((made, runs))
+fn spent_and_read<R: Wait>(rt: &R, alloc: Global, desk: &mut Desk<'_>) -> (usize, usize) {
+    let made = right_definitions(rt, alloc, desk, READING);
+    (made, right_runs(rt, alloc, desk, SPENT, true))
 }
 
 #[test]
-fn a_script_that_is_spent_keeps_none_from_running(rt: HostRuntime) -> Result<(), Fail> {
+fn a_script_that_is_spent_keeps_none_from_running(rt: HostRuntime) {
     let alloc = rt.alloc();
-    let came = on_desk(&rt, alloc, &[HI], |desk| spent_and_read(&rt, alloc, desk))?;
-    assert_eq!(rt; came, (1, 2));
+    let came = on_desk(&rt, alloc, &[HI], |desk| spent_and_read(&rt, alloc, desk));
+    assert!(rt; came == Some((1, 2)));
     items_are_isolated();
     costs_are_counted();
-    Ok(())
 }
 
 /// The save makes the second epoch, and the third with the next script, whose publication makes the fourth.
@@ -230,13 +227,12 @@ const DEFINITIONS: &[(&str, u8, u64)] = &[
 ];
 
 #[test]
-fn scripts_make_definitions(rt: HostRuntime) -> Result<(), Fail> {
+fn scripts_make_definitions(rt: HostRuntime) {
     let alloc = rt.alloc();
     let right = on_desk(&rt, alloc, &[], |desk| {
         right_definitions(&rt, alloc, desk, DEFINITIONS)
-    })?;
-    assert_eq!(rt; right, 7);
-    Ok(())
+    });
+    assert!(rt; right == Some(7));
 }
 
 /// Tells what was noted.
@@ -245,33 +241,44 @@ const NOTED: &str =
 
 /// Whether the moment of a definition run is what it was given: one second past the year 9999, at which
 /// clocks stop.
-fn has_its_moment<R: Wait>(rt: &R, alloc: Global, desk: &mut Desk<'_>) -> Result<bool, NoMemory> {
-    let end = desk.define_at(rt, alloc, "nsv_set m t [ns_time]", 253_402_300_800)?;
-    let shown = has_body(rt, alloc, desk, "/m", b"253402300800")?;
-    Ok(ended(&end) == (0, 1) && shown)
+fn has_its_moment<R: Wait>(rt: &R, alloc: Global, desk: &mut Desk<'_>) -> bool {
+    let end = desk.define_at(rt, alloc, "nsv_set m t [ns_time]", 253_402_300_800);
+    let is_made = ended(&end) == (0, 1);
+    drop(end);
+    has_body(rt, alloc, desk, "/m", b"253402300800") && is_made
 }
 
 #[test]
-fn a_definition_run_has_the_moment_that_it_was_given(rt: HostRuntime) -> Result<(), Fail> {
+fn a_definition_run_has_the_moment_that_it_was_given(rt: HostRuntime) {
     let alloc = rt.alloc();
     let right = on_desk(
         &rt,
         alloc,
         &[NOTED],
         |desk| has_its_moment(&rt, alloc, desk),
-    )?;
-    assert!(rt; right);
-    Ok(())
+    );
+    assert!(rt; right == Some(true));
+}
+
+/// Puts two numbers into a list that takes its room before; whether they fit.
+fn takes_two(stock: &mut Stock<u64>) -> bool {
+    let Ok(()) = stock.reserve(2) else {
+        return false;
+    };
+    stock.push_reserved(5);
+    stock.push(6).is_ok()
+}
+
+/// Whether a new list takes its room before what is put into it.
+fn takes_room_before(alloc: Global) -> bool {
+    let mut stock = Stock::new(alloc);
+    let was_empty = stock.is_empty();
+    let takes = takes_two(&mut stock);
+    let is_full = stock.len() == 2 && stock.get(1) == Some(&6) && stock.get(2).is_none();
+    was_empty && takes && is_full
 }
 
 #[test]
-fn lists_take_their_room_before(rt: HostRuntime) -> Result<(), Fail> {
-    let mut stock = Stock::new(rt.alloc());
-    assert!(rt; stock.is_empty());
-    stock.reserve(2)?;
-    stock.push_reserved(5u64);
-    assert!(rt; stock.push(6).is_ok());
-    assert_eq!(rt; stock.len(), 2);
-    assert!(rt; stock.get(1) == Some(&6) && stock.get(2).is_none());
-    Ok(())
+fn lists_take_their_room_before(rt: HostRuntime) {
+    assert!(rt; takes_room_before(rt.alloc()));
 }

@@ -65,45 +65,42 @@ pub(crate) fn next_seat<'a>(shared: &'a Shared, passes: &mut Passes, units: u64)
 }
 
 /// Runs scripts that make definitions, at the moment 0.
-fn define_all<R: Wait>(
-    rt: &R,
-    alloc: Global,
-    desk: &mut Desk<'_>,
-    scripts: &[&str],
-) -> Result<(), NoMemory> {
+fn define_all<R: Wait>(rt: &R, alloc: Global, desk: &mut Desk<'_>, scripts: &[&str]) {
     for script in scripts {
-        desk.define(rt, alloc, script)?;
+        let _end = desk.define(rt, alloc, script);
     }
-    Ok(())
 }
 
 /// What comes of these calls at a desk at which these scripts make definitions before.
-fn played<R: Wait, T, F: FnOnce(&mut Desk<'_>) -> Result<T, NoMemory> + Drop>(
+fn played<R: Wait, T, F: FnOnce(&mut Desk<'_>) -> T + Drop>(
     rt: &R,
     alloc: Global,
     desk: &mut Desk<'_>,
     scripts: &[&str],
     play: F,
-) -> Result<T, NoMemory>
+) -> T
     requires { F.IsAlwaysCallable play }
 {
-    define_all(rt, alloc, desk, scripts)?;
+    define_all(rt, alloc, desk, scripts);
     play(desk)
 }
 
-/// What comes of these calls at the desk of a new server, on which these scripts make definitions before.
-pub(crate) fn on_desk<R: Wait, T, F: FnOnce(&mut Desk<'_>) -> Result<T, NoMemory> + Drop>(
+/// What comes of these calls at the desk of a new server, on which these scripts make definitions before; `None`
+/// where memory wants for the server.
+pub(crate) fn on_desk<R: Wait, T, F: FnOnce(&mut Desk<'_>) -> T + Drop>(
     rt: &R,
     alloc: Global,
     scripts: &[&str],
     play: F,
-) -> Result<T, NoMemory>
+) -> Option<T>
     requires { F.IsAlwaysCallable play }
 {
-    let (shared, passes) = cells(alloc)?;
+    let Ok((shared, passes)) = cells(alloc) else {
+        return None;
+    };
     let mut desk = Seat::new(&shared, passes).desk(WORKER);
     let came = played(rt, alloc, &mut desk, scripts, play);
     drop(desk);
     drop(shared);
-    came
+    Some(came)
 }

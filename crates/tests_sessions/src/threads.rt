@@ -7,14 +7,13 @@ ghost use Rattle.tests_sessions.specs.Desks.{Open};
 use crate::desk::Desk;
 use crate::seat::Seat;
 use crate::site::{cells, next_seat};
-use crate::wire::{Wire, no_pages};
+use crate::wire::{Wire, no_pages, put, text};
 use outside::{MemSink, MemSource, OpenGate};
 use shared_state::{Passes, Shared};
 use std::alloc::Global;
 use std::sync::Wait;
-use std::test::*;
 use std::thread::{Threads, for_each_mut};
-use txt_core::{NoMemory, Text};
+use txt_core::Text;
 use worker::{End, EvalEnd, Session};
 
 /// One worker's part, and how it has fared.
@@ -61,75 +60,68 @@ const HEAD: &[u8] = b"HTTP/1.1 200 OK\r\n\
 
 /// Whether a session of two requests was served to its end with the replies that its blueprints allow, the
 /// epochs of which didn't fall and weren't below one; and the last epoch.
-fn judge(
-    alloc: Global,
-    session: &Session,
-    bytes: &[u8],
-    least: u64,
-) -> Result<(bool, u64), NoMemory> {
+fn judge(alloc: Global, session: &Session, bytes: &[u8], least: u64) -> (bool, u64) {
     let mut want = Text::empty(alloc);
     let mut rising = true;
     let mut last = least;
     for item in session.served.as_slice() {
         rising = rising && last <= item.epoch;
         last = item.epoch;
-        want.append(HEAD)?;
-        want.append(if item.epoch % 2 == 0 { b"new" } else { b"old" })?;
+        put(&mut want, HEAD);
+        put(&mut want, if item.epoch % 2 == 0 { b"new" } else { b"old" });
     }
     let ended = session.end == End::Ended && session.served.len() == 2;
-    Ok((ended && rising && bytes == want.bytes(), last))
+    (ended && rising && bytes == want.bytes(), last)
 }
 
 /// Serves one connection of two requests, behind an epoch that was seen, and judges it.
-fn serve_two<R: Wait>(
-    rt: &R,
-    alloc: Global,
-    desk: &mut Desk<'_>,
-    least: u64,
-) -> Result<(bool, u64), NoMemory> {
-    let mut source = MemSource::new(Text::new(alloc, TWO)?, 20, Vec::new(alloc));
+fn serve_two<R: Wait>(rt: &R, alloc: Global, desk: &mut Desk<'_>, least: u64) -> (bool, u64) {
+    let mut source = MemSource::new(text(alloc, TWO), 20, Vec::new(alloc));
     let mut sink = MemSink::new(alloc, 50, Vec::new(alloc));
     let mut pages = no_pages(alloc);
-    let session = desk.session(rt, alloc, &mut source, &mut sink, &mut pages, &OpenGate)?;
+    let session = desk.session(rt, alloc, &mut source, &mut sink, &mut pages, &OpenGate);
     judge(alloc, &session, sink.taken().bytes(), least)
 }
 
+/// Whether an end is that of definitions which are published.
+fn is_done(end: &EvalEnd) -> bool {
+    match end {
+        EvalEnd::Done { .. } => true,
+        _ => false,
+    }
+}
+
 /// Whether a publication is done.
-fn publish<R: Wait>(
-    rt: &R,
-    alloc: Global,
-    desk: &mut Desk<'_>,
-    script: &str,
-) -> Result<bool, NoMemory> {
-    let end = desk.define(rt, alloc, script)?;
-    Ok(matches!(&end, EvalEnd::Done { .. }))
+fn publish<R: Wait>(rt: &R, alloc: Global, desk: &mut Desk<'_>, script: &str) -> bool {
+    let end = desk.define(rt, alloc, script);
+    is_done(&end)
 }
 
 /// How many sessions of two requests each are right, one after the other, with epochs that don't fall.
-fn serve_all<R: Wait>(rt: &R, alloc: Global, desk: &mut Desk<'_>) -> Result<usize, NoMemory> {
+fn serve_all<R: Wait>(rt: &R, alloc: Global, desk: &mut Desk<'_>) -> usize {
     let mut right = 0usize;
     let mut last = 0;
     for _time in 0..TIMES {
-        let (is_right, epoch) = serve_two(rt, alloc, desk, last)?;
+        let (is_right, epoch) = serve_two(rt, alloc, desk, last);
         last = epoch;
         right = right.saturating_add(usize::from(is_right));
     }
-    Ok(right)
+    right
 }
 
 /// How many publications are done, one after the other.
-fn publish_all<R: Wait>(rt: &R, alloc: Global, desk: &mut Desk<'_>) -> Result<usize, NoMemory> {
+fn publish_all<R: Wait>(rt: &R, alloc: Global, desk: &mut Desk<'_>) -> usize {
     let mut right = 0usize;
     for time in 0..TIMES {
         let script = if time % 2 == 0 { NEW } else { OLD };
-        let is_done = publish(rt, alloc, desk, script)?;
+        let is_done = publish(rt, alloc, desk, script);
         right = right.saturating_add(usize::from(is_done));
     }
-    Ok(right)
+    right
 }
 
 impl Part<'_> {
-    /// What this part does, by its number. Where memory wants, nothing was right.
+    /// What this part does, by its number.
     fn work<R: Wait>(&mut self, rt: &R, alloc: Global) {
         let Some(seat) = self.seat.take() else {
             return;
@@ -141,7 +133,7 @@ impl Part<'_> {
             serve_all(rt, alloc, &mut desk)
         };
         drop(desk);
-        self.right = right.unwrap_or(0);
+        self.right = right;
     }
 }
 
@@ -181,9 +173,9 @@ fn work_at_once<R: Threads + Wait + Sync>(rt: &R, alloc: Global, parts: &mut [Pa
 }
 
 /// What a connection gets that asks how many were counted.
-fn tell_count<R: Wait>(rt: &R, alloc: Global, desk: &mut Desk<'_>) -> Result<Text, NoMemory> {
-    let told = desk.serve(rt, alloc, Wire::of(b"GET /c HTTP/1.1\r\nHost: l\r\n\r\n"))?;
-    Ok(told.bytes)
+fn tell_count<R: Wait>(rt: &R, alloc: Global, desk: &mut Desk<'_>) -> Text {
+    let told = desk.serve(rt, alloc, Wire::of(b"GET /c HTTP/1.1\r\nHost: l\r\n\r\n"));
+    told.bytes
 }
 
 /// How many sessions and publications of parts were right.
@@ -202,32 +194,36 @@ fn play<R: Threads + Wait + Sync>(
     alloc: Global,
     desk: &mut Desk<'_>,
     parts: &mut [Part<'_>],
-) -> Result<(usize, Text), NoMemory> {
-    desk.define(rt, alloc, COUNTING)?;
+) -> (usize, Text) {
+    let _published = publish(rt, alloc, desk, COUNTING);
     work_at_once(rt, alloc, parts);
-    let reply = tell_count(rt, alloc, desk)?;
-    Ok((right_of(parts), reply))
+    let reply = tell_count(rt, alloc, desk);
+    (right_of(parts), reply)
 }
 
-/// Four workers serve while a fifth part publishes, at new cells.
-fn serve_in_four<R: Threads + Wait + Sync>(
-    rt: &R,
-    alloc: Global,
-) -> Result<(usize, Text), NoMemory> {
-    let (shared, mut passes) = cells(alloc)?;
+/// Four workers serve while a fifth part publishes, at new cells; `None` where memory wants for these.
+fn serve_in_four<R: Threads + Wait + Sync>(rt: &R, alloc: Global) -> Option<(usize, Text)> {
+    let Ok((shared, mut passes)) = cells(alloc) else {
+        return None;
+    };
     let mut parts = five_parts(&shared, &mut passes);
     let mut desk = Seat::new(&shared, passes).desk(9);
     let came = play(rt, alloc, &mut desk, &mut parts);
     drop(desk);
     drop(parts);
     drop(shared);
-    came
+    Some(came)
+}
+
+/// Whether all sessions and publications were right, and the count was told that they make.
+fn are_right(came: Option<(usize, Text)>) -> bool {
+    match came {
+        Some((right, reply)) => right == 125 && reply.bytes().ends_with(b"\r\n\r\n200 new"),
+        None => false,
+    }
 }
 
 #[test]
-fn four_serve_while_a_fifth_publishes(rt: HostRuntime) -> Result<(), Fail> {
-    let (right, reply) = serve_in_four(&rt, rt.alloc())?;
-    assert_eq!(rt; right, 125);
-    assert!(rt; reply.bytes().ends_with(b"\r\n\r\n200 new"));
-    Ok(())
+fn four_serve_while_a_fifth_publishes(rt: HostRuntime) {
+    assert!(rt; are_right(serve_in_four(&rt, rt.alloc())));
 }

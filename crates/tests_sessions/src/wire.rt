@@ -4,7 +4,7 @@ ghost use Rattle.std.specs.Prelude.{◌≤◌};
 
 use outside::{MemPages, MemSink, MemSource};
 use std::alloc::Global;
-use txt_core::{NoMemory, Text};
+use txt_core::Text;
 use worker::{End, ServedOutcome, Session};
 
 /// What comes and goes on one connection.
@@ -35,21 +35,40 @@ impl Wire<'_> {
     }
 }
 
+/// A text; the empty one where memory wants.
+pub(crate) fn text(alloc: Global, bytes: &[u8]) -> Text {
+    match Text::new(alloc, bytes) {
+        Ok(text) => text,
+        Err(_) => Text::empty(alloc),
+    }
+}
+
+/// Appends bytes to a text, which stays as it is where memory wants.
+pub(crate) fn put(all: &mut Text, bytes: &[u8]) {
+    let _put = all.append(bytes);
+}
+
+/// The numbers of calls; none where memory wants.
+fn calls_of(alloc: Global, calls: &[u64]) -> Vec<u64> {
+    match Vec::from_slice(alloc, calls) {
+        Ok(list) => list,
+        Err(_) => Vec::new(alloc),
+    }
+}
+
 /// What comes on a wire.
-pub(crate) fn source_of(alloc: Global, wire: &Wire<'_>) -> Result<MemSource, NoMemory>
+pub(crate) fn source_of(alloc: Global, wire: &Wire<'_>) -> MemSource
     requires { 1 ≤ wire.now.read_piece }
 {
-    let input = Text::new(alloc, wire.input)?;
-    let reads = Vec::from_slice(alloc, wire.reads)?;
-    Ok(MemSource::new(input, wire.read_piece, reads))
+    let reads = calls_of(alloc, wire.reads);
+    MemSource::new(text(alloc, wire.input), wire.read_piece, reads)
 }
 
 /// What takes what goes out on a wire.
-pub(crate) fn sink_of(alloc: Global, wire: &Wire<'_>) -> Result<MemSink, NoMemory>
+pub(crate) fn sink_of(alloc: Global, wire: &Wire<'_>) -> MemSink
     requires { 1 ≤ wire.now.write_piece }
 {
-    let writes = Vec::from_slice(alloc, wire.writes)?;
-    Ok(MemSink::new(alloc, wire.write_piece, writes))
+    MemSink::new(alloc, wire.write_piece, calls_of(alloc, wire.writes))
 }
 
 /// What came of a session.
@@ -67,20 +86,20 @@ pub(crate) struct Told {
 }
 
 /// What is told of a session and of what went out.
-pub(crate) fn tell(alloc: Global, session: &Session, sink: &MemSink) -> Result<Told, NoMemory> {
+pub(crate) fn tell(alloc: Global, session: &Session, sink: &MemSink) -> Told {
     let served = session.served.as_slice();
     let (epoch, outcome, wrote) = match served.last() {
         Some(item) => (item.epoch, item.outcome, item.wrote),
         None => (0, ServedOutcome::Answered, 0),
     };
-    Ok(Told {
+    Told {
         end: session.end,
-        bytes: sink.taken().copy(alloc)?,
+        bytes: text(alloc, sink.taken().bytes()),
         count: served.len(),
         epoch,
         outcome,
         wrote,
-    })
+    }
 }
 
 /// Pages without one.
@@ -89,21 +108,15 @@ pub(crate) fn no_pages(alloc: Global) -> MemPages {
 }
 
 /// Sets the page at a path.
-fn set_page(alloc: Global, pages: &mut MemPages, path: &[u8], page: &[u8]) -> Result<(), NoMemory> {
-    let path = Text::new(alloc, path)?;
-    let page = Text::new(alloc, page)?;
-    pages.set(path, page)
+fn set_page(alloc: Global, pages: &mut MemPages, path: &[u8], page: &[u8]) {
+    let _set = pages.set(text(alloc, path), text(alloc, page));
 }
 
 /// Pages at these paths, of which those calls fail that are listed.
-pub(crate) fn pages_of(
-    alloc: Global,
-    rows: &[(&[u8], &[u8])],
-    fails: &[u64],
-) -> Result<MemPages, NoMemory> {
-    let mut pages = MemPages::new(alloc, Vec::from_slice(alloc, fails)?);
+pub(crate) fn pages_of(alloc: Global, rows: &[(&[u8], &[u8])], fails: &[u64]) -> MemPages {
+    let mut pages = MemPages::new(alloc, calls_of(alloc, fails));
     for (path, page) in rows {
-        set_page(alloc, &mut pages, path, page)?;
+        set_page(alloc, &mut pages, path, page);
     }
-    Ok(pages)
+    pages
 }

@@ -3,11 +3,10 @@
 //! `[script]`; a fault with its place.
 
 use tcl_parse::{
-    Command, Fault, Kind, ParseFault, Piece, Script, Stop, Word, parse, read_enclosed,
-    read_substitution,
+    Command, Fault, Kind, ParseFault, Piece, Script, Word, parse, read_enclosed, read_substitution,
 };
 use test_rows::Answer;
-use txt_core::{MOST_NESTED, Text};
+use txt_core::{MOST_NESTED, Stop, Text};
 
 /// Adds a text between two others.
 fn add_between(front: &[u8], text: &Text, back: &[u8], out: &mut Answer) {

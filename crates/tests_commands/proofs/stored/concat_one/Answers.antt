@@ -1,14 +1,15 @@
 use Rattle.std.proofs.Common.{◌≡◌, ◌∙◌, ap, refl, arith, rules, ℕ, List, [], ◌∷◌, length, Ok}
 use Rattle.std.specs.Prelude.{codes, filter}
 use Rattle.txt_core.specs.Number.{trimmed}
+use Rattle.txt_core.specs.Texts.{is_filled}
 use Rattle.natives.specs.Answers.{limited}
 use Rattle.natives.specs.Words.{arg}
-use Rattle.natives.specs.Lists.{concat_reply, joined, is_not_empty}
+use Rattle.natives.specs.Lists.{concat_reply, joined}
 use Rattle.natives.specs.Pure.{pure_of, pure_concat}
 use Rattle.tests_commands.proofs.stored.concat_one.Goals as goal
 
 -- one word alone is itself, also where it is empty
-alone : (x : List ℕ) → joined (codes " ") (filter is_not_empty (x ∷ [])) ≡ x
+alone : (x : List ℕ) → joined (codes " ") (filter is_filled (x ∷ [])) ≡ x
 alone [] = refl
 alone (b ∷ t) = refl
 
