@@ -46,6 +46,6 @@ abbrev pub page_call : Words → PageState → Leaf PageState
 page_call words host = by_verb (verb_of (arg words 0)) words host
 
 -- `ns_adp_include` alone asks a question, so an answer to any other words is none of this host's
-abbrev pub page_answer : Words → Answer → PageState → Onward PageState
-page_answer words answer host =
+abbrev pub page_onward : Words → Answer → PageState → Onward PageState
+page_onward words answer host =
     if bytes_eq (arg words 0) (codes "ns_adp_include") then page_answered words answer host else goes (not_mine host)

@@ -6,5 +6,5 @@ pub mod Includes
 pub mod Arguments
 pub mod Leaving
 pub mod Leaf
--- What checks answer, in the words of the rules.
+-- What only proofs use.
 pub mod Answers

@@ -1,7 +1,7 @@
 //! The commands by their names.
 
 ghost use Rattle.tcl_host.specs.Outcomes.{Comes, ComesTo};
-ghost use Rattle.adp_host.specs.Leaf.{page_call, page_answer};
+ghost use Rattle.adp_host.specs.Leaf.{page_call, page_onward};
 
 use crate::arguments::{ns_adp_argc, ns_adp_argv};
 use crate::host::AdpHost;
@@ -34,7 +34,7 @@ pub fn dispatch(host: &mut AdpHost, words: &Words) -> Result<HostReply, Refusal>
 
 /// Goes on with the answer to a question that a command asked.
 pub fn answer(host: &mut AdpHost, words: &Words, given: &Answer) -> Result<HostReply, Refusal>
-    ensures { ComesTo result host.new (page_answer words.now given.now host.old) }
+    ensures { ComesTo result host.new (page_onward words.now given.now host.old) }
 {
     if words.bytes_at(0) != b"ns_adp_include".as_slice() {
         return Ok(HostReply::NotMine);

@@ -6,7 +6,7 @@ use crate::output::put_out;
 use outside::Answer;
 use std::alloc::Global;
 use std::marker::Model;
-use tcl_host::{HostReply, reply_of, text_reply};
+use tcl_host::{HostReply, reply_of, reply_to_text};
 use txt_core::{Sequence, Text, Words};
 
 /// Does the commands of pages, and keeps what the pages put out, how many errors they met, and which
@@ -35,7 +35,7 @@ impl AdpHost {
     ghost use Rattle.adp_host.specs.States.{no_page_yet, has_page, without_page, without_pages};
     ghost use Rattle.adp_host.specs.Output.{put_out};
     ghost use Rattle.adp_host.specs.Leaving.{left};
-    ghost use Rattle.adp_host.specs.Leaf.{page_call, page_answer};
+    ghost use Rattle.adp_host.specs.Leaf.{page_call, page_onward};
 
     /// The host at the beginning of a run: nothing was put out, no page met an error, and none is open.
     pub fn new(alloc: Global) -> AdpHost
@@ -62,7 +62,7 @@ impl AdpHost {
     /// first. `NotMine` comes exactly where the first word isn't `ns_adp_include`. Where memory wants,
     /// the host may be in any state.
     pub fn answered(&mut self, words: &Words, given: &Answer) -> HostReply
-        ensures { RepliesTo result self.new (page_answer words.now given.now self.old) }
+        ensures { RepliesTo result self.new (page_onward words.now given.now self.old) }
     {
         reply_of(answer(self, words, given))
     }
@@ -74,7 +74,7 @@ impl AdpHost {
         ensures { Ends result self.new (put_out piece.now self.old) }
     {
         let alloc = self.alloc;
-        text_reply(alloc, put_out(self, piece.bytes()))
+        reply_to_text(alloc, put_out(self, piece.bytes()))
     }
 
     /// Takes the code with which a piece of the innermost open page ended, or 0 where the page has no

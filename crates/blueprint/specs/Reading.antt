@@ -3,7 +3,7 @@ use Rattle.std.specs.Prelude.{◌≡◌, ℕ, ◌+◌, List, [], ◌∷◌, leng
 use Rattle.std.specs.List.{list_all}
 use Rattle.txt_core.specs.Names.{Bytes, Words}
 use Rattle.txt_core.specs.Limits.{is_long}
-use Rattle.txt_core.specs.Paths.{is_slash}
+pub use Rattle.txt_core.specs.Paths.{begins_with_slash}
 use Rattle.txt_core.specs.Lists.{Listing, elements, bad_at}
 use Rattle.txt_core.specs.Listing.{listing}
 use Rattle.tcl_frame.specs.Names.{named, is_element}
@@ -69,11 +69,6 @@ is_method word = bytes_eq word (codes "GET") || bytes_eq word (codes "POST") || 
 -- a filter can be registered for all methods as well
 abbrev pub is_filter_method : Bytes → Bool
 is_filter_method word = bytes_eq word (codes "*") || is_method word
-
--- a URL begins with a slash
-abbrev pub begins_with_slash : Bytes → Bool
-begins_with_slash [] = false
-begins_with_slash (byte ∷ url) = is_slash byte
 
 -- the stage of this name
 abbrev pub stage_named : Bytes → Option When

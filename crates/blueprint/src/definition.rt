@@ -4,12 +4,12 @@ ghost use Rattle.std.specs.Prelude.{◌≡◌, Some, IfOk};
 ghost use Rattle.std.specs.List.{list_all};
 ghost use Rattle.blueprint.specs.Reading.{list_of, is_parameter, are_parameters, proc_def, rename_def, set_def, route_at, route_def, filter_at, filter_def, cleanup_def, by_name, is_short, def_of};
 
-use crate::registration::{begins_with_slash, is_filter_method, is_method, stage_named};
+use crate::registration::{is_filter_method, is_method, stage_named};
 use cmd_table::{Def, When};
 use std::alloc::Global;
 use tcl_frame::is_element_name;
 use tcl_list::{ListFault, split};
-use txt_core::{NoMemory, Sequence, Text, Words, is_too_long};
+use txt_core::{NoMemory, Sequence, Text, Words, begins_with_slash, is_too_long};
 
 /// The elements of a list; `None` where the text is none.
 fn elements(alloc: Global, text: &Text) -> Result<Option<Words>, NoMemory>

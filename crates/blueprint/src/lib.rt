@@ -17,6 +17,6 @@ pub use law::{
     equal_epochs_are_one_state, scripts_are_read, since_applies, since_is_added, whole_is_all,
 };
 pub use reading::from_script;
-pub use registration::{begins_with_slash, is_filter_method, is_method, stage_named};
+pub use registration::{is_filter_method, is_method, stage_named};
 pub use reply::{BlueCall, BlueReply, Limit, Look, Published, ScriptFault};
 pub use script::{script_of, when_name};

@@ -1,7 +1,7 @@
-//! Which methods, URLs and stages a registration may name.
+//! Which methods and stages a registration may name.
 
 ghost use Rattle.std.specs.Prelude.{◌≡◌};
-ghost use Rattle.blueprint.specs.Reading.{is_method, is_filter_method, begins_with_slash, stage_named};
+ghost use Rattle.blueprint.specs.Reading.{is_method, is_filter_method, stage_named};
 
 use cmd_table::When;
 
@@ -20,16 +20,6 @@ pub fn is_filter_method(word: &[u8]) -> bool
     ensures { result ≡ is_filter_method word.now }
 {
     word == b"*".as_slice() || is_method(word)
-}
-
-/// Whether a URL begins with a slash.
-pub fn begins_with_slash(url: &[u8]) -> bool
-    ensures { result ≡ begins_with_slash url.now }
-{
-    match url.split_first() {
-        None => false,
-        Some((first, _behind)) => *first == b'/',
-    }
 }
 
 /// The stage of this name; `None` exactly where there is none.

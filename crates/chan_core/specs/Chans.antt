@@ -15,6 +15,10 @@ left_in chans number = unwrap_or (channel chans number) []
 abbrev pub open_count : List (Option Bytes) → ℕ
 open_count chans = count_by is_some chans
 
+-- so many channels may be open at once
+abbrev pub most_open : ℕ
+most_open = 64
+
 -- these bytes are left in the channel of this number
 abbrev pub with_left : List (Option Bytes) → ℕ → Bytes → List (Option Bytes)
 with_left chans number bytes = slice_set chans number (Some bytes)

@@ -2,7 +2,7 @@
 
 ghost use Rattle.std.specs.Prelude.{◌≡◌, ◌≢◌, ◌↔◌, ◌≤◌, ◌++◌, ◌∷◌, [], Some, None, Err, IsTrue, IsErr, IfOk, IfErr, OnOk, OnErr, length, take, drop, slice_set, unwrap_or};
 ghost use Rattle.chan_core.specs.Lines.{line_of, behind_line};
-ghost use Rattle.chan_core.specs.Chans.{channel, left_in, open_count, with_left};
+ghost use Rattle.chan_core.specs.Chans.{channel, left_in, most_open, open_count, with_left};
 
 use crate::channel::Channel;
 use std::alloc::Global;
@@ -46,7 +46,7 @@ impl Model for Chans {
     ghost use Rattle.std.specs.Prelude.{List, Option, ◌≡◌, ◌≤◌};
     ghost use Rattle.std.specs.Coded.{coded_list, coded_option, coded_ℕ};
     ghost use Rattle.txt_core.specs.Names.{Bytes};
-    ghost use Rattle.chan_core.specs.Chans.{open_count};
+    ghost use Rattle.chan_core.specs.Chans.{most_open, open_count};
 
     ghost Value = { List (Option Bytes) };
 
@@ -54,7 +54,7 @@ impl Model for Chans {
 
     ghost view = { λ a. a.channels.items };
 
-    ghost invariant = { λ a. (a.open_now ≡ open_count a.channels.items) × (a.open_now ≤ 64) };
+    ghost invariant = { λ a. (a.open_now ≡ open_count a.channels.items) × (a.open_now ≤ most_open) };
 }
 
 /// Takes a line of the channel at a place.
@@ -104,8 +104,8 @@ impl Chans {
         ensures number { IfOk result (λ number. number ≡ length self.old) }
         ensures ok { OnOk result (self.new ≡ self.old ++ Some bytes ∷ []) }
 
-        ensures limit { open_count self.new ≤ 64 }
-        ensures full { (result ≡ Err ChanFault.Full) ↔ (open_count self.old ≡ 64) }
+        ensures limit { open_count self.new ≤ most_open }
+        ensures full { (result ≡ Err ChanFault.Full) ↔ (open_count self.old ≡ most_open) }
         ensures other { result ≢ Err ChanFault.NoChannel }
         ensures err { OnErr result (self.new ≡ self.old) }
     {

@@ -8,6 +8,7 @@ use Rattle.outside.specs.declared.question.Answer.{Answer}
 use Rattle.outside.specs.declared.question.Answer.TheVariants.{Said, Failed, Page, NoPage, PageFault}
 use Rattle.outside.specs.declared.question.Service.TheVariants as service
 use Rattle.chan_core.specs.Chans.{left_in, open_count, with_left}
+pub use Rattle.chan_core.specs.Chans.{most_open}
 use Rattle.chan_core.specs.Lines.{line_of, behind_line}
 use Rattle.tcl_host.specs.PagePaths.{is_page_path}
 use Rattle.tcl_host.specs.Leaf.{Leaf, wants, stores}
@@ -29,8 +30,8 @@ leaving host number bytes = with_channels host (with_left host.channels number b
 -- ---- `open`
 
 -- the second word is the path of a page
-abbrev pub page_path : Words → Checked Bytes
-page_path words = if is_page_path (arg words 1) then Ok (arg words 1) else Err (unfit words 1)
+abbrev pub path_given : Words → Checked Bytes
+path_given words = if is_page_path (arg words 1) then Ok (arg words 1) else Err (unfit words 1)
 
 -- the page of a path is asked for
 abbrev pub asks_page : Bytes → ConnState → Leaf ConnState
@@ -38,11 +39,7 @@ asks_page path host = wants (record { service = service.Page; words = path ∷ [
 
 -- `open PATH` asks for the page of the path as it is written, however many channels are open
 abbrev pub open_page : Words → ConnState → Leaf ConnState
-open_page words host = counted 2 2 words (given (page_path words) asks_page) host
-
--- so many channels may be open at once
-abbrev pub most_open : ℕ
-most_open = 64
+open_page words host = counted 2 2 words (given (path_given words) asks_page) host
 
 -- a channel on the page is opened, where one more may be; its id is the result
 abbrev pub opens : Bytes → ConnState → Leaf ConnState

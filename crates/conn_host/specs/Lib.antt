@@ -11,5 +11,5 @@ pub mod RequestCommands
 pub mod Responding
 pub mod TextCommands
 pub mod Leaf
--- What checks answer, in the words of the rules.
+-- What only proofs use.
 pub mod Answers

@@ -6,6 +6,7 @@ use Rattle.txt_core.specs.Names.{Bytes, Words}
 use Rattle.txt_core.specs.ErrorTexts.{response_given}
 use Rattle.txt_core.specs.Texts.{is_filled}
 use Rattle.http_resp.specs.Replies.{plain_reply}
+use Rattle.http_resp.specs.Statuses as statuses
 use Rattle.http_resp.specs.declared.response.Response.{Response}
 use Rattle.tcl_host.specs.Leaf.{Leaf}
 use Rattle.natives.specs.Words.{arg}
@@ -74,7 +75,7 @@ url words = if is_url (arg words 1) then Ok (arg words 1) else Err (unfit words 
 
 -- the plain reply of 302, with the field Location in front of the output fields
 abbrev pub redirection : Bytes → ConnState → Response
-redirection url host = record (plain_reply 302) { fields = (codes "Location", url) ∷ output_fields host }
+redirection url host = record (plain_reply statuses.found) { fields = (codes "Location", url) ∷ output_fields host }
 
 -- `ns_returnredirect URL` gives that reply
 abbrev pub ns_returnredirect : Words → ConnState → Leaf ConnState
@@ -86,7 +87,7 @@ ns_returnredirect words host =
 
 -- the plain reply of 404, with the output fields
 abbrev pub not_found : ConnState → Response
-not_found host = record (plain_reply 404) { fields = output_fields host }
+not_found host = record (plain_reply statuses.not_found) { fields = output_fields host }
 
 -- `ns_returnnotfound` gives that reply
 abbrev pub ns_returnnotfound : Words → ConnState → Leaf ConnState

@@ -11,6 +11,7 @@ ghost use Rattle.conn_host.specs.Responding.{is_control, is_shown, is_kind, is_u
 
 use crate::checks::{integer, require_count};
 use crate::host::ConnHost;
+use http_resp::status::{FOUND, NOT_FOUND};
 use http_resp::{Response, plain};
 use std::alloc::Global;
 use tcl_host::{Refusal, refuse, require_fit};
@@ -20,10 +21,6 @@ use txt_core::{NoMemory, Pairs, Text, Words, error_text};
 const LEAST_STATUS: i64 = 200;
 
 const GREATEST_STATUS: i64 = 599;
-
-const FOUND: u16 = 302;
-
-const NOT_FOUND: u16 = 404;
 
 /// Whether a byte is below 32 or 127.
 fn is_control(byte: u8) -> bool

@@ -19,7 +19,7 @@ use Rattle.http_req.specs.declared.trailer.TrailerStep.{TrailerStep}
 use Rattle.http_req.specs.declared.trailer.TrailerStep.TheVariants as move
 use Rattle.http_req.specs.declared.trailer.Trailer.{Trailer}
 use Rattle.http_req.specs.declared.trailer.Trailer.TheVariants as trailer
-use Rattle.http_req.specs.ChunkLines.{is_return, is_blank, is_text_byte, behind_size, line_step, line_on, line_from, chunk_line}
+use Rattle.http_req.specs.ChunkLines.{is_return, is_space_or_tab, is_text_byte, behind_size, line_step, line_on, line_from, chunk_line}
 use Rattle.http_req.specs.Trailers.{trailer_step, trailer_on, trailer_from}
 use Rattle.http_req.specs.declared.chunk.DataEnd.{DataEnd}
 use Rattle.http_req.specs.declared.chunk.DataEnd.TheVariants.{Ended as ended, Missing as missing, Wrong as wrong}
@@ -380,7 +380,7 @@ pub record DigitStep (s : LineSpot) (at v : ℕ) : Type 0 where
   pub value : v < 16
 
 behind_size_no_digit : (at b v : ℕ) → behind_size at b ≡ step.Digit v → ⊥
-behind_size_no_digit at b v e = go (is_return b) (nat_le 1022 at) (is_blank b) (b == 59) e
+behind_size_no_digit at b v e = go (is_return b) (nat_le 1022 at) (is_space_or_tab b) (b == 59) e
   where
     go : (r f k c : Bool) → (if r then step.Go spot.Return else if f then step.Bad else if k then step.Go spot.Blanks else if c then step.Go spot.Extension else step.Bad) ≡ step.Digit v → ⊥
     go true f k c e = cc
@@ -428,7 +428,7 @@ size_grows at n v small digit early =
     (omega (arith, next, small, digit), omega (arith, next, small, digit, most, all))
 
 behind_size_no_size : (at b : ℕ) → behind_size at b ≡ step.Go spot.Size → ⊥
-behind_size_no_size at b e = go (is_return b) (nat_le 1022 at) (is_blank b) (b == 59) e
+behind_size_no_size at b e = go (is_return b) (nat_le 1022 at) (is_space_or_tab b) (b == 59) e
   where
     go : (r f k c : Bool) → (if r then step.Go spot.Return else if f then step.Bad else if k then step.Go spot.Blanks else if c then step.Go spot.Extension else step.Bad) ≡ step.Go spot.Size → ⊥
     go true f k c e = cc

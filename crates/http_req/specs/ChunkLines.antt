@@ -16,8 +16,8 @@ use Rattle.http_req.specs.Limits.{size_digit_limit, line_room}
 abbrev pub is_return : ℕ → Bool
 is_return byte = byte == 13
 
-abbrev pub is_blank : ℕ → Bool
-is_blank byte = byte == 32 || byte == 9
+abbrev pub is_space_or_tab : ℕ → Bool
+is_space_or_tab byte = byte == 32 || byte == 9
 
 -- a byte of text, which may stand in an extension or in a line of the trailer: tab, 32 to 126, or above 127
 abbrev pub is_text_byte : ℕ → Bool
@@ -28,7 +28,7 @@ abbrev pub behind_size : ℕ → ℕ → LineStep
 behind_size at byte =
     if is_return byte then step.Go spot.Return
     else if nat_le line_room at then step.Bad
-    else if is_blank byte then step.Go spot.Blanks
+    else if is_space_or_tab byte then step.Go spot.Blanks
     else if byte == 59 then step.Go spot.Extension
     else step.Bad
 

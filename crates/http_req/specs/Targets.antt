@@ -4,7 +4,7 @@ use Rattle.std.specs.List.{list_any, starts_with, position_or_len, before_first,
 use Rattle.std.specs.Str.{bytes_eq}
 use Rattle.percent_encoding.specs.Percent.{percent_decode}
 use Rattle.txt_core.specs.Names.{Bytes, Words}
-pub use Rattle.txt_core.specs.Paths.{is_slash}
+pub use Rattle.txt_core.specs.Paths.{is_slash, begins_with_slash}
 pub use Rattle.txt_core.specs.Texts.{is_filled}
 
 abbrev pub is_question : ℕ → Bool
@@ -20,11 +20,6 @@ http_scheme = codes "http://"
 -- the target begins as an absolute one
 abbrev pub is_absolute : Bytes → Bool
 is_absolute target = starts_with nat_eq target http_scheme
-
--- the target begins with a slash
-abbrev pub begins_with_slash : Bytes → Bool
-begins_with_slash [] = false
-begins_with_slash (byte ∷ rest) = is_slash byte
 
 -- a host of at least one byte stands at the front
 abbrev pub begins_with_host : Bytes → Bool

@@ -8,7 +8,7 @@ ghost use Rattle.http_req.specs.Targets.{path_of, query_of, segments_of, is_targ
 use percent_encoding::percent_decode;
 use std::alloc::Global;
 use std::borrow::CowSlice;
-use txt_core::{NoMemory, Text, Words};
+use txt_core::{NoMemory, Text, Words, begins_with_slash};
 
 const SCHEME: &[u8] = b"http://";
 
@@ -16,12 +16,12 @@ const SCHEME: &[u8] = b"http://";
 pub(crate) fn is_target(target: &[u8]) -> bool
     ensures { result ≡ is_target target.now }
 {
-    match target.first() {
-        Some(b'/') => true,
-        _ => match target.strip_prefix(SCHEME) {
-            Some(rest) => begins_with_host(rest),
-            None => false,
-        },
+    if begins_with_slash(target) {
+        return true;
+    }
+    match target.strip_prefix(SCHEME) {
+        Some(rest) => begins_with_host(rest),
+        None => false,
     }
 }
 

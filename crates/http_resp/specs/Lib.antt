@@ -1,5 +1,6 @@
 -- What a reader believes.
 pub mod StatusLine
+pub mod Statuses
 pub mod Moment
 pub mod OutputFields
 pub mod ResponseBytes

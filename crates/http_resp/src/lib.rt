@@ -11,6 +11,7 @@ mod head;
 mod lines;
 mod replies;
 mod response;
+pub mod status;
 
 pub use date::fixdate;
 pub use delivery::{Wrote, write_response};

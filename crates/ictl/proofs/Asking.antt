@@ -13,7 +13,7 @@ use Rattle.conn_host.specs.ChannelCommands as channels
 use Rattle.conn_host.specs.Leaf.{conn_answer}
 use Rattle.adp_host.specs.States.{PageState}
 use Rattle.adp_host.specs.Includes as includes
-use Rattle.adp_host.specs.Leaf.{page_answer}
+use Rattle.adp_host.specs.Leaf.{page_onward}
 use Rattle.server_host.specs.Hosts.{HostState, with_conn, with_pages, with_gathered}
 use Rattle.server_host.specs.Parts.{in_whole, onward_in_whole}
 use Rattle.server_host.specs.Sharing.{ungathered, names_question, all_names, names_end, names_answered}
@@ -73,7 +73,7 @@ include_asks words (Page page) pages = either_onward (is_long page) _ _ refl ref
 include_asks words NoPage pages = refl
 include_asks words PageFault pages = refl
 
-pages_ask : (words : List (List ℕ)) (answer : Answer) (pages : PageState) → onward_asks (page_answer words answer pages) ≡ false
+pages_ask : (words : List (List ℕ)) (answer : Answer) (pages : PageState) → onward_asks (page_onward words answer pages) ≡ false
 pages_ask words answer pages = either_onward (bytes_eq (arg words 0) (codes "ns_adp_include")) _ _ (include_asks words answer pages) refl
 
 said_asks : (answer : Answer) (host : HostState) → asks (said answer host) ≡ false
@@ -129,7 +129,7 @@ by_tests : (opens include names : Bool) (words : List (List ℕ)) (answer : Answ
 by_tests true include names words answer host new question e =
     absurd (no_onward (conn_answered words answer host) question new (whole_asks (with_conn host) (conn_answer words answer host.conn) ∙ conn_asks words answer host.conn) e)
 by_tests false true names words answer host new question e =
-    absurd (no_onward (page_answered words answer host) question new (onward_whole_asks (with_pages host) (page_answer words answer host.pages) ∙ pages_ask words answer host.pages) e)
+    absurd (no_onward (page_answered words answer host) question new (onward_whole_asks (with_pages host) (page_onward words answer host.pages) ∙ pages_ask words answer host.pages) e)
 by_tests false false true words answer host new question e = names_gather words answer host new question (cc e)
 by_tests false false false words answer host new question e = absurd (no_onward (goes (said answer host)) question new (said_asks answer host) e)
 

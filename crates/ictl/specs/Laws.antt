@@ -12,6 +12,7 @@ use Rattle.cmd_table.specs.declared.definition.When.TheVariants as when
 use Rattle.http_req.specs.declared.request.Request.{Request}
 use Rattle.http_resp.specs.declared.response.Response.{Response}
 use Rattle.http_resp.specs.Replies.{plain_reply}
+use Rattle.http_resp.specs.Statuses as statuses
 use Rattle.tcl_frame.specs.Base.{base_of}
 use Rattle.tcl_host.specs.Leaf.{Leaf, goes}
 use Rattle.server_host.specs.declared.edition.Edition.{Edition}
@@ -151,7 +152,7 @@ pub record FollowsTheStages (names : Names) (blueprint : Edition) (moment : Mome
   pub unknown : access_end (authorised names blueprint moment visit) Unauthorized
       ≡ goes_on names blueprint moment visit cleanups ending event.Denied (Some stage.Authorise) (responds unauthorized)
   pub forbidden : access_end (authorised names blueprint moment visit) Forbidden
-      ≡ goes_on names blueprint moment visit cleanups ending event.Denied (Some stage.Authorise) (responds (plain_reply 403))
+      ≡ goes_on names blueprint moment visit cleanups ending event.Denied (Some stage.Authorise) (responds (plain_reply statuses.forbidden))
   pub access_failed : access_end (authorised names blueprint moment visit) Failed
       ≡ goes_on names blueprint moment visit cleanups ending event.Failed (Some stage.Authorise) (responds failed)
   -- postauth filters
@@ -175,7 +176,7 @@ pub record FollowsTheStages (names : Names) (blueprint : Edition) (moment : Mome
       ≡ goes_on names blueprint moment visit cleanups ending event.Failed (Some stage.Serve) (responds (unentered answer)) state account left
   pub not_found : (state : State HostState) (account : Account) (left : List Answer)
       → serve names blueprint moment Nothing state account left
-      ≡ goes_on names blueprint moment visit cleanups ending event.Failed (Some stage.Serve) (responds (plain_reply 404)) state account left
+      ≡ goes_on names blueprint moment visit cleanups ending event.Failed (Some stage.Serve) (responds (plain_reply statuses.not_found)) state account left
   -- the response, written whole or not
   pub traced : traces_from names blueprint moment visit.trace cleanups ending
       ≡ goes_on names blueprint moment visit cleanups ending event.Written (Some stage.Write) write

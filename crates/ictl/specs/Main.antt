@@ -8,6 +8,7 @@ use Rattle.outside.specs.declared.question.Service.TheVariants as service
 use Rattle.http_req.specs.declared.request.Request.{Request}
 use Rattle.http_resp.specs.declared.response.Response.{Response}
 use Rattle.http_resp.specs.Replies.{plain_reply}
+use Rattle.http_resp.specs.Statuses as statuses
 use Rattle.tcl_host.specs.Codes as code_of
 use Rattle.tcl_host.specs.Leaf.{Onward, goes, enters}
 use Rattle.server_host.specs.declared.edition.Edition.{Edition}
@@ -111,7 +112,7 @@ filter_end next behind Fails state = responds failed state
 abbrev pub access_end : Stretch → Access → Stretch
 access_end next Allowed = next
 access_end next Unauthorized = responds unauthorized
-access_end next Forbidden = responds (plain_reply 403)
+access_end next Forbidden = responds (plain_reply statuses.forbidden)
 access_end next Failed = responds failed
 
 -- the procedure
@@ -163,7 +164,7 @@ page_words path = codes "ns_adp_include" ∷ path ∷ []
 
 -- a page that isn't there is not found; what can't be read, or is too long, failed
 abbrev pub unentered : Answer → Response
-unentered kinds.NoPage = plain_reply 404
+unentered kinds.NoPage = plain_reply statuses.not_found
 unentered (kinds.Said text) = failed
 unentered (kinds.Failed why) = failed
 unentered (kinds.Page page) = failed
@@ -201,7 +202,7 @@ module _ (names : Names) (blueprint : Edition) (moment : Moment) where
   abbrev pub serve : Serving → Stretch
   serve (Procedure words) state account answers = main_on (calls words state account answers) procedure_end
   serve (Page path) state account answers = page_asked (page_question path) path (outset state) account answers
-  serve Nothing state account answers = responds (plain_reply 404) state account answers
+  serve Nothing state account answers = responds (plain_reply statuses.not_found) state account answers
 
   -- the filters of a stage, and then what is behind it
   abbrev pub filters_from : List Words → Stretch → Stretch

@@ -3,6 +3,7 @@ use Rattle.std.specs.Prelude.{ℕ, ◌==◌, ◌||◌, nat_lt, Bool, [], ◌∷�
 use Rattle.txt_core.specs.Names.{Bytes}
 use Rattle.http_resp.specs.declared.response.Response.{Response}
 use Rattle.http_resp.specs.Replies.{plain_reply, text_reply}
+use Rattle.http_resp.specs.Statuses as statuses
 use Rattle.tcl_host.specs.Codes.{ok, return}
 use Rattle.conn_host.specs.Conns.{output_fields}
 use Rattle.server_host.specs.Hosts.{HostState}
@@ -15,7 +16,7 @@ use Rattle.ictl.specs.declared.ending.Access.TheVariants.{Allowed, Unauthorized,
 
 -- what fails gives the plain reply of 500, whatever response was given
 abbrev pub failed : Response
-failed = plain_reply 500
+failed = plain_reply statuses.internal_server_error
 
 -- what is said of a run that was spent, and of one that was too deep
 abbrev pub budget_spent : Bytes
@@ -26,14 +27,14 @@ nesting_too_deep = codes "nesting too deep"
 
 -- the replies of these
 abbrev pub budget_reply : Response
-budget_reply = text_reply 500 budget_spent
+budget_reply = text_reply statuses.internal_server_error budget_spent
 
 abbrev pub nesting_reply : Response
-nesting_reply = text_reply 500 nesting_too_deep
+nesting_reply = text_reply statuses.internal_server_error nesting_too_deep
 
 -- The reply where the user isn't known. It has the one field that asks for credentials, and no output fields.
 abbrev pub unauthorized : Response
-unauthorized = record (plain_reply 401) { fields = (codes "WWW-Authenticate", codes "Basic realm=\"server\"") ∷ [] }
+unauthorized = record (plain_reply statuses.unauthorized) { fields = (codes "WWW-Authenticate", codes "Basic realm=\"server\"") ∷ [] }
 
 -- the response that was given; without one the request failed
 abbrev pub given_or_failed : Option Response → Response

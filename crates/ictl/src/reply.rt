@@ -6,19 +6,12 @@ ghost use Rattle.ictl.specs.Replies.{failed, budget_reply, nesting_reply, unauth
 ghost use Rattle.ictl.specs.Main.{unentered};
 
 use crate::ending::is_good;
+use http_resp::status::{INTERNAL_SERVER_ERROR, NOT_FOUND, OK, UNAUTHORIZED};
 use http_resp::{Response, plain, text_reply};
 use outside::Answer;
 use server_host::RunHost;
 use std::alloc::Global;
 use txt_core::{NoMemory, Text};
-
-const OK: u16 = 200;
-
-const UNAUTHORIZED: u16 = 401;
-
-const NOT_FOUND: u16 = 404;
-
-const INTERNAL_SERVER_ERROR: u16 = 500;
 
 /// What is said of a run that was spent.
 pub const BUDGET_SPENT: &[u8] = b"budget spent";

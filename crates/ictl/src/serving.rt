@@ -21,6 +21,7 @@ use crate::reply::{failed, given_or_failed, page_reply, procedure_reply, unautho
 use crate::task::{Move, Task};
 use crate::visit::Serving;
 use cmd_table::Steps;
+use http_resp::status::{FORBIDDEN, NOT_FOUND};
 use http_resp::{Response, plain};
 use natives::Natives;
 use outside::{Answer, Question, Service};
@@ -31,10 +32,6 @@ use tcl_eval::{Work, made_grows};
 use tcl_host::{Host, HostReply};
 use txt_core::{NoMemory, Text, Words};
 use url_tables::WordsList;
-
-const FORBIDDEN: u16 = 403;
-
-const NOT_FOUND: u16 = 404;
 
 /// The command whose words enter a page.
 const INCLUDE: &[u8] = b"ns_adp_include";

@@ -28,11 +28,15 @@ taken_by flag = if flag then 1 else 0
 abbrev pub all_digits : Bytes → Bytes
 all_digits t = leading_digits 10 (length t) t
 
--- a form with this letter, where the letter is one of the five and the width is at most 1,000
+-- how wide a form may be, in bytes
+abbrev pub most_wide : ℕ
+most_wide = 1000
+
+-- a form with this letter, where the letter is one of the five and the width isn't over the widest
 abbrev pub form_by : Bool → Bool → ℕ → Bytes → Option Form
 form_by left zeros width [] = None
 form_by left zeros width (letter ∷ t) =
-    if is_letter letter && nat_le width 1000 then Some (record { left = left; zeros = zeros; width = width; letter = letter }) else None
+    if is_letter letter && nat_le width most_wide then Some (record { left = left; zeros = zeros; width = width; letter = letter }) else None
 
 -- the form whose flags, width and letter stand at the front of a text, and how many bytes these are
 abbrev pub form_behind : Bool → Bool → Bytes → Option (Form × ℕ)

@@ -11,7 +11,7 @@ use Rattle.txt_core.specs.Limits.{is_long}
 use Rattle.txt_core.specs.ErrorTexts.{no_list}
 use Rattle.txt_core.specs.Keyed.{with_pairs}
 use Rattle.txt_core.specs.Words.{arg}
-use Rattle.nsv_bucket.specs.Replies.{Outcome, too_long, refused, bad_pairs}
+use Rattle.nsv_bucket.specs.Replies.{Outcome, over_limit, refused, bad_pairs}
 use Rattle.nsv_bucket.specs.Writes.{stored}
 
 -- `nsv_lappend ARRAY KEY VALUE VALUE*` puts the values as elements behind those of the value, or of the empty list
@@ -36,7 +36,7 @@ has_long_value _ = false
 abbrev pub paired : Arrays → Words → Array → Listing → Outcome
 paired arrays words array (bad_at place) = refused arrays (no_list place)
 paired arrays words array (elements pairs) =
-    if is_even pairs then (if has_long_value pairs then too_long arrays else (Said [], map.insert arrays (arg words 2) (with_pairs array pairs)))
+    if is_even pairs then (if has_long_value pairs then over_limit arrays else (Said [], map.insert arrays (arg words 2) (with_pairs array pairs)))
     else refused arrays (bad_pairs (arg words 3))
 
 -- `nsv_array set ARRAY LIST` writes each key of the list with the value behind it; an absent array is made, also by an empty list

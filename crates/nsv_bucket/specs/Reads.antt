@@ -8,11 +8,11 @@ use Rattle.txt_core.specs.Words.{arg}
 use Rattle.txt_core.specs.Truth.{truth_text}
 use Rattle.nsv_bucket.specs.Arrays.{Array, Arrays, array_of, value_of}
 use Rattle.nsv_bucket.specs.Listings.{names_in, pairs_in}
-use Rattle.nsv_bucket.specs.Replies.{Outcome, answered, refused, no_array, no_key}
+use Rattle.nsv_bucket.specs.Replies.{Outcome, answered, refused, no_shared_array, no_key}
 
 -- what comes of an array that has to stand
 abbrev pub at_array : Arrays → Bytes → (Array → Outcome) → Outcome
-at_array arrays name next = option_map_or next (map.get arrays name) (refused arrays (no_array name))
+at_array arrays name next = option_map_or next (map.get arrays name) (refused arrays (no_shared_array name))
 
 -- what comes of a value that has to stand; an absent array goes before an absent key
 abbrev pub at_key : Arrays → Bytes → Bytes → (Bytes → Outcome) → Outcome

@@ -21,8 +21,8 @@ abbrev pub result_of : Bytes → NsvReply
 result_of text = if is_long text then Failed texts.too_long else Said text
 
 -- the error of a text that is too long; nothing changes
-abbrev pub too_long : Arrays → Outcome
-too_long arrays = (Failed texts.too_long, arrays)
+abbrev pub over_limit : Arrays → Outcome
+over_limit arrays = (Failed texts.too_long, arrays)
 
 -- an error, which changes nothing
 abbrev pub refused : Arrays → Bytes → Outcome
@@ -33,8 +33,8 @@ abbrev pub answered : Arrays → Bytes → Outcome
 answered arrays text = (result_of text, arrays)
 
 -- no array "NAME"
-abbrev pub no_array : Bytes → Bytes
-no_array name = naming (codes "no array \"") name (codes "\"")
+abbrev pub no_shared_array : Bytes → Bytes
+no_shared_array name = naming (codes "no array \"") name (codes "\"")
 
 -- no key "KEY" in array "NAME"
 abbrev pub no_key : Bytes → Bytes → Bytes

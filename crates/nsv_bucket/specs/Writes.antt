@@ -11,12 +11,12 @@ use Rattle.txt_core.specs.Number.{number, fits}
 use Rattle.txt_core.specs.Words.{arg}
 use Rattle.nsv_bucket.specs.declared.reply.NsvReply.TheVariants.{Said}
 use Rattle.nsv_bucket.specs.Arrays.{Arrays, array_of, text_at, value_of, with_value, without_key}
-use Rattle.nsv_bucket.specs.Replies.{Outcome, too_long, refused}
+use Rattle.nsv_bucket.specs.Replies.{Outcome, over_limit, refused}
 use Rattle.nsv_bucket.specs.Reads.{at_array, at_key}
 
 -- the value is stored and answered; one that is too long is refused
 abbrev pub stored : Arrays → Bytes → Bytes → Bytes → Outcome
-stored arrays name key value = if is_long value then too_long arrays else (Said value, with_value arrays name key value)
+stored arrays name key value = if is_long value then over_limit arrays else (Said value, with_value arrays name key value)
 
 -- the value of a key with these bytes behind it is stored and answered; one that is too long is refused
 abbrev pub grown : Arrays → Bytes → Bytes → Bytes → Outcome

@@ -3,7 +3,7 @@
 ghost use Rattle.std.specs.Prelude.{◌≡◌, IfOk};
 ghost use Rattle.txt_core.specs.ErrorTexts.{too_long};
 ghost use Rattle.nsv_bucket.specs.declared.reply.NsvReply.TheVariants.{Failed};
-ghost use Rattle.nsv_bucket.specs.Replies.{refusal, result_of, no_array, no_key, bad_pairs};
+ghost use Rattle.nsv_bucket.specs.Replies.{refusal, result_of, no_shared_array, no_key, bad_pairs};
 
 use crate::reply::NsvReply;
 use std::alloc::Global;
@@ -12,7 +12,7 @@ use txt_core::{NoMemory, Text, error_text, is_too_long};
 
 /// `no array "NAME"`
 pub(crate) fn no_array(alloc: Global, name: &Text) -> Result<Text, NoMemory>
-    ensures { IfOk result (λ text. text ≡ no_array name.now) }
+    ensures { IfOk result (λ text. text ≡ no_shared_array name.now) }
 {
     naming(alloc, b"no array \"", name.bytes(), b"\"")
 }

@@ -9,6 +9,10 @@ pub record Cache : Type 0 where
   pub keys : Words
   pub hits : ℕ
 
+-- How many keys there may be at most in any cache.
+abbrev pub most_scripts : ℕ
+most_scripts = 4096
+
 -- A new cache.
 abbrev pub empty : ℕ → Cache
 empty capacity = record { capacity = capacity; keys = []; hits = 0 }

@@ -5,7 +5,7 @@ ghost use Rattle.tcl_parse.specs.Answers.{Answers};
 ghost use Rattle.tcl_parse.specs.Outcome.{done};
 ghost use Rattle.tcl_parse.specs.Reading.{reading};
 ghost use Rattle.tcl_parse.specs.View.{script_of};
-ghost use Rattle.parse_cache.specs.Caches.{empty, is_key, hit, added, used};
+ghost use Rattle.parse_cache.specs.Caches.{most_scripts, empty, is_key, hit, added, used};
 ghost use Rattle.parse_cache.specs.Readings.{as_parsed, IsReading, after};
 
 use crate::read_script::ReadScript;
@@ -49,7 +49,7 @@ impl Cache {
     /// An empty cache of this capacity, from 1 to [`MOST_SCRIPTS`]. Its only error is want of memory.
     pub fn new(alloc: Global, capacity: usize) -> Result<Cache, NoMemory>
         requires least { 1 ≤ capacity }
-        requires most { capacity ≤ 4096 }
+        requires most { capacity ≤ most_scripts }
         ensures { IfOk result (λ cache. cache ≡ empty capacity) }
     {
         let Some(capacity) = NonZeroUsize::new(capacity) else {

@@ -29,7 +29,7 @@ use Rattle.ictl.specs.declared.interp.Interp.{Interp}
 use Rattle.ictl.specs.declared.next.Next.{Next}
 use Rattle.ictl.specs.declared.next.Next.TheVariants.{Asks, Write, Ended, NoMemory}
 use Rattle.serving.specs.Connections as connections
-use Rattle.serving.specs.Connections.{asks_close, is_head_only, most_requests, is_spent, after_request}
+use Rattle.serving.specs.Connections.{asks_close, is_head_only, most_served, is_spent, after_request}
 use Rattle.serving.specs.Counting.{counted}
 use Rattle.serving.specs.declared.connection.Behind.{Behind}
 use Rattle.serving.specs.declared.connection.Behind.TheVariants.{GoesOn, Closing, Spent}
@@ -163,7 +163,7 @@ begins_went setting worker after objects listing code between request used gets 
       tells_none listing,
     )
 
-pub begins_down : (worker after : code_worker.Worker) (code between : code_connection.Connection) (serving : UnderWay) → code.requests < most_requests
+pub begins_down : (worker after : code_worker.Worker) (code between : code_connection.Connection) (serving : UnderWay) → code.requests < most_served
     → between.requests ≡ code.requests → after.task ≡ tasks.Serving (one_more between) serving
     → StepsDown (with_task worker (tasks.Between code)) after
 begins_down worker after code between serving few requests is = λ busy.
@@ -188,7 +188,7 @@ begins_stepped setting worker after objects listing code between request used re
 
 -- the worker that began it is ready
 pub begun_ready : (natives : List (List ℕ)) (now : State) (worker : code_worker.Worker) (code : code_connection.Connection) (serving : UnderWay) (begun request : Open) (made : Interp)
-    → now.natives ≡ natives → worker.keeper.interp ≡ None → worker.task ≡ tasks.Serving (one_more code) serving → code.requests < most_requests
+    → now.natives ≡ natives → worker.keeper.interp ≡ None → worker.task ≡ tasks.Serving (one_more code) serving → code.requests < most_served
     → RequestBegan natives begun.request begun.moment serving.run.next serving.run.interp made → IsOn natives now made → serving.written ≡ false → Serves natives serving request
     → IsReady natives now worker
 begun_ready natives now worker code serving begun request made same none task few started on written serves = (
@@ -497,7 +497,7 @@ pub spent_same : (requests counted bytes : ℕ) → counted ≡ min bytes last_c
 spent_same requests counted bytes is =
     let same : nat_lt connections.most_answered (min bytes last_count) ≡ nat_lt connections.most_answered bytes =
     lt_capped (nat_lt connections.most_answered bytes) connections.most_answered bytes (omega arith) refl in
-    ap (λ (b : Bool). nat_le most_requests requests || b) (ap (λ (n : ℕ). nat_lt connections.most_answered n) is ∙ same)
+    ap (λ (b : Bool). nat_le most_served requests || b) (ap (λ (n : ℕ). nat_lt connections.most_answered n) is ∙ same)
 
 same_bytes : (natives : List (List ℕ)) (code : code_connection.Connection) (c : Connection) (serving : UnderWay) (request : Open) (reply : Response)
     → ShowsConnection code c → Serves natives serving request
@@ -606,9 +606,9 @@ no_more : (enough many : Bool) → (if (enough || many) then Spent else GoesOn) 
 no_more false many e = refl
 no_more true many e = absurd (cc)
 
-goes_on : (asks : Bool) (requests bytes : ℕ) → after_request asks requests bytes ≡ GoesOn → requests < most_requests
+goes_on : (asks : Bool) (requests bytes : ℕ) → after_request asks requests bytes ≡ GoesOn → requests < most_served
 goes_on true requests bytes e = absurd (cc)
-goes_on false requests bytes e = leb-false most_requests requests (no_more (nat_le most_requests requests) (nat_lt connections.most_answered bytes) e)
+goes_on false requests bytes e = leb-false most_served requests (no_more (nat_le most_served requests) (nat_lt connections.most_answered bytes) e)
 
 shows_end : (natives : List (List ℕ)) (code : code_connection.Connection) (c : Connection) (what : Behind) → ShowsConnection code c → ShowsTask natives (end_task code what) (end_worker c what)
 shows_end natives code c Closing seen = refl
@@ -621,7 +621,7 @@ ready_end natives now code Closing asks is = tt
 ready_end natives now code Spent asks is = tt
 ready_end natives now code GoesOn asks is = goes_on asks code.requests code.answer_bytes (sym is)
 
-down_end : (code : code_connection.Connection) (what : Behind) (left steps : ℕ) → left ≡ (most_requests - code.requests) + 1 → 0 < steps
+down_end : (code : code_connection.Connection) (what : Behind) (left steps : ℕ) → left ≡ (most_served - code.requests) + 1 → 0 < steps
     → (requests_left (end_task code what) < left) ⊎ ((requests_left (end_task code what) ≡ left) × (task_steps (end_task code what) < steps))
 down_end code Closing left steps is some = inl (omega (arith, is))
 down_end code Spent left steps is some = inl (omega (arith, is))
@@ -658,8 +658,8 @@ ends_stepped setting worker after objects listing listed code serving outcome wh
     reaches = reaches_self objects.blueprint;
   },
   λ busy.
-      subst (λ (t : Task). (requests_left t < (most_requests - code.requests) + 1) ⊎ ((requests_left t ≡ (most_requests - code.requests) + 1) × (task_steps t < serving_steps serving.written (Ended outcome) serving.run.interp))) (sym task)
-      (down_end code what ((most_requests - code.requests) + 1) (serving_steps serving.written (Ended outcome) serving.run.interp) refl (some_left serving.written outcome serving.run.interp)),
+      subst (λ (t : Task). (requests_left t < (most_served - code.requests) + 1) ⊎ ((requests_left t ≡ (most_served - code.requests) + 1) × (task_steps t < serving_steps serving.written (Ended outcome) serving.run.interp))) (sym task)
+      (down_end code what ((most_served - code.requests) + 1) (serving_steps serving.written (Ended outcome) serving.run.interp) refl (some_left serving.written outcome serving.run.interp)),
 )
 
 -- the same of what it serves, where its run has ended so

@@ -24,7 +24,7 @@ use Rattle.ictl.specs.declared.next.Next.{Next}
 use Rattle.ictl.specs.declared.next.Next.TheVariants as nexts
 use Rattle.ictl.specs.Main.{Progress, Main, Define, behind}
 use Rattle.ictl.specs.Main as runs_of
-use Rattle.serving.specs.Connections.{asks_close, is_head_only, most_requests}
+use Rattle.serving.specs.Connections.{asks_close, is_head_only, most_served}
 use Rattle.rehearse.specs.declared.answer.Rehearsal.{Rehearsal}
 use Rattle.rehearse.specs.declared.answer.Rehearsal.TheVariants as answers
 use Rattle.rehearse.specs.declared.intake.Stopped.{Stopped}
@@ -243,9 +243,9 @@ most_steps = first_number + first_number + 4
 -- begin only where the connection may have one.
 abbrev pub IsTaskReady : Names → State → Task → Type 0
 IsTaskReady natives now tasks.Idle = Unit {0}
-IsTaskReady natives now (tasks.Between connection) = connection.requests < most_requests
+IsTaskReady natives now (tasks.Between connection) = connection.requests < most_served
 IsTaskReady natives now (tasks.Serving connection serving) =
-    (connection.requests ≤ most_requests) × IsUnderWay natives now serving.run.interp
+    (connection.requests ≤ most_served) × IsUnderWay natives now serving.run.interp
     × ((request : Open) × Serves natives serving request)
     × (serving_steps serving.written serving.run.next serving.run.interp ≤ most_steps)
 
@@ -257,8 +257,8 @@ IsReady natives now worker = KeepsOn natives now worker.keeper × IsTaskReady na
 -- one under way may take.
 abbrev pub requests_left : Task → ℕ
 requests_left tasks.Idle = 0
-requests_left (tasks.Between connection) = (most_requests - connection.requests) + 1
-requests_left (tasks.Serving connection serving) = (most_requests - connection.requests) + 1
+requests_left (tasks.Between connection) = (most_served - connection.requests) + 1
+requests_left (tasks.Serving connection serving) = (most_served - connection.requests) + 1
 
 -- The number that falls is that of the requests first, and then that of the steps.
 abbrev pub task_steps : Task → ℕ

@@ -2,6 +2,7 @@
 use Rattle.std.specs.Prelude.{◌≡◌, ℕ, ◌+◌, min, ◌==◌, Bool, List, [], ◌∷◌, ◌++◌, length, decimal, codes, if◌then◌else◌}
 use Rattle.txt_core.specs.Names.{Bytes, Names}
 use Rattle.outside.specs.Faults.{last_count}
+use Rattle.http_resp.specs.Statuses as statuses
 use Rattle.rehearse.specs.declared.tally.Tally.{Tally}
 use Rattle.rehearse.specs.declared.playback.Counted.{Counted}
 use Rattle.rehearse.specs.declared.playback.Counted.TheVariants as counts
@@ -21,12 +22,16 @@ capped count more = min (count + more) last_count
 abbrev pub one_if : Bool → ℕ → ℕ
 one_if test count = if test then capped count 1 else count
 
-abbrev pub with_response : Tally → ℕ → Bytes → Tally
-with_response tally status bytes = record {
-  found = one_if (status == 200) tally.found;
-  missing = one_if (status == 404) tally.missing;
-  bytes = capped tally.bytes (length bytes);
+-- a response of this status and so many bytes is counted
+abbrev pub with_count : Tally → ℕ → ℕ → Tally
+with_count tally status count = record {
+  found = one_if (status == statuses.ok) tally.found;
+  missing = one_if (status == statuses.not_found) tally.missing;
+  bytes = capped tally.bytes count;
 }
+
+abbrev pub with_response : Tally → ℕ → Bytes → Tally
+with_response tally status bytes = with_count tally status (length bytes)
 
 abbrev pub with_line : Tally → Line → Tally
 with_line tally (response number epoch status bytes) = with_response tally status bytes

@@ -1,15 +1,11 @@
 //! What is counted of a listing.
 
-ghost use Rattle.std.specs.Prelude.{◌≡◌, ◌==◌, IfOk};
-ghost use Rattle.rehearse.specs.Summary.{nothing, one_if, summary, capped};
+ghost use Rattle.std.specs.Prelude.{◌≡◌, IfOk};
+ghost use Rattle.rehearse.specs.Summary.{nothing, one_if, summary, with_count};
 
+use http_resp::status::{NOT_FOUND, OK};
 use std::alloc::Global;
 use txt_core::{NoMemory, Text};
-
-/// The statuses that are counted.
-const FOUND: u16 = 200;
-
-const MISSING: u16 = 404;
 
 /// How many responses of a listing have the status 200 and how many 404, and how many bytes all its
 /// responses have. A count stands still at 2^64 - 1.
@@ -41,15 +37,10 @@ impl Tally {
 
     /// Counts a response of this status and so many bytes.
     pub fn count(&mut self, status: u16, bytes: u64)
-        ensures { self.new
-            ≡ record {
-              found = one_if (status == 200) self.old.found;
-              missing = one_if (status == 404) self.old.missing;
-              bytes = capped self.old.bytes bytes;
-            } }
+        ensures { self.new ≡ with_count self.old status bytes }
     {
-        self.found = one_if(status == FOUND, self.found);
-        self.missing = one_if(status == MISSING, self.missing);
+        self.found = one_if(status == OK, self.found);
+        self.missing = one_if(status == NOT_FOUND, self.missing);
         self.bytes = self.bytes.saturating_add(bytes);
     }
 

@@ -9,7 +9,7 @@ use Rattle.conn_host.specs.Conns.{ConnState}
 use Rattle.conn_host.specs.Leaf.{conn_call, conn_answer}
 use Rattle.adp_host.specs.States.{PageState}
 use Rattle.adp_host.specs.Output.{put_out}
-use Rattle.adp_host.specs.Leaf.{page_call, page_answer}
+use Rattle.adp_host.specs.Leaf.{page_call, page_onward}
 use Rattle.server_host.specs.Hosts.{HostState, with_conn, with_pages}
 use Rattle.server_host.specs.Parts.{in_whole, onward_in_whole, end_in_whole}
 use Rattle.server_host.specs.Leaf.{of_conn, of_pages, or_of_pages, conn_answered, page_answered, host_text}
@@ -89,9 +89,9 @@ conn_told before now e words answer reply conn h =
     subst (λ (host : HostState). RepliesTo reply (with_conn before conn) (conn_answered words answer host)) e (lifted_goes (with_conn before) reply conn (conn_answer words answer before.conn) h)
 
 pub pages_told : (before now : HostState) → before ≡ now → (words : List (List ℕ)) (answer : Answer) (reply : HostReply) (pages : PageState)
-    → RepliesTo reply pages (page_answer words answer before.pages) → RepliesTo reply (with_pages before pages) (page_answered words answer now)
+    → RepliesTo reply pages (page_onward words answer before.pages) → RepliesTo reply (with_pages before pages) (page_answered words answer now)
 pages_told before now e words answer reply pages h =
-    subst (λ (host : HostState). RepliesTo reply (with_pages before pages) (page_answered words answer host)) e (lifted_onward (with_pages before) reply pages (page_answer words answer before.pages) h)
+    subst (λ (host : HostState). RepliesTo reply (with_pages before pages) (page_answered words answer host)) e (lifted_onward (with_pages before) reply pages (page_onward words answer before.pages) h)
 
 pub text_taken : (before now : HostState) → before ≡ now → (piece : List ℕ) (reply : HostReply) (pages : PageState) → Ends reply pages (put_out piece before.pages)
     → Ends reply (with_pages before pages) (host_text piece now)

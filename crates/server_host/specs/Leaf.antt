@@ -8,7 +8,7 @@ use Rattle.natives.specs.Words.{arg}
 use Rattle.conn_host.specs.Leaf.{conn_call, conn_answer}
 use Rattle.adp_host.specs.Output.{put_out}
 use Rattle.adp_host.specs.Leaving.{left}
-use Rattle.adp_host.specs.Leaf.{page_call, page_answer}
+use Rattle.adp_host.specs.Leaf.{page_call, page_onward}
 use Rattle.server_host.specs.Hosts.{HostState, with_conn, with_pages, cleared}
 use Rattle.server_host.specs.Parts.{in_whole, onward_in_whole, end_in_whole}
 use Rattle.tcl_host.specs.Checks.{gives, fails}
@@ -94,7 +94,7 @@ abbrev pub conn_answered : Words → Answer → HostState → Onward HostState
 conn_answered words answer host = goes (in_whole (with_conn host) (conn_answer words answer host.conn))
 
 abbrev pub page_answered : Words → Answer → HostState → Onward HostState
-page_answered words answer host = onward_in_whole (with_pages host) (page_answer words answer host.pages)
+page_answered words answer host = onward_in_whole (with_pages host) (page_onward words answer host.pages)
 
 -- `open` and `ns_adp_include` ask for pages. Of the others `nsv_names` alone asks more than one question, and gathers the answers.
 abbrev pub host_answer : Words → Answer → HostState → Onward HostState

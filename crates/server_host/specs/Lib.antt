@@ -8,5 +8,5 @@ pub mod Scheduling
 pub mod Sharing
 pub mod Leaf
 pub mod Laws
--- What the program answers, in the words of the rules.
+-- What only proofs use.
 pub mod Answers

@@ -7,11 +7,11 @@ ghost use Rattle.server_host.specs.Registering.{is_noinherit, method_place, regi
 
 use crate::checks::{require_definition_run, words_from};
 use crate::host::RunHost;
-use blueprint::{begins_with_slash, is_filter_method, is_method, stage_named};
+use blueprint::{is_filter_method, is_method, stage_named};
 use cmd_table::{Def, When};
 use std::alloc::Global;
 use tcl_host::{HostReply, Refusal, refuse, require_fit, require_words, unfit};
-use txt_core::{NoMemory, Text, Words};
+use txt_core::{NoMemory, Text, Words, begins_with_slash};
 
 /// Whether the second word is the option by which the paths below the URL aren't served.
 fn is_noinherit(words: &Words) -> bool

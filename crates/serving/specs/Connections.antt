@@ -48,8 +48,8 @@ answer_bytes NoPage = 0
 answer_bytes PageFault = 0
 
 -- how many requests a connection may have
-abbrev pub most_requests : ℕ
-most_requests = 100
+abbrev pub most_served : ℕ
+most_served = 100
 
 -- how many bytes of answers its requests may have had, and another one follow
 abbrev pub most_answered : ℕ
@@ -57,7 +57,7 @@ most_answered = 8388608
 
 -- A connection that has had so many requests, the one under way among them, and so many bytes of answers, has had all that it may.
 abbrev pub is_spent : ℕ → ℕ → Bool
-is_spent requests bytes = nat_le most_requests requests || nat_lt most_answered bytes
+is_spent requests bytes = nat_le most_served requests || nat_lt most_answered bytes
 
 -- What the response to a request says of the connection: it closes where the request asks so, and where it is spent.
 abbrev pub closes : Bool → ℕ → ℕ → Bool

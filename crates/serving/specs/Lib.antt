@@ -2,5 +2,4 @@
 pub mod Connections
 pub mod Calls
 pub mod Laws
--- What only a count is by.
 pub mod Counting

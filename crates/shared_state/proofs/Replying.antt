@@ -16,7 +16,7 @@ use Rattle.nsv_bucket.specs.Questions.{question_of}
 use Rattle.txt_core.specs.Limits.{is_long}
 use Rattle.txt_core.specs.ErrorTexts.{no_integer, no_list}
 use Rattle.txt_core.specs.Words.{arg}
-use Rattle.nsv_bucket.specs.Replies.{Outcome, too_long, refusal, result_of, refused, answered, no_array, no_key, bad_pairs}
+use Rattle.nsv_bucket.specs.Replies.{Outcome, over_limit, refusal, result_of, refused, answered, no_shared_array, no_key, bad_pairs}
 use Rattle.nsv_bucket.specs.Reads.{at_array, at_key}
 use Rattle.nsv_bucket.specs.Writes.{stored, at_number, incr_step, unset_key, unset_array, sum_of}
 use Rattle.nsv_bucket.specs.Lists.{lappended, lappend_step, paired, is_even, has_long_value, array_set_step, array_reset_step}
@@ -45,10 +45,10 @@ answered_answers : (arrays : Arrays) (text : List ℕ) → Answers (answered arr
 answered_answers arrays text = by_test (is_long text) (Failed (codes "value too long")) (Said text) refl refl
 
 stored_answers : (arrays : Arrays) (name key value : List ℕ) → Answers (stored arrays name key value)
-stored_answers arrays name key value = by_case (is_long value) (too_long arrays) _ refl refl
+stored_answers arrays name key value = by_case (is_long value) (over_limit arrays) _ refl refl
 
 at_array_answers : (arrays : Arrays) (name : List ℕ) (next : Array → Outcome) → ((a : Array) → Answers (next a)) → Answers (at_array arrays name next)
-at_array_answers arrays name next p = by_option next (map.get arrays name) (refused arrays (no_array name)) p (refused_answers arrays (no_array name))
+at_array_answers arrays name next p = by_option next (map.get arrays name) (refused arrays (no_shared_array name)) p (refused_answers arrays (no_shared_array name))
 
 at_key_answers : (arrays : Arrays) (name key : List ℕ) (next : List ℕ → Outcome) → ((v : List ℕ) → Answers (next v)) → Answers (at_key arrays name key next)
 at_key_answers arrays name key next p =
@@ -71,7 +71,7 @@ lappended_answers arrays words (elements standing) = stored_answers arrays _ _ _
 paired_answers : (arrays : Arrays) (words : List (List ℕ)) (array : Array) (l : Listing) → Answers (paired arrays words array l)
 paired_answers arrays words array (bad_at place) = refused_answers arrays (no_list place)
 paired_answers arrays words array (elements pairs) =
-    by_case (is_even pairs) _ _ (by_case (has_long_value pairs) (too_long arrays) _ refl refl) (refused_answers arrays (bad_pairs (arg words 3)))
+    by_case (is_even pairs) _ _ (by_case (has_long_value pairs) (over_limit arrays) _ refl refl) (refused_answers arrays (bad_pairs (arg words 3)))
 
 question_answers : (q : ArrayQuestion) (arrays : Arrays) (words : List (List ℕ)) → Answers (question_step q arrays words)
 question_answers Set arrays words = stored_answers arrays _ _ _

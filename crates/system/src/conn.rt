@@ -19,7 +19,7 @@ use std::time::{Duration, Instant};
 const ROUND: u64 = 100;
 
 /// Rounds in which a peer takes nothing of a reply after which the write fails: 30 seconds.
-const STALLED_ROUNDS: u32 = 300;
+const UNTAKEN_ROUNDS: u32 = 300;
 
 /// How many bytes one read takes away at a close.
 const PIECE: usize = 16_384;
@@ -333,7 +333,7 @@ impl<R: std::rt::Clock> TcpSink<R> {
                 Err(Missed::Over) => {
                     self.reply.note_pause();
                     stalled = stalled.saturating_add(1);
-                    if STALLED_ROUNDS <= stalled {
+                    if UNTAKEN_ROUNDS <= stalled {
                         return None;
                     }
                 }

@@ -25,7 +25,7 @@ use Rattle.tcl_eval.specs.State.{State, LeafTable, Leaf, says, wants, defines, s
 use Rattle.tcl_eval.specs.Messages.{unknown_command, no_command, command_exists}
 use Rattle.tcl_eval.specs.Parameters.{Values, bound}
 use Rattle.cmd_table.specs.declared.definition.Def.{Def}
-use Rattle.tcl_eval.specs.Eval.{Inner, unread, ended, error_of, give, fails, make, define, is_for_host, command_cost, answer_cost, arg, built, with_host, with_frames, proc_end, command_end, write_all, call_bound, call_proc, leaf, onward, run_command, act, command, run_commands, run_reading, run_script, nested, came_next, wrong_words, renamed_as, do_rename, catch_end, do_catch}
+use Rattle.tcl_eval.specs.Eval.{Inner, unread, ended, error_of, give, fails, make, define, is_for_host, command_cost, answer_cost, arg, built, with_host, with_frames, proc_end, command_end, write_all, call_bound, call_proc, leaf, onward, run_command, act, command, run_commands, run_reading, run_script, nested, came_next, wrong_words_end, renamed_as, do_rename, catch_end, do_catch}
 use Rattle.tcl_eval.specs.Places.{tree_of}
 use Rattle.tcl_eval.specs.Stack.{stack_next}
 use Rattle.tcl_eval.specs.Engine.{IsNoPage, Enters, PaidFor, Moves, Fell, FellTo, FellFrom, credit, IfRan, state_of, words_of, levels_of, open_words, comes_to, with_more}
@@ -193,7 +193,7 @@ module _ {H : Type 0} where
   rename_to : (words : List (List ℕ)) (old new : List ℕ) (answer : Renamed) (k : Next H) (s : State H) (b : ℕ) (g : Given) → length words ≡ 3 → old ≡ arg words 1 → new ≡ arg words 2 → answer ≡ rename_answer s.commands old new → renamed_as answer words k s b g ≡ do_rename words k s b g
   rename_to words old new answer k s b g three olds news is =
       ap (λ (a : Renamed). renamed_as a words k s b g) (is ∙ ap (λ (x : List ℕ). rename_answer s.commands x new) olds ∙ ap (λ (x : List ℕ). rename_answer s.commands (arg words 1) x) news)
-      ∙ sym (ap (λ (n : ℕ). (if n == 3 then (λ state. renamed_as (rename_answer state.commands (arg words 1) (arg words 2)) words k state) else give (wrong_words words) k) s b g) three)
+      ∙ sym (ap (λ (n : ℕ). (if n == 3 then (λ state. renamed_as (rename_answer state.commands (arg words 1) (arg words 2)) words k state) else give (wrong_words_end words) k) s b g) three)
 
   pub rename_without_old : (words : List (List ℕ)) (old new bytes message : List ℕ) (value : Ended) (commands : Table) (k : Next H) (s : State H) (b : ℕ) (g : Given) → length words ≡ 3 → old ≡ arg words 1 → new ≡ arg words 2 → NoOld ≡ rename_answer s.commands old new → commands ≡ renamed s.commands old new → bytes ≡ old → message ≡ no_command bytes → value ≡ error_of message → give value k (record s { commands = commands }) b g ≡ do_rename words k s b g
   rename_without_old words old new bytes message value commands k s b g three olds news answer same named text is =
@@ -210,12 +210,12 @@ module _ {H : Type 0} where
   -- a `catch` with no variable, and with one
   pub catch_two : (inner : Inner H) (words : List (List ℕ)) (k : Next H) (s : State H) (b : ℕ) (g : Given) (x : Out H) → length words ≡ 2 → x ≡ inner.run (unread (arg words 1)) (catch_end None k) s b g → x ≡ do_catch inner words k s b g
   catch_two inner words k s b g x two e =
-      e ∙ sym (ap (λ (n : ℕ). (if n == 2 then inner.run (unread (arg words 1)) (catch_end None k) else if n == 3 then inner.run (unread (arg words 1)) (catch_end (Some (arg words 2)) k) else give (wrong_words words) k) s b g) two)
+      e ∙ sym (ap (λ (n : ℕ). (if n == 2 then inner.run (unread (arg words 1)) (catch_end None k) else if n == 3 then inner.run (unread (arg words 1)) (catch_end (Some (arg words 2)) k) else give (wrong_words_end words) k) s b g) two)
 
   pub catch_three : (inner : Inner H) (words : List (List ℕ)) (name : List ℕ) (k : Next H) (s : State H) (b : ℕ) (g : Given) (x : Out H) → length words ≡ 3 → name ≡ arg words 2 → x ≡ inner.run (unread (arg words 1)) (catch_end (Some name) k) s b g → x ≡ do_catch inner words k s b g
   catch_three inner words name k s b g x three named e =
       e ∙ ap (λ (n : List ℕ). inner.run (unread (arg words 1)) (catch_end (Some n) k) s b g) named
-      ∙ sym (ap (λ (n : ℕ). (if n == 2 then inner.run (unread (arg words 1)) (catch_end None k) else if n == 3 then inner.run (unread (arg words 1)) (catch_end (Some (arg words 2)) k) else give (wrong_words words) k) s b g) three)
+      ∙ sym (ap (λ (n : ℕ). (if n == 2 then inner.run (unread (arg words 1)) (catch_end None k) else if n == 3 then inner.run (unread (arg words 1)) (catch_end (Some (arg words 2)) k) else give (wrong_words_end words) k) s b g) three)
 
   -- a definition that isn't the host's to make
   pub undefined_step : (def : Def) (words : List (List ℕ)) (first message : List ℕ) (value : Ended) (k : Next H) (s : State H) (b : ℕ) (g : Given) → is_for_host def ≡ false → first ≡ arg words 0 → message ≡ unknown_command first → value ≡ error_of message → give value k s b g ≡ define def words k s b g

@@ -46,7 +46,7 @@ use Rattle.tcl_eval.specs.Natives.{is_in_range, replied, call_native}
 use Rattle.tcl_eval.specs.State.{State, Leaf, says, wants, defines, stores, not_mine, Onward, goes, enters, TextEnd, LeafTable, Given, Out, spent, Rest, Next}
 use Rattle.tcl_eval.specs.Messages.{script_fault, variable_fault, too_long, no_boolean, bad_expression, no_list, bad_value, unknown_command, no_command, command_exists}
 use Rattle.tcl_eval.specs.Costs.{result_cost, command_cost, answer_cost}
-use Rattle.tcl_eval.specs.Results.{most_bytes, error_of, wrong_words, element_name, read_as, stored, stored_of, return_of, raised_of, break_of, continue_of}
+use Rattle.tcl_eval.specs.Results.{most_bytes, error_of, wrong_words_end, element_name, read_as, stored, stored_of, return_of, raised_of, break_of, continue_of}
 use Rattle.tcl_eval.specs.Parameters.{Values, parameters, bound}
 use Rattle.tcl_eval.specs.Words.{arg, joined}
 use Rattle.tcl_eval.specs.Going.{Source, unread, read, Inner, on_ok, pay, give, fails, limited, charged, command_end, word_end, with_host, with_frames, with_made, with_def, read_variable, write_variable, proc_end, write_all, decided, by_truth}
@@ -141,7 +141,7 @@ module _ {H : Type 0} where
 
   do_proc_alike : (words : List (List ℕ)) (m : ℕ) (k k' : Next H) → After m k k' → Alike m (do_proc words k) (do_proc words k')
   do_proc_alike words m k k' h =
-      choice (length words == 4) m _ _ _ _ (define_proc_alike (parameters (arg words 2)) words m k k' h) (give_alike (wrong_words words) m k k' h)
+      choice (length words == 4) m _ _ _ _ (define_proc_alike (parameters (arg words 2)) words m k k' h) (give_alike (wrong_words_end words) m k k' h)
 
   renamed_as_alike : (renamed : Renamed) (words : List (List ℕ)) (m : ℕ) (k k' : Next H) → After m k k' → Alike m (renamed_as renamed words k) (renamed_as renamed words k')
   renamed_as_alike Renamed_done words m k k' h = λ s b g le. h 0 [] (with_def s (rename_of words)) b g le
@@ -152,7 +152,7 @@ module _ {H : Type 0} where
   do_rename_alike words m k k' h =
       choice (length words == 3) m _ _ _ _
       (λ s b g le. renamed_as_alike (rename_answer s.commands (arg words 1) (arg words 2)) words m k k' h s b g le)
-      (give_alike (wrong_words words) m k k' h)
+      (give_alike (wrong_words_end words) m k k' h)
 
   came_next_alike : (came : Came) (m : ℕ) (k k' : Next H) → After m k k' → Alike m (came_next came k) (came_next came k')
   came_next_alike (gives_text result frames) m k k' h = λ s b g le. h 0 result (with_frames s frames) b g le
@@ -167,7 +167,7 @@ module _ {H : Type 0} where
 
   call_native_alike : (words : List (List ℕ)) (m : ℕ) (k k' : Next H) → After m k k' → Alike m (call_native words k) (call_native words k')
   call_native_alike words m k k' h =
-      choice (is_in_range (arg words 0) words) m _ _ _ _ (replied_alike (pure_of (arg words 0) words) m k k' h) (give_alike (wrong_words words) m k k' h)
+      choice (is_in_range (arg words 0) words) m _ _ _ _ (replied_alike (pure_of (arg words 0) words) m k k' h) (give_alike (wrong_words_end words) m k k' h)
 
   catch_end_after : (name : Option (List ℕ)) (m : ℕ) (k k' : Next H) → After m k k' → After m (catch_end name k) (catch_end name k')
   catch_end_after None m k k' h code result = h 0 (decimal code)
@@ -243,7 +243,7 @@ module _ {H : Type 0} (inner : Inner H) (run : Runs inner) where
 
   do_expr_alike : (words : List (List ℕ)) (m : ℕ) (k k' : Next H) → After m k k' → Alike m (do_expr inner words k) (do_expr inner words k')
   do_expr_alike words m k k' h =
-      choice (nat_lt (length words) 2) m _ _ _ _ (give_alike (wrong_words words) m k k' h)
+      choice (nat_lt (length words) 2) m _ _ _ _ (give_alike (wrong_words_end words) m k k' h)
       (evaluate_alike (joined (drop 1 words)) m (value_end k) (value_end k') (on_ok_after (λ v. k 0 (value_of v)) (λ v. k' 0 (value_of v)) m k k' (λ v. h 0 (value_of v)) h))
 
   -- ---- choices and loops
@@ -259,7 +259,7 @@ module _ {H : Type 0} (inner : Inner H) (run : Runs inner) where
       (run (unread clause.1) m k k' h) (choose_alike clauses last m k k' h) h
 
   choose_of_alike : (found : Option Branches) (words : List (List ℕ)) (m : ℕ) (k k' : Next H) → After m k k' → Alike m (choose_of inner found words k) (choose_of inner found words k')
-  choose_of_alike None words m k k' h = give_alike (wrong_words words) m k k' h
+  choose_of_alike None words m k k' h = give_alike (wrong_words_end words) m k k' h
   choose_of_alike (Some found) words m k k' h = choose_alike found.clauses found.last m k k' h
 
   between_alike : (next : Option (List ℕ)) (go go' : Rest H) (m : ℕ) (k k' : Next H) → Alike m go go' → After m k k' → Alike m (between inner next go k) (between inner next go' k')
@@ -284,7 +284,7 @@ module _ {H : Type 0} (inner : Inner H) (run : Runs inner) where
 
   do_while_alike : (words : List (List ℕ)) (m : ℕ) (k k' : Next H) → After m k k' → Alike m (do_while inner words k) (do_while inner words k')
   do_while_alike words m k k' h =
-      choice (length words == 3) m _ _ _ _ (turn_on_alike (record { condition = arg words 1; next = None; body = arg words 2 }) m k k' h) (give_alike (wrong_words words) m k k' h)
+      choice (length words == 3) m _ _ _ _ (turn_on_alike (record { condition = arg words 1; next = None; body = arg words 2 }) m k k' h) (give_alike (wrong_words_end words) m k k' h)
 
   do_for_alike : (words : List (List ℕ)) (m : ℕ) (k k' : Next H) → After m k k' → Alike m (do_for inner words k) (do_for inner words k')
   do_for_alike words m k k' h =
@@ -292,7 +292,7 @@ module _ {H : Type 0} (inner : Inner H) (run : Runs inner) where
       choice (length words == 5) m _ _ _ _
       (run (unread (arg words 1)) m (on_ok (λ v. turn_on inner turning k) k) (on_ok (λ v. turn_on inner turning k') k')
       (on_ok_after (λ v. turn_on inner turning k) (λ v. turn_on inner turning k') m k k' (λ v. turn_on_alike turning m k k' h) h))
-      (give_alike (wrong_words words) m k k' h)
+      (give_alike (wrong_words_end words) m k k' h)
 
   walk_on_alike : (names : List (List ℕ)) (body : List ℕ) (n : ℕ) (values : List (List ℕ)) (m : ℕ) (k k' : Next H) → After m k k' → Alike m (walk_on inner names body n values k) (walk_on inner names body n values k')
   walk_on_alike names body zero values m k k' h = h 0 []
@@ -315,7 +315,7 @@ module _ {H : Type 0} (inner : Inner H) (run : Runs inner) where
 
   do_foreach_alike : (words : List (List ℕ)) (m : ℕ) (k k' : Next H) → After m k k' → Alike m (do_foreach inner words k) (do_foreach inner words k')
   do_foreach_alike words m k k' h =
-      choice (length words == 4) m _ _ _ _ (over_names_alike (lists.listing (arg words 1)) words m k k' h) (give_alike (wrong_words words) m k k' h)
+      choice (length words == 4) m _ _ _ _ (over_names_alike (lists.listing (arg words 1)) words m k k' h) (give_alike (wrong_words_end words) m k k' h)
 
   -- ---- switch
 
@@ -334,14 +334,14 @@ module _ {H : Type 0} (inner : Inner H) (run : Runs inner) where
       choice (length pairs % 2 == 0) m _ _ _ _ (by_pairs_alike globs bytes pairs m k k' h) (fails_alike (bad_value list (codes "switch")) m k k' h)
 
   by_words_alike : (globs : Bool) (bytes : List ℕ) (behind words : List (List ℕ)) (m : ℕ) (k k' : Next H) → After m k k' → Alike m (by_words inner globs bytes behind words k) (by_words inner globs bytes behind words k')
-  by_words_alike globs bytes [] words m k k' h = give_alike (wrong_words words) m k k' h
+  by_words_alike globs bytes [] words m k k' h = give_alike (wrong_words_end words) m k k' h
   by_words_alike globs bytes (list ∷ []) words m k k' h = by_listing_alike globs bytes list (lists.listing list) m k k' h
   by_words_alike globs bytes (pattern ∷ body ∷ pairs) words m k k' h =
-      choice (length pairs % 2 == 0) m _ _ _ _ (by_pairs_alike globs bytes (pattern ∷ body ∷ pairs) m k k' h) (give_alike (wrong_words words) m k k' h)
+      choice (length pairs % 2 == 0) m _ _ _ _ (by_pairs_alike globs bytes (pattern ∷ body ∷ pairs) m k k' h) (give_alike (wrong_words_end words) m k k' h)
 
   by_options_alike : (found : Result (Bool × List (List ℕ)) (List ℕ)) (words : List (List ℕ)) (m : ℕ) (k k' : Next H) → After m k k' → Alike m (by_options inner found words k) (by_options inner found words k')
   by_options_alike (Err bytes) words m k k' h = fails_alike (bad_value bytes (codes "switch")) m k k' h
-  by_options_alike (Ok (globs, [])) words m k k' h = give_alike (wrong_words words) m k k' h
+  by_options_alike (Ok (globs, [])) words m k k' h = give_alike (wrong_words_end words) m k k' h
   by_options_alike (Ok (globs, bytes ∷ behind)) words m k k' h = by_words_alike globs bytes behind words m k k' h
 
   -- ---- procedures, `eval`, `catch`
@@ -355,14 +355,14 @@ module _ {H : Type 0} (inner : Inner H) (run : Runs inner) where
 
   do_eval_alike : (words : List (List ℕ)) (m : ℕ) (k k' : Next H) → After m k k' → Alike m (do_eval inner words k) (do_eval inner words k')
   do_eval_alike words m k k' h =
-      choice (nat_lt (length words) 2) m _ _ _ _ (give_alike (wrong_words words) m k k' h) (run (unread (joined (drop 1 words))) m k k' h)
+      choice (nat_lt (length words) 2) m _ _ _ _ (give_alike (wrong_words_end words) m k k' h) (run (unread (joined (drop 1 words))) m k k' h)
 
   do_catch_alike : (words : List (List ℕ)) (m : ℕ) (k k' : Next H) → After m k k' → Alike m (do_catch inner words k) (do_catch inner words k')
   do_catch_alike words m k k' h =
       choice (length words == 2) m _ _ _ _ (run (unread (arg words 1)) m (catch_end None k) (catch_end None k') (catch_end_after None m k k' h))
       (choice (length words == 3) m _ _ _ _
       (run (unread (arg words 1)) m (catch_end (Some (arg words 2)) k) (catch_end (Some (arg words 2)) k') (catch_end_after (Some (arg words 2)) m k k' h))
-      (give_alike (wrong_words words) m k k' h))
+      (give_alike (wrong_words_end words) m k k' h))
 
 module _ {H : Type 0} (t : LeafTable H) (inner : Inner H) (run : Runs inner) where
   -- ---- pages

@@ -29,7 +29,7 @@ use Rattle.tcl_expr.specs.Reading.{expression_is, expression_of}
 use Rattle.tcl_expr.specs.Trees.{Tree}
 use Rattle.tcl_eval.specs.State.{spent}
 use Rattle.tcl_eval.specs.AtOnce.{at_once}
-use Rattle.tcl_eval.specs.Eval.{command_cost, command_end, joined, wrong_words}
+use Rattle.tcl_eval.specs.Eval.{command_cost, command_end, joined, wrong_words_end}
 use Rattle.tcl_eval.specs.Expressions.{evaluate, run_answer, value_end, whole_value}
 use Rattle.tcl_eval.specs.declared.verb.Verb.{Verb}
 use Rattle.tcl_eval.specs.declared.verb.Verb.TheVariants.{Expr}
@@ -138,7 +138,7 @@ module _ {H : Type 0} (ns : Names) (t : LeafTable H) where
       e
       ∙ ap (λ (n : ℕ). run_answer inner text (expression_of text) (value_end after) s n g) left
       ∙ sym (ap (λ (c : Bool). cond c (spent s) (run_answer inner text (expression_of text) (value_end after) s (less - 1) g)) (le-ltb less 1 one))
-      ∙ sym (ap (λ (c : Bool). (cond c (give (wrong_words words) after) (evaluate inner text (value_end after))) s less g) (le-ltb (length words) 2 enough))
+      ∙ sym (ap (λ (c : Bool). (cond c (give (wrong_words_end words) after) (evaluate inner text (value_end after))) s less g) (le-ltb (length words) 2 enough))
       ∙ sym (ap (λ (v : Verb). built_in ns t inner v words after s less g) is)
       ∙ own_act ns t inner words after s less g (built_in ns t inner (verb_of (arg words 0)) words after s less g) own (end_built ns t inner words after s less g (built_in ns t inner (verb_of (arg words 0)) words after s less g) miss none refl)
       ∙ sym (ap (λ (c : Bool). cond c (spent s) (act ns t inner words after s less g)) (le-ltb b (command_cost words) pays))

@@ -59,7 +59,7 @@ use Rattle.tcl_eval.specs.Natives.{is_in_range, replied, call_native}
 use Rattle.tcl_eval.specs.State.{State, TextEnd, LeafTable, Given, Out, done, spent, too_deep, Rest, Next}
 use Rattle.tcl_eval.specs.Messages.{script_fault, too_long, no_boolean, bad_expression, no_list, bad_value, unknown_command, variable_fault, no_command, command_exists}
 use Rattle.tcl_eval.specs.Costs.{result_cost}
-use Rattle.tcl_eval.specs.Results.{most_bytes, most_levels, error_of, wrong_words, element_name, returned, read_as, stored, stored_of, return_of, raised_of, break_of, continue_of}
+use Rattle.tcl_eval.specs.Results.{most_bytes, most_levels, error_of, wrong_words_end, element_name, returned, read_as, stored, stored_of, return_of, raised_of, break_of, continue_of}
 use Rattle.tcl_eval.specs.Parameters.{Values, parameters, bound}
 use Rattle.tcl_eval.specs.Words.{arg, joined}
 use Rattle.tcl_eval.specs.Going.{Source, unread, read, Inner, on_ok, pay, give, fails, limited, charged, command_end, word_end, with_host, with_frames, with_made, with_def, read_variable, write_variable, proc_end, write_all, decided, by_truth}
@@ -212,7 +212,7 @@ module _ {H : Type 0} (P Q : State H → ℕ → Given → Out H → Type 0) (Sh
 
   do_proc_good : (words : List (List ℕ)) → AllByRecursion Short (drop 1 words) → (k : Next H) → GoodNext k → Good (do_proc words k)
   do_proc_good words short k h =
-      tests (length words == 4) _ _ (λ four. define_proc_good (parameters (arg words 2)) words refl short four k h) (λ e. give_good (wrong_words words) k h)
+      tests (length words == 4) _ _ (λ four. define_proc_good (parameters (arg words 2)) words refl short four k h) (λ e. give_good (wrong_words_end words) k h)
 
   renamed_as_good : (renamed : Renamed) (words : List (List ℕ)) → AllByRecursion Short (drop 1 words) → (length words == 3) ≡ true → (k : Next H) → GoodNext k → Good (renamed_as renamed words k)
   renamed_as_good Renamed_done words short three k h = λ s b g. c.renames s words b g (k 0 [] (with_def s (rename_of words)) b g) short three (h 0 [] (with_def s (rename_of words)) b g)
@@ -223,7 +223,7 @@ module _ {H : Type 0} (P Q : State H → ℕ → Given → Out H → Type 0) (Sh
   do_rename_good words short k h =
       tests (length words == 3) _ _
       (λ three s b g. renamed_as_good (rename_answer s.commands (arg words 1) (arg words 2)) words short three k h s b g)
-      (λ e. give_good (wrong_words words) k h)
+      (λ e. give_good (wrong_words_end words) k h)
 
   came_next_good : (came : Came) (k : Next H) → GoodNext k → Good (came_next came k)
   came_next_good (gives_text result frames) k h = λ s b g. at_frames (k 0 result) (h 0 result) s frames b g
@@ -238,7 +238,7 @@ module _ {H : Type 0} (P Q : State H → ℕ → Given → Out H → Type 0) (Sh
 
   call_native_good : (words : List (List ℕ)) (k : Next H) → GoodNext k → Good (call_native words k)
   call_native_good words k h =
-      choice (is_in_range (arg words 0) words) _ _ (replied_good (pure_of (arg words 0) words) k h) (give_good (wrong_words words) k h)
+      choice (is_in_range (arg words 0) words) _ _ (replied_good (pure_of (arg words 0) words) k h) (give_good (wrong_words_end words) k h)
 
   catch_end_good : (name : Option (List ℕ)) (k : Next H) → GoodNext k → GoodNext (catch_end name k)
   catch_end_good None k h code result = h 0 (decimal code)
@@ -311,7 +311,7 @@ module _ {H : Type 0} (P Q : State H → ℕ → Given → Out H → Type 0) (Sh
 
   do_expr_good : (inner : Inner H) → Runs inner → (words : List (List ℕ)) (k : Next H) → GoodNext k → Good (do_expr inner words k)
   do_expr_good inner run words k h =
-      choice (nat_lt (length words) 2) _ _ (give_good (wrong_words words) k h)
+      choice (nat_lt (length words) 2) _ _ (give_good (wrong_words_end words) k h)
       (evaluate_good inner run (joined (drop 1 words)) (value_end k) (on_ok_good (λ v. k 0 (value_of v)) k (λ v. h 0 (value_of v)) h))
 
   -- ---- choices and loops
@@ -327,7 +327,7 @@ module _ {H : Type 0} (P Q : State H → ℕ → Given → Out H → Type 0) (Sh
       (run (unread clause.1) k h) (choose_good inner run clauses last k h) h
 
   choose_of_good : (inner : Inner H) → Runs inner → (found : Option Branches) (words : List (List ℕ)) (k : Next H) → GoodNext k → Good (choose_of inner found words k)
-  choose_of_good inner run None words k h = give_good (wrong_words words) k h
+  choose_of_good inner run None words k h = give_good (wrong_words_end words) k h
   choose_of_good inner run (Some found) words k h = choose_good inner run found.clauses found.last k h
 
   between_good : (inner : Inner H) → Runs inner → (next : Option (List ℕ)) (go : Rest H) (k : Next H) → Good go → GoodNext k → Good (between inner next go k)
@@ -351,7 +351,7 @@ module _ {H : Type 0} (P Q : State H → ℕ → Given → Out H → Type 0) (Sh
 
   do_while_good : (inner : Inner H) → Runs inner → (words : List (List ℕ)) (k : Next H) → GoodNext k → Good (do_while inner words k)
   do_while_good inner run words k h =
-      choice (length words == 3) _ _ (turn_on_good inner run (record { condition = arg words 1; next = None; body = arg words 2 }) k h) (give_good (wrong_words words) k h)
+      choice (length words == 3) _ _ (turn_on_good inner run (record { condition = arg words 1; next = None; body = arg words 2 }) k h) (give_good (wrong_words_end words) k h)
 
   do_for_good : (inner : Inner H) → Runs inner → (words : List (List ℕ)) (k : Next H) → GoodNext k → Good (do_for inner words k)
   do_for_good inner run words k h =
@@ -359,7 +359,7 @@ module _ {H : Type 0} (P Q : State H → ℕ → Given → Out H → Type 0) (Sh
       choice (length words == 5) _ _
       (run (unread (arg words 1)) (on_ok (λ v. turn_on inner turning k) k)
       (on_ok_good (λ v. turn_on inner turning k) k (λ v. turn_on_good inner run turning k h) h))
-      (give_good (wrong_words words) k h)
+      (give_good (wrong_words_end words) k h)
 
   walk_on_good : (inner : Inner H) → Runs inner → (names : List (List ℕ)) (body : List ℕ) (n : ℕ) (values : List (List ℕ)) (k : Next H) → GoodNext k → Good (walk_on inner names body n values k)
   walk_on_good inner run names body zero values k h = h 0 []
@@ -382,7 +382,7 @@ module _ {H : Type 0} (P Q : State H → ℕ → Given → Out H → Type 0) (Sh
 
   do_foreach_good : (inner : Inner H) → Runs inner → (words : List (List ℕ)) (k : Next H) → GoodNext k → Good (do_foreach inner words k)
   do_foreach_good inner run words k h =
-      choice (length words == 4) _ _ (over_names_good inner run (lists.listing (arg words 1)) words k h) (give_good (wrong_words words) k h)
+      choice (length words == 4) _ _ (over_names_good inner run (lists.listing (arg words 1)) words k h) (give_good (wrong_words_end words) k h)
 
   -- ---- switch
 
@@ -401,14 +401,14 @@ module _ {H : Type 0} (P Q : State H → ℕ → Given → Out H → Type 0) (Sh
       choice (length pairs % 2 == 0) _ _ (by_pairs_good inner run globs bytes pairs k h) (fails_good (bad_value list (codes "switch")) k h)
 
   by_words_good : (inner : Inner H) → Runs inner → (globs : Bool) (bytes : List ℕ) (behind words : List (List ℕ)) (k : Next H) → GoodNext k → Good (by_words inner globs bytes behind words k)
-  by_words_good inner run globs bytes [] words k h = give_good (wrong_words words) k h
+  by_words_good inner run globs bytes [] words k h = give_good (wrong_words_end words) k h
   by_words_good inner run globs bytes (list ∷ []) words k h = by_listing_good inner run globs bytes list (lists.listing list) k h
   by_words_good inner run globs bytes (pattern ∷ body ∷ pairs) words k h =
-      choice (length pairs % 2 == 0) _ _ (by_pairs_good inner run globs bytes (pattern ∷ body ∷ pairs) k h) (give_good (wrong_words words) k h)
+      choice (length pairs % 2 == 0) _ _ (by_pairs_good inner run globs bytes (pattern ∷ body ∷ pairs) k h) (give_good (wrong_words_end words) k h)
 
   by_options_good : (inner : Inner H) → Runs inner → (found : Result (Bool × List (List ℕ)) (List ℕ)) (words : List (List ℕ)) (k : Next H) → GoodNext k → Good (by_options inner found words k)
   by_options_good inner run (Err bytes) words k h = fails_good (bad_value bytes (codes "switch")) k h
-  by_options_good inner run (Ok (globs, [])) words k h = give_good (wrong_words words) k h
+  by_options_good inner run (Ok (globs, [])) words k h = give_good (wrong_words_end words) k h
   by_options_good inner run (Ok (globs, bytes ∷ behind)) words k h = by_words_good inner run globs bytes behind words k h
 
   -- ---- procedures, `eval`, `catch`
@@ -423,14 +423,14 @@ module _ {H : Type 0} (P Q : State H → ℕ → Given → Out H → Type 0) (Sh
 
   do_eval_good : (inner : Inner H) → Runs inner → (words : List (List ℕ)) (k : Next H) → GoodNext k → Good (do_eval inner words k)
   do_eval_good inner run words k h =
-      choice (nat_lt (length words) 2) _ _ (give_good (wrong_words words) k h) (run (unread (joined (drop 1 words))) k h)
+      choice (nat_lt (length words) 2) _ _ (give_good (wrong_words_end words) k h) (run (unread (joined (drop 1 words))) k h)
 
   do_catch_good : (inner : Inner H) → Runs inner → (words : List (List ℕ)) (k : Next H) → GoodNext k → Good (do_catch inner words k)
   do_catch_good inner run words k h =
       choice (length words == 2) _ _ (run (unread (arg words 1)) (catch_end None k) (catch_end_good None k h))
       (choice (length words == 3) _ _
       (run (unread (arg words 1)) (catch_end (Some (arg words 2)) k) (catch_end_good (Some (arg words 2)) k h))
-      (give_good (wrong_words words) k h))
+      (give_good (wrong_words_end words) k h))
 
   -- ---- pages
 

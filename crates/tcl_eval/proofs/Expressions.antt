@@ -19,7 +19,7 @@ use Rattle.tcl_eval.specs.Messages.{bad_expression}
 use Rattle.tcl_eval.specs.Eval.{Inner, ended, error_of, give, on_ok, by_truth, nested, run_parts}
 use Rattle.tcl_eval.specs.Expressions.{run_expression, run_answer, evaluate, value_end, do_expr, way_of, behind_left}
 use Rattle.tcl_eval.specs.Words.{joined}
-use Rattle.tcl_eval.specs.Results.{wrong_words}
+use Rattle.tcl_eval.specs.Results.{wrong_words_end}
 use Rattle.tcl_eval.specs.Going.{decided}
 use Rattle.tcl_eval.specs.Engine.{state_of}
 use Rattle.tcl_eval.specs.declared.engine.Engine.{Engine}
@@ -97,7 +97,7 @@ module _ {H : Type 0} (ns : Names) (t : LeafTable H) where
       let k = stack_next ns t fs in
       e ∙ ap (λ (y : Next H). evaluate inner text y s b g) (pushed ns t fs fs1 Value push)
       ∙ ap (λ (y : List ℕ). evaluate inner y (value_end k) s b g) (is ∙ ap joined same)
-      ∙ sym (ap (λ (c : Bool). (cond c (give (wrong_words words) k) (evaluate inner (joined (drop 1 words)) (value_end k))) s b g) (le-ltb (length words) 2 enough))
+      ∙ sym (ap (λ (c : Bool). (cond c (give (wrong_words_end words) k) (evaluate inner (joined (drop 1 words)) (value_end k))) s b g) (le-ltb (length words) 2 enough))
 
 module _ {H : Type 0} where
   -- a word of an expression begins

@@ -8,7 +8,7 @@ use Rattle.txt_core.specs.Lists.{Listing, elements, bad_at}
 use Rattle.txt_core.specs.Listing.{listing}
 use Rattle.tcl_eval.specs.State.{State, LeafTable, Given, Out, Rest, Next, spent}
 use Rattle.tcl_eval.specs.Parameters.{Values}
-use Rattle.tcl_eval.specs.Eval.{Inner, unread, nested, on_ok, by_truth, give, write_all, wrong_words, arg, fails}
+use Rattle.tcl_eval.specs.Eval.{Inner, unread, nested, on_ok, by_truth, give, write_all, wrong_words_end, arg, fails}
 use Rattle.tcl_eval.specs.Expressions.{evaluate}
 use Rattle.tcl_eval.specs.Messages.{no_list}
 use Rattle.tcl_eval.specs.Loops.{assigned, in_loop, between, turns, turn_body, turn_on, do_while, do_for, walk_on, walk_all, over_values, over_names, do_foreach}
@@ -78,7 +78,7 @@ module _ {H : Type 0} (ns : Names) (t : LeafTable H) where
       e
       ∙ ap (λ (v : List ℕ). turn_on inner (record { condition = v; next = None; body = body }) k s b g) first
       ∙ ap (λ (v : List ℕ). turn_on inner (record { condition = arg words 1; next = None; body = v }) k s b g) second
-      ∙ sym (ap (λ (c : Bool). (cond c (turn_on inner all k) (give (wrong_words words) k)) s b g) (eq-eqb (length words) 3 three))
+      ∙ sym (ap (λ (c : Bool). (cond c (turn_on inner all k) (give (wrong_words_end words) k)) s b g) (eq-eqb (length words) 3 three))
 
   pub for_step : (fs fs1 : List Frame) (words : List (List ℕ)) (shared : _) (levels : ℕ) (start condition next body : List ℕ) (s : State H) (b : ℕ) (g : Given) (x : Out H) → fs1 ≡ fs ++ Branching (branch.Start shared levels) ∷ [] → length words ≡ 5 → shared.value ≡ record { condition = condition; next = Some next; body = body } → start ≡ arg words 1 → condition ≡ arg words 2 → next ≡ arg words 3 → body ≡ arg words 4 → x ≡ (nested ns t levels).run (unread start) (stack_next ns t fs1) s b g → x ≡ do_for (nested ns t levels) words (stack_next ns t fs) s b g
   for_step fs fs1 words shared levels start condition next body s b g x push five is first second third fourth e =
@@ -93,7 +93,7 @@ module _ {H : Type 0} (ns : Names) (t : LeafTable H) where
       ∙ ap (λ (v : List ℕ). go (record { condition = v; next = Some next; body = body }) (arg words 1)) second
       ∙ ap (λ (v : List ℕ). go (record { condition = arg words 2; next = Some v; body = body }) (arg words 1)) third
       ∙ ap (λ (v : List ℕ). go (record { condition = arg words 2; next = Some (arg words 3); body = v }) (arg words 1)) fourth
-      ∙ sym (ap (λ (c : Bool). (cond c (inner.run (unread (arg words 1)) (on_ok (λ _. turn_on inner all k) k)) (give (wrong_words words) k)) s b g) (eq-eqb (length words) 5 five))
+      ∙ sym (ap (λ (c : Bool). (cond c (inner.run (unread (arg words 1)) (on_ok (λ _. turn_on inner all k) k)) (give (wrong_words_end words) k)) s b g) (eq-eqb (length words) 5 five))
 
 -- ---- walks
 
@@ -149,7 +149,7 @@ module _ {H : Type 0} (ns : Names) (t : LeafTable H) where
       let values_are : listing (arg words 2) ≡ elements values = sym (ap (λ (v : List ℕ). listing v) two) ∙ listed in
       over_some inner words names values body k s b g x some values_are three e
       ∙ sym (ap (λ (l : Listing). over_names inner l words k s b g) names_are)
-      ∙ sym (ap (λ (c : Bool). (cond c (over_names inner (listing (arg words 1)) words k) (give (wrong_words words) k)) s b g) (eq-eqb (length words) 4 four))
+      ∙ sym (ap (λ (c : Bool). (cond c (over_names inner (listing (arg words 1)) words k) (give (wrong_words_end words) k)) s b g) (eq-eqb (length words) 4 four))
 
   -- names, of which there is one at least, and values that are no list
   over_bad : (inner : Inner H) (words names : List (List ℕ)) (place : ℕ) (k : Next H) (s : State H) (b : ℕ) (g : Given) (x : Out H) → length names ≢ 0 → listing (arg words 2) ≡ bad_at place → x ≡ fails (no_list place) k s b g → x ≡ over_names inner (elements names) words k s b g
@@ -164,4 +164,4 @@ module _ {H : Type 0} (ns : Names) (t : LeafTable H) where
       let values_are : listing (arg words 2) ≡ bad_at place = sym (ap (λ (v : List ℕ). listing v) two) ∙ bad in
       over_bad inner words names place k s b g x some values_are e
       ∙ sym (ap (λ (l : Listing). over_names inner l words k s b g) names_are)
-      ∙ sym (ap (λ (c : Bool). (cond c (over_names inner (listing (arg words 1)) words k) (give (wrong_words words) k)) s b g) (eq-eqb (length words) 4 four))
+      ∙ sym (ap (λ (c : Bool). (cond c (over_names inner (listing (arg words 1)) words k) (give (wrong_words_end words) k)) s b g) (eq-eqb (length words) 4 four))

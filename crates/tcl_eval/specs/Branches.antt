@@ -3,7 +3,7 @@ use Rattle.std.specs.Prelude.{[], ◌∷◌, drop, bytes_eq, codes, if◌then◌
 use Rattle.txt_core.specs.Names.{Bytes, Words, Pairs}
 use Rattle.tcl_host.specs.Codes as code_of
 use Rattle.tcl_eval.specs.declared.branch.Branches.{Branches}
-use Rattle.tcl_eval.specs.Results.{wrong_words}
+use Rattle.tcl_eval.specs.Results.{wrong_words_end}
 use Rattle.tcl_eval.specs.Going.{Inner, unread, give}
 use Rattle.tcl_eval.specs.Expressions.{test}
 use Rattle.tcl_eval.specs.State.{Rest, Next}
@@ -57,7 +57,7 @@ module _ {H : Type 0} where
       test inner clause.0 (inner.run (unread clause.1) k) (choose inner clauses last k) k
 
   abbrev pub choose_of : Inner H → Option Branches → Words → Next H → Rest H
-  choose_of inner None words k = give (wrong_words words) k
+  choose_of inner None words k = give (wrong_words_end words) k
   choose_of inner (Some found) words k = choose inner found.clauses found.last k
 
   -- `if c ?then? body`, any `elseif c ?then? body`, `?else? body`

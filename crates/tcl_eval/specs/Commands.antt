@@ -13,7 +13,7 @@ use Rattle.tcl_eval.specs.declared.parameter.Parameter.{Parameter}
 use Rattle.tcl_eval.specs.Parameters.{parameters, Values, bound}
 use Rattle.tcl_eval.specs.Words.{arg, joined}
 use Rattle.tcl_eval.specs.Messages.{command_exists, no_command}
-use Rattle.tcl_eval.specs.Results.{wrong_words}
+use Rattle.tcl_eval.specs.Results.{wrong_words_end}
 use Rattle.tcl_eval.specs.Going.{Inner, unread, give, fails, with_frames, with_def, write_variable, write_all, proc_end}
 use Rattle.tcl_eval.specs.State.{Rest, Next}
 
@@ -45,7 +45,7 @@ module _ {H : Type 0} where
   -- `proc name params body`: its name is from now on that of a procedure, and the definition is listed as made
   abbrev pub do_proc : Words → Next H → Rest H
   do_proc words k =
-      if length words == 4 then define_proc (parameters (arg words 2)) words k else give (wrong_words words) k
+      if length words == 4 then define_proc (parameters (arg words 2)) words k else give (wrong_words_end words) k
 
   abbrev pub renamed_as : Renamed → Words → Next H → Rest H
   renamed_as Renamed_done words k = λ state. k code_of.ok [] (with_def state (rename_of words))
@@ -56,12 +56,12 @@ module _ {H : Type 0} where
   abbrev pub do_rename : Words → Next H → Rest H
   do_rename words k =
       if length words == 3 then (λ state. renamed_as (rename_answer state.commands (arg words 1) (arg words 2)) words k state)
-      else give (wrong_words words) k
+      else give (wrong_words_end words) k
 
   -- `eval word word*`: the words are joined by a space, and run as a script
   abbrev pub do_eval : Inner H → Words → Next H → Rest H
   do_eval inner words k =
-      if nat_lt (length words) 2 then give (wrong_words words) k else inner.run (unread (joined (drop 1 words))) k
+      if nat_lt (length words) 2 then give (wrong_words_end words) k else inner.run (unread (joined (drop 1 words))) k
 
   -- the script of a `catch` ended: its code is the result, and its result goes to the variable, where one is named
   abbrev pub catch_end : Option Bytes → Next H → Next H
@@ -73,7 +73,7 @@ module _ {H : Type 0} where
   do_catch inner words k =
       if length words == 2 then inner.run (unread (arg words 1)) (catch_end None k)
       else if length words == 3 then inner.run (unread (arg words 1)) (catch_end (Some (arg words 2)) k)
-      else give (wrong_words words) k
+      else give (wrong_words_end words) k
 
   -- a command on variables came to this
   abbrev pub came_next : Came → Next H → Rest H

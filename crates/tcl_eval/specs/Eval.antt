@@ -29,7 +29,7 @@ use Rattle.tcl_eval.specs.declared.outcome.Work.TheVariants.{Script as script_wo
 pub use Rattle.tcl_eval.specs.Words.{arg, joined}
 use Rattle.tcl_eval.specs.Messages.{unknown_command, script_fault, variable_fault, too_long}
 pub use Rattle.tcl_eval.specs.Costs.{bytes_for_one, bytes_cost, words_cost, command_cost, result_cost, answer_cost, turn_cost, evaluation_cost}
-pub use Rattle.tcl_eval.specs.Results.{most_levels, most_bytes, element_name, ended, shortened, error_of, wrong_words, return_of, raised_of, break_of, continue_of, returned, result_or_fault, read_as, stored_of, written_or_same, stored}
+pub use Rattle.tcl_eval.specs.Results.{most_levels, most_bytes, element_name, ended, shortened, error_of, wrong_words_end, return_of, raised_of, break_of, continue_of, returned, result_or_fault, read_as, stored_of, written_or_same, stored}
 pub use Rattle.tcl_eval.specs.Going.{Source, unread, read, Inner, on_ok, pay, give, fails, limited, charged, command_end, word_end, with_host, with_frames, with_made, with_def, read_variable, write_variable, proc_end, write_all, by_truth}
 pub use Rattle.tcl_eval.specs.Pieces.{run_part, run_parts}
 pub use Rattle.tcl_eval.specs.Commands.{rename_of, proc_of, call_bound, call_proc, define_proc, do_proc, renamed_as, do_rename, do_eval, catch_end, do_catch, came_next}

@@ -16,7 +16,7 @@ use Rattle.tcl_eval.specs.declared.operation.Way.TheVariants.{Both, IfTrue, IfFa
 use Rattle.tcl_eval.specs.Words.{joined}
 use Rattle.tcl_eval.specs.Messages.{bad_expression, operator_fault}
 use Rattle.tcl_eval.specs.Costs.{evaluation_cost}
-use Rattle.tcl_eval.specs.Results.{ended, error_of, wrong_words}
+use Rattle.tcl_eval.specs.Results.{ended, error_of, wrong_words_end}
 use Rattle.tcl_eval.specs.Going.{Inner, on_ok, pay, give, fails, word_end, by_truth}
 use Rattle.tcl_eval.specs.Pieces.{run_parts}
 use Rattle.tcl_eval.specs.State.{Rest, Next}
@@ -83,4 +83,4 @@ module _ {H : Type 0} where
   -- `expr word word*`: the words are joined by a space, and evaluated
   abbrev pub do_expr : Inner H → Words → Next H → Rest H
   do_expr inner words k =
-      if nat_lt (length words) 2 then give (wrong_words words) k else evaluate inner (joined (drop 1 words)) (value_end k)
+      if nat_lt (length words) 2 then give (wrong_words_end words) k else evaluate inner (joined (drop 1 words)) (value_end k)

@@ -12,7 +12,7 @@ use Rattle.tcl_host.specs.Codes as code_of
 use Rattle.tcl_eval.specs.Parameters.{parameters}
 use Rattle.tcl_eval.specs.Words.{arg}
 use Rattle.tcl_eval.specs.Messages.{no_procedure, unknown_subcommand}
-use Rattle.tcl_eval.specs.Results.{ended, error_of, wrong_words}
+use Rattle.tcl_eval.specs.Results.{ended, error_of, wrong_words_end}
 use Rattle.tcl_eval.specs.Going.{give}
 use Rattle.tcl_eval.specs.State.{Rest, Next}
 
@@ -42,15 +42,15 @@ abbrev pub part_said : Table → Words → Ended
 part_said table words =
     if bytes_eq (arg words 1) (codes "commands") then names_picked table (slice_get words 2)
     else if bytes_eq (arg words 1) (codes "args") then
-    (if length words == 3 then args_said (arg words 2) (command_of table (arg words 2)) else wrong_words words)
+    (if length words == 3 then args_said (arg words 2) (command_of table (arg words 2)) else wrong_words_end words)
     else if bytes_eq (arg words 1) (codes "body") then
-    (if length words == 3 then body_said (arg words 2) (command_of table (arg words 2)) else wrong_words words)
+    (if length words == 3 then body_said (arg words 2) (command_of table (arg words 2)) else wrong_words_end words)
     else error_of (unknown_subcommand (arg words 1) (codes "info"))
 
 -- first the number of words that any subcommand may have, then the subcommand, then its own number of words
 abbrev pub info_said : Table → Words → Ended
 info_said table words =
-    if (length words == 2) || (length words == 3) then part_said table words else wrong_words words
+    if (length words == 2) || (length words == 3) then part_said table words else wrong_words_end words
 
 module _ {H : Type 0} where
   abbrev pub do_info : Words → Next H → Rest H

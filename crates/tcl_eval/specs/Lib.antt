@@ -27,6 +27,7 @@ pub mod SeenPieces
 pub mod Verbs
 pub mod Places
 pub mod Kept
+pub mod Short
 pub mod Simple
 pub mod Stack
 pub mod Straight

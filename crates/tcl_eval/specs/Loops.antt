@@ -11,7 +11,7 @@ use Rattle.tcl_eval.specs.Parameters.{Values}
 use Rattle.tcl_eval.specs.Words.{arg}
 use Rattle.tcl_eval.specs.Messages.{no_list, bad_value}
 use Rattle.tcl_eval.specs.Costs.{turn_cost}
-use Rattle.tcl_eval.specs.Results.{wrong_words}
+use Rattle.tcl_eval.specs.Results.{wrong_words_end}
 use Rattle.tcl_eval.specs.Going.{Inner, unread, on_ok, pay, give, fails, write_all}
 use Rattle.tcl_eval.specs.Expressions.{test}
 use Rattle.tcl_eval.specs.State.{spent, Rest, Next}
@@ -55,14 +55,14 @@ module _ {H : Type 0} where
   do_while inner words k =
       if length words == 3
       then turn_on inner (record { condition = arg words 1; next = None; body = arg words 2 }) k
-      else give (wrong_words words) k
+      else give (wrong_words_end words) k
 
   -- `for start c next body`; a code of the start is handed on
   abbrev pub do_for : Inner H → Words → Next H → Rest H
   do_for inner words k =
       if length words == 5
       then inner.run (unread (arg words 1)) (on_ok (λ _. turn_on inner (record { condition = arg words 2; next = Some (arg words 3); body = arg words 4 }) k) k)
-      else give (wrong_words words) k
+      else give (wrong_words_end words) k
 
   -- so many turns over values, as many of them in each as there are names, which are written after the turn was paid for
   abbrev pub walk_on : Inner H → Names → Bytes → ℕ → Words → Next H → Rest H
@@ -87,4 +87,4 @@ module _ {H : Type 0} where
   -- `foreach names list body`
   abbrev pub do_foreach : Inner H → Words → Next H → Rest H
   do_foreach inner words k =
-      if length words == 4 then over_names inner (listing (arg words 1)) words k else give (wrong_words words) k
+      if length words == 4 then over_names inner (listing (arg words 1)) words k else give (wrong_words_end words) k

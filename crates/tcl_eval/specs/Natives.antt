@@ -5,7 +5,7 @@ use Rattle.natives.specs.Ranges.{range_of}
 use Rattle.natives.specs.Pure.{pure_of}
 use Rattle.tcl_host.specs.Codes as code_of
 use Rattle.tcl_eval.specs.Words.{arg}
-use Rattle.tcl_eval.specs.Results.{wrong_words}
+use Rattle.tcl_eval.specs.Results.{wrong_words_end}
 use Rattle.tcl_eval.specs.Going.{give}
 use Rattle.tcl_eval.specs.State.{Rest, Next}
 
@@ -22,4 +22,4 @@ module _ {H : Type 0} where
   -- A native, whose own name is the first word. Where the number of words is outside its range, it isn't called.
   abbrev pub call_native : Words → Next H → Rest H
   call_native words k =
-      if is_in_range (arg words 0) words then replied (pure_of (arg words 0) words) k else give (wrong_words words) k
+      if is_in_range (arg words 0) words then replied (pure_of (arg words 0) words) k else give (wrong_words_end words) k

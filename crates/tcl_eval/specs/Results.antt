@@ -34,23 +34,23 @@ abbrev pub error_of : Bytes → Ended
 error_of message = ended code_of.error (shortened message)
 
 -- a built-in has the wrong number of words
-abbrev pub wrong_words : Words → Ended
-wrong_words words = error_of (wrong_count (arg words 0))
+abbrev pub wrong_words_end : Words → Ended
+wrong_words_end words = error_of (wrong_count (arg words 0))
 
 -- `return ?value?`: a return, with the value where there is one
 abbrev pub return_of : Words → Ended
-return_of words = if (length words == 1) || (length words == 2) then ended code_of.return (arg words 1) else wrong_words words
+return_of words = if (length words == 1) || (length words == 2) then ended code_of.return (arg words 1) else wrong_words_end words
 
 -- `error text`: an error, with the text as it stands
 abbrev pub raised_of : Words → Ended
-raised_of words = if length words == 2 then ended code_of.error (arg words 1) else wrong_words words
+raised_of words = if length words == 2 then ended code_of.error (arg words 1) else wrong_words_end words
 
 -- `break` and `continue`: a break and a continue, with no result
 abbrev pub break_of : Words → Ended
-break_of words = if length words == 1 then ended code_of.break [] else wrong_words words
+break_of words = if length words == 1 then ended code_of.break [] else wrong_words_end words
 
 abbrev pub continue_of : Words → Ended
-continue_of words = if length words == 1 then ended code_of.continue [] else wrong_words words
+continue_of words = if length words == 1 then ended code_of.continue [] else wrong_words_end words
 
 -- A procedure ends: a return becomes a good end, a break and a continue become errors, and any other code is handed on.
 abbrev pub returned : ℕ → Bytes → Ended

@@ -8,7 +8,7 @@ use Rattle.txt_core.specs.PatternLaws.{matches}
 use Rattle.tcl_host.specs.Codes as code_of
 use Rattle.tcl_eval.specs.Words.{arg}
 use Rattle.tcl_eval.specs.Messages.{no_list, bad_value}
-use Rattle.tcl_eval.specs.Results.{wrong_words}
+use Rattle.tcl_eval.specs.Results.{wrong_words_end}
 use Rattle.tcl_eval.specs.Going.{Inner, unread, give, fails}
 use Rattle.tcl_eval.specs.State.{Rest, Next}
 
@@ -66,14 +66,14 @@ module _ {H : Type 0} where
 
   -- what stands behind the text: one list, or patterns and bodies as words
   abbrev pub by_words : Inner H → Bool → Bytes → Words → Words → Next H → Rest H
-  by_words inner globs text [] words k = give (wrong_words words) k
+  by_words inner globs text [] words k = give (wrong_words_end words) k
   by_words inner globs text (list ∷ []) words k = by_listing inner globs text list (listing list) k
   by_words inner globs text (pattern ∷ body ∷ pairs) words k =
-      if length pairs % 2 == 0 then by_pairs inner globs text (pattern ∷ body ∷ pairs) k else give (wrong_words words) k
+      if length pairs % 2 == 0 then by_pairs inner globs text (pattern ∷ body ∷ pairs) k else give (wrong_words_end words) k
 
   abbrev pub by_options : Inner H → Result (Bool × Words) Bytes → Words → Next H → Rest H
   by_options inner (Err word) words k = fails (bad_value word (codes "switch")) k
-  by_options inner (Ok (globs, [])) words k = give (wrong_words words) k
+  by_options inner (Ok (globs, [])) words k = give (wrong_words_end words) k
   by_options inner (Ok (globs, text ∷ behind)) words k = by_words inner globs text behind words k
 
   -- `switch ?-exact? ?-glob? ?--? text pairs`

@@ -14,8 +14,8 @@ use txt_core::{NoMemory, Text};
 /// How many texts are kept, beside those at the places.
 const MOST_KEPT: usize = 512;
 
-/// How many bytes a text may have that is kept.
-const LONGEST_KEPT: usize = 4_096;
+/// How many bytes a text has at most whose script or expression is kept. A longer one is read each time.
+pub(crate) const MOST_KEPT_BYTES: usize = 4_096;
 
 /// Texts that were evaluated lately, each with what it is as an expression. Contracts see nothing of
 /// which texts these are: what is kept of a text is true by itself.
@@ -55,7 +55,7 @@ impl Expressions {
             return Ok(read);
         }
         let read = self.read_kept(alloc, text)?;
-        if text.len() <= LONGEST_KEPT {
+        if text.len() <= MOST_KEPT_BYTES {
             let again = read.clone()?;
             self.latest.put(text.bytes(), again)?;
         }
@@ -88,7 +88,7 @@ impl Expressions {
         }
         let read = ReadExpr::new(alloc, text.copy(alloc)?)?;
         let read = Rc::new(alloc, read)?;
-        if text.len() <= LONGEST_KEPT {
+        if text.len() <= MOST_KEPT_BYTES {
             let kept = read.clone()?;
             self.keep(alloc, text, kept)?;
         }

@@ -5,10 +5,11 @@ ghost use Rattle.txt_core.specs.Names.{Bytes, Names};
 ghost use Rattle.parse_cache.specs.Readings.{IsReading};
 ghost use Rattle.tcl_eval.specs.Eval.{arg, run_script, unread};
 ghost use Rattle.tcl_eval.specs.Engine.{Same, Holds, Enters, Opens, Lower, credit, acted_next};
+ghost use Rattle.tcl_eval.specs.Short.{most_kept_bytes};
 ghost use Rattle.tcl_eval.specs.declared.engine.OpenQuestion.{OpenQuestion};
 
 use crate::engine::Engine;
-use crate::expression_cache::Expressions;
+use crate::expression_cache::{Expressions, MOST_KEPT_BYTES};
 use crate::latest::{Latest, find_latest, put_latest};
 use crate::message::script_fault;
 use crate::read_expr::ReadExpr;
@@ -24,9 +25,6 @@ use txt_core::{NoMemory, Text, Words};
 
 /// How many scripts an engine keeps by their texts, beside those that it ran most lately.
 const SCRIPTS: usize = 512;
-
-/// How many bytes a text has at most whose script is kept. A longer one is read each time.
-const MOST_KEPT_BYTES: usize = 4_096;
 
 /// The scripts and the expressions that an engine keeps by their texts, scripts from its first start
 /// on. Contracts see nothing of them, as what is kept changes no run.
@@ -183,7 +181,7 @@ fn read_by(scripts: &mut Cache, alloc: Global, text: &Text) -> Result<Reading, N
 
 /// What a text is as a script, by a cache. The condition is that it is short enough for one.
 fn read_short(scripts: &mut Cache, text: &Text) -> Result<Reading, NoMemory>
-    requires { length text.now ≤ 4096 }
+    requires { length text.now ≤ most_kept_bytes }
     ensures { IfOk result (λ read. IsReading text.now read) }
 {
     scripts.read(text)

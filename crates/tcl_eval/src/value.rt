@@ -5,7 +5,7 @@ ghost use Rattle.tcl_host.specs.Codes as code_of;
 ghost use Rattle.tcl_eval.specs.Messages.{too_long};
 ghost use Rattle.tcl_eval.specs.Kept.{kept_value};
 ghost use Rattle.tcl_eval.specs.declared.gather.SoFar.{SoFar};
-ghost use Rattle.tcl_eval.specs.Eval.{ended, error_of, wrong_words, return_of, raised_of, break_of, continue_of, returned};
+ghost use Rattle.tcl_eval.specs.Eval.{ended, error_of, wrong_words_end, return_of, raised_of, break_of, continue_of, returned};
 
 use crate::gather::SoFar;
 use crate::stack::Ended;
@@ -88,7 +88,7 @@ pub fn error(alloc: Global, message: Text) -> Result<Ended, NoMemory>
 #[cold]
 #[inline(never)]
 pub fn wrong_words(alloc: Global, words: &Words) -> Result<Ended, NoMemory>
-    ensures { IfOk result (λ value. value ≡ wrong_words words.now) }
+    ensures { IfOk result (λ value. value ≡ wrong_words_end words.now) }
 {
     error(alloc, error_text::wrong_words(alloc, words.bytes_at(0))?)
 }

@@ -19,4 +19,4 @@ pub use code::{
 pub use host::{Host, HostReply};
 pub use paths::{is_page_path, page_path};
 pub use refusal::{Refusal, refuse};
-pub use reply::{done, ended, reply_of, text_reply};
+pub use reply::{done, ended, reply_of, reply_to_text};

@@ -52,7 +52,7 @@ pub fn reply_of(came: Result<HostReply, Refusal>) -> HostReply
 }
 
 /// The reply to a text of a page, by what it came to: a good end has no result.
-pub fn text_reply(alloc: Global, came: Result<(), Refusal>) -> HostReply
+pub fn reply_to_text(alloc: Global, came: Result<(), Refusal>) -> HostReply
     ensures { MatchResult came (λ _. result ≡ HostReply.Done code_of.ok []) (λ refusal.
         result ≡ refused refusal) }
 {

@@ -3,7 +3,7 @@ use Rattle.std.proofs.Common.{◌≡◌, ◌≢◌, ℕ, zero, suc, ◌+◌, Lis
 use Rattle.std.specs.Prelude.{if◌then◌else◌}
 use Rattle.tcl_parse.specs.Gaps.{at_end, ends_word}
 use Rattle.tcl_parse.specs.Tree.{Part, text, variable, element, bracket, Parts, Word, Command, Script, parts, words, commands, literal}
-use Rattle.tcl_parse.specs.Names.{part_by, element_name}
+use Rattle.tcl_parse.specs.Names.{part_by, element_parts}
 use Rattle.tcl_parse.specs.Outcome.{Outcome, done, fault, put, put_text}
 use Rattle.tcl_parse.specs.Steps.{Mode, quotes, index, bare_word, Substitution, named, indexed, opened, unnamed}
 use Rattle.tcl_parse.specs.Grammar.{PartIs, PartsAt, no_part, some_bytes, bad_part, one_part, EnclosedAt, in_braces, in_quotes, WordAt, enclosed, in_nothing, WordsAt, no_word, bad_word, one_word, ScriptAt, no_command, bad_command, one_command, InBracket, InIndex, close_bracket, close_index, close_brace, close_quote, followed}
@@ -95,7 +95,7 @@ put_command_canonical c (fault j n) i h k = tt
 
 module _ (S : List ℕ → Outcome Script → Type 0) (I : List ℕ → Outcome Word → Type 0) (in_s : (t : List ℕ) (o : Outcome Script) → S t o → CanonicalScript o) (in_i : (t : List ℕ) (o : Outcome Word) → I t o → CanonicalWord o) where
   part_canonical : (left : ℕ) (s : Substitution) (o : Outcome Part) → PartIs S I left s o → CanonicalPart o
-  part_canonical left (named x r) o h = subst CanonicalPart (sym h) (named_canonical x (element_name x) r)
+  part_canonical left (named x r) o h = subst CanonicalPart (sym h) (named_canonical x (element_parts x) r)
   part_canonical left unnamed o h = subst CanonicalPart (sym h) tt
   part_canonical left (indexed x r) o h = subst CanonicalPart (sym h.2) (index_canonical left x h.0 (in_i r h.0 h.1))
   part_canonical left (opened r) o h = subst CanonicalPart (sym h.2) (bracket_canonical (length r + 1) h.0 (in_s r h.0 h.1))

@@ -6,7 +6,7 @@ use Rattle.tcl_parse.specs.Gaps.{skip, between, ends_word}
 use Rattle.tcl_parse.specs.Braces.{BracedAt}
 use Rattle.tcl_parse.specs.Laws.Braces.{braced, plain, braced_at}
 use Rattle.tcl_parse.specs.Tree.{Part, element, bracket, Word, Script, parts, commands, literal}
-use Rattle.tcl_parse.specs.Names.{part_by, element_name, named_part}
+use Rattle.tcl_parse.specs.Names.{part_by, element_parts, named_part}
 use Rattle.tcl_parse.specs.Outcome.{Outcome, done, fault, put}
 use Rattle.std.proofs.Common.{Option, Some, None}
 use Rattle.tcl_parse.specs.Steps.{Mode, quotes, index, Substitution, named, indexed, opened, unnamed, substituted, next}
@@ -93,7 +93,7 @@ named_by x (Some y) = tt
 
 -- a name means no text
 pub named_inner : (x : List ℕ) → IsInner (named_part x)
-named_inner x = named_by x (element_name x)
+named_inner x = named_by x (element_parts x)
 
 module _ (S : List ℕ → Outcome Script → Type 0) (I : List ℕ → Outcome Word → Type 0) where
   -- what is substituted is no text

@@ -20,8 +20,8 @@ with_index None = None
 with_index (Some x) = if slice_index_or x.1 (length x.1 - 1) 0 == right_parenthesis then Some (x.0, take (length x.1 - 1) x.1) else None
 
 -- A name that ends in `)` and holds `(` has the form of an array's element: the array's name stands before the first `(`, and the index between it and the last byte.
-abbrev pub element_name : Bytes → Option (Bytes × Bytes)
-element_name x = with_index (up_to left_parenthesis x)
+abbrev pub element_parts : Bytes → Option (Bytes × Bytes)
+element_parts x = with_index (up_to left_parenthesis x)
 
 abbrev pub part_by : Bytes → Option (Bytes × Bytes) → Part
 part_by x None = variable x
@@ -29,4 +29,4 @@ part_by x (Some y) = element y.0 (parts (literal y.1 []))
 
 -- What a name means: an element where it has the form of one, and its index is then taken as it stands; else a variable.
 abbrev pub named_part : Bytes → Part
-named_part x = part_by x (element_name x)
+named_part x = part_by x (element_parts x)

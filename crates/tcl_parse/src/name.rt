@@ -4,7 +4,7 @@ ghost use Rattle.std.specs.Prelude.{◌≡◌, ◌<◌, ◌+◌, ◌==◌, lengt
 ghost use Rattle.std.specs.List.{position};
 ghost use Rattle.std.specs.Option.{option_map};
 ghost use Rattle.tcl_parse.specs.Bytes.{is_name};
-ghost use Rattle.tcl_parse.specs.Names.{name_at, up_to, element_name};
+ghost use Rattle.tcl_parse.specs.Names.{name_at, up_to, element_parts};
 
 fn may_stand_in_name(b: u8) -> bool
     ensures { result ≡ is_name b }
@@ -47,7 +47,7 @@ pub fn split_before(byte: u8, bytes: &[u8]) -> Option<(&[u8], &[u8])>
 /// The array and the index of a name that has the form of an array's element.
 #[tactic(auto, using(crate::proofs::Names::name_parts))]
 pub fn element_name(name: &[u8]) -> Option<(&[u8], &[u8])>
-    ensures { option_map (λ x. (x.0.now, x.1.now)) result ≡ element_name name.now }
+    ensures { option_map (λ x. (x.0.now, x.1.now)) result ≡ element_parts name.now }
 {
     match split_before(b'(', name) {
         None => None,

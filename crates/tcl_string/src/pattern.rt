@@ -1,14 +1,19 @@
 //! The parts of a pattern of `format`.
 
-ghost use Rattle.std.specs.Prelude.{◌≡◌, ◌≤◌, drop, length, min, option_map, if◌then◌else◌, true, false, None, Some, IfSome, MatchOption};
+ghost use Rattle.std.specs.Prelude.{◌≡◌, ◌≤◌, ◌+◌, drop, length, min, option_map, if◌then◌else◌, true, false, None, Some, IfSome, MatchOption};
 ghost use Rattle.txt_core.specs.Digits.{digit_of, is_digit, value_of};
 ghost use Rattle.txt_core.specs.Texts.{begins_with};
 ghost use Rattle.natives.specs.Formatting.{takes_word};
-ghost use Rattle.natives.specs.Parts.{is_letter, taken_by, all_digits, form_at, parts};
+ghost use Rattle.natives.specs.Parts.{is_letter, most_wide, taken_by, all_digits, form_at, parts};
 ghost use Rattle.tcl_string.specs.Patterns.{letter_code, form_of, part_of, with_rest, behind_flags, first_part, words_taken};
+
+use txt_core::digit;
 
 /// How wide a form may be, in bytes.
 pub const MOST_WIDE: usize = 1000;
+
+/// The base in which a width is written.
+const DECIMAL: u8 = 10;
 
 /// What a form writes of its word.
 #[derive(Clone, Copy)]
@@ -71,26 +76,28 @@ fn flag(flag: u8, bytes: &[u8]) -> (bool, &[u8])
 }
 
 /// The value of a decimal digit; `None` exactly for any other byte.
-fn digit(byte: u8) -> Option<usize>
+fn decimal_digit(byte: u8) -> Option<usize>
     ensures { MatchOption result (is_digit 10 byte ≡ false) (λ d.
         (is_digit 10 byte ≡ true) × (d ≡ digit_of byte)) }
 {
-    match byte {
-        b'0'..=b'9' => Some(usize::from(byte - b'0')),
-        _ => None,
+    let value = digit(byte);
+    if value < DECIMAL {
+        Some(usize::from(value))
+    } else {
+        None
     }
 }
 
 /// The number that the digits at the front say, or just over the widest where it is more, and what
 /// is behind them.
 fn width(bytes: &[u8]) -> (usize, &[u8])
-    ensures value { result.0 ≡ min (value_of 10 (all_digits bytes.now)) 1001 }
+    ensures value { result.0 ≡ min (value_of 10 (all_digits bytes.now)) (most_wide + 1) }
     ensures behind { result.1.now ≡ drop (length (all_digits bytes.now)) bytes.now }
 {
     let mut width = 0;
     let mut count = 0;
     'digits: for byte in bytes {
-        let Some(digit) = digit(*byte) else {
+        let Some(digit) = decimal_digit(*byte) else {
             break;
         };
         width = (width * 10 + digit).min(MOST_WIDE + 1);

@@ -16,5 +16,6 @@ pub mod Asking
 pub mod Renewing
 pub mod Working
 pub mod Resuming
+pub mod Resetting
 pub mod Beginning
 pub mod Behind

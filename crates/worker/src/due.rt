@@ -12,7 +12,7 @@ ghost use Rattle.worker.specs.Beginning.{BeginsScript};
 
 use crate::heard::{AnswerList, Heard};
 use crate::look::{Looked, look, renew};
-use crate::run::answer_all;
+use crate::run::{answer_all, end_run};
 use crate::scripts::{DueRun, Ran, RanList};
 use crate::worker::Worker;
 use cmd_table::Steps;
@@ -97,8 +97,7 @@ fn run_script<R: Wait, P: Pages, C: Clock, L: Ledger>(
     answer_all(
         rt, alloc, natives, shared, passes, pages, &mut run, moment, &mut heard, steps,
     );
-    let (last, mut interp) = run.into_parts();
-    interp.reset(steps);
+    let (last, interp) = end_run(run, steps);
     worker.interp = Some(interp);
     Ran {
         id: due.id,

@@ -12,7 +12,7 @@ ghost use Rattle.worker.specs.Beginning.{BeginsDefine};
 
 use crate::heard::{AnswerList, Heard};
 use crate::look::{Looked, look, renew};
-use crate::run::answer_all;
+use crate::run::{answer_all, end_run};
 use crate::scripts::{EvalEnd, Evaled};
 use crate::worker::Worker;
 use cmd_table::Steps;
@@ -103,8 +103,7 @@ pub fn do_eval<R: Wait, P: Pages, L: Ledger>(
     answer_all(
         rt, alloc, natives, shared, passes, pages, &mut run, moment, &mut heard, steps,
     );
-    let (last, mut interp) = run.into_parts();
-    interp.reset(steps);
+    let (last, interp) = end_run(run, steps);
     worker.interp = Some(interp);
     let Heard { answers, published } = heard;
     Evaled {

@@ -28,7 +28,7 @@ use crate::look::{Looked, look, renew};
 use crate::reply::{
     Done, Manner, bytes_sent, count_all, end_behind, end_in_want, tell_want, write,
 };
-use crate::run::answer_all;
+use crate::run::{answer_all, end_run};
 use crate::served::{End, Served, ServedList};
 use crate::worker::Worker;
 use cmd_table::Steps;
@@ -203,8 +203,7 @@ fn run_item<R: Wait, K: Sink, P: Pages, C: Clock, L: Ledger>(
         rt, alloc, natives, shared, passes, &mut run, moment, manner, &mut heard, sink, pages,
         steps,
     );
-    let (_, mut interp) = run.into_parts();
-    interp.reset(steps);
+    let (_, interp) = end_run(run, steps);
     worker.interp = Some(interp);
     let served = Served {
         turn,

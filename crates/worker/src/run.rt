@@ -10,12 +10,13 @@ ghost use Rattle.ictl.specs.Interps.{gives, taken, interp_written, Counts, IsSam
 ghost use Rattle.ictl.specs.Came.{IsAtQuestion};
 ghost use Rattle.worker.specs.Asking.{Hears, StandsFor, StaysWithin};
 ghost use Rattle.worker.specs.Clean.{edition_in};
+ghost use Rattle.worker.specs.Resetting.{Resets};
 ghost use Rattle.worker.specs.Resuming.{Resumes};
 
 use crate::ask::answer;
 use crate::heard::Heard;
 use cmd_table::Steps;
-use ictl::{Run, questions_are_asked};
+use ictl::{BoxedInterp, Next, Run, questions_are_asked};
 use natives::Natives;
 use outside::{Answer, Pages};
 use shared_state::{Passes, Shared};
@@ -84,4 +85,13 @@ pub(crate) fn answer_all<R: Wait, P: Pages, L: Ledger>(
             }
         }
     }
+}
+
+/// Ends a run: what it answered last, and its interpreter, which is as newly made. It takes no memory.
+pub(crate) fn end_run<L: Ledger>(run: Run, steps: &mut Steps<L>) -> (Next, BoxedInterp)
+    ensures { Resets result.0 run.next steps.old steps.new result.1 run.interp }
+{
+    let (last, mut interp) = run.into_parts();
+    interp.reset(steps);
+    (last, interp)
 }

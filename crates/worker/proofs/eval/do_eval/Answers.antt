@@ -59,22 +59,22 @@ returns-clause-evaluates g c =
     let edition : edition_in i2 ≡ edition_of t.entry.before = c.answer_all.ensures.blueprint ∙ (c.begin-run.ensures.blueprint ∙ of.1) in
     let h = hears_of names c.args.moment (λ further. Define names (edition_in i0) c.args.script.now c.args.moment further) c.begin-run.result.next inside0 i1 c.look-turn.new.passes held (g.P.Pages.faults c.args.pages.now) c.new-heard.result.published c.new-heard.result.answers
     c.answer_all.new.run.next inside i2 c.answer_all.new.passes (g.P.Pages.faults c.answer_all.new.pages) c.answer_all.new.heard.published c.answer_all.new.heard.answers
-    c.begin-run.ensures.stands.stands c.into_parts-last.ensures.stands (c.answer_all.ensures.hears inside0) in
-    evaluates_by names held c.args.script.now c.args.moment _ c.new-heard.result.answers _ _ _ c.look-turn.result.look c.look-turn.new.passes c.answer_all.new.run.next inside i2 c.reset.new.self.settling.run.engine.host.marked c.new-heard.result.published c.answer_all.new.heard.published
+    c.begin-run.ensures.stands.stands c.end_run-last.ensures.stands (c.answer_all.ensures.hears inside0) in
+    evaluates_by names held c.args.script.now c.args.moment _ c.new-heard.result.answers _ _ _ c.look-turn.result.look c.look-turn.new.passes c.answer_all.new.run.next inside i2 c.end_run-last.result.1.settling.run.engine.host.marked c.new-heard.result.published c.answer_all.new.heard.published
     t c.in-Ok.ensures.told c.look-turn.ensures.epoch
     (subst (λ (e : Edition). Hears names c.args.moment (λ further. Define names e c.args.script.now c.args.moment further) c.look-turn.new.passes held (g.P.Pages.faults c.args.pages.now) c.new-heard.result.published c.new-heard.result.answers
     c.answer_all.new.run.next inside i2 c.answer_all.new.passes (g.P.Pages.faults c.answer_all.new.pages) c.answer_all.new.heard.published c.answer_all.new.heard.answers) of.1 h)
-    c.new-heard.ensures.answers c.new-heard.ensures.published c.into_parts-last.ensures.stands ((rw c.into_parts-last.ensures.next at c.end_of.ensures) ∙ ap (λ (n : ℕ). eval_end c.answer_all.new.run.next n) c.unwrap_or.ensures) (rw c.into_parts-last.ensures.interp at c.reset.ensures.marked)
-    (standing_again c.reset.new.self (edition_in i2) (edition_of t.entry.before) c.reset.new.self.settling.run.engine.host.marked (rw c.into_parts-last.ensures.interp at c.reset.ensures.blueprint) edition refl)
-    (λ outcome end. paid_all _ s0 s2 c.reset.new.steps _ (Writes (interp_state i2).made) _ (c.in-Ok.ensures.steps t.entry.before r)
-    (paid_define s0 s1 s2 _ _ (interp_written names i1) (interp_written names i2) _ (new_made names i0 of.0) c.begin-run.ensures.steps (own_within names i1) (ended_alone names outcome i2 (subst (λ (n : Next). StandsAt n i2) end c.into_parts-last.ensures.stands)) c.answer_all.ensures.counts)
-    ((rw c.into_parts-last.ensures.interp at c.reset.ensures.steps) names sound))
-    (λ none. paid_all _ s0 s2 c.reset.new.steps _ (Writes (interp_state i2).made) _ (c.in-Ok.ensures.steps t.entry.before r)
+    c.new-heard.ensures.answers c.new-heard.ensures.published c.end_run-last.ensures.stands ((rw c.end_run-last.ensures.next at c.end_of.ensures) ∙ ap (λ (n : ℕ). eval_end c.answer_all.new.run.next n) c.unwrap_or.ensures) c.end_run-last.ensures.marked
+    (standing_again c.end_run-last.result.1 (edition_in i2) (edition_of t.entry.before) c.end_run-last.result.1.settling.run.engine.host.marked c.end_run-last.ensures.blueprint edition refl)
+    (λ outcome end. paid_all _ s0 s2 c.end_run-last.new.steps _ (Writes (interp_state i2).made) _ (c.in-Ok.ensures.steps t.entry.before r)
+    (paid_define s0 s1 s2 _ _ (interp_written names i1) (interp_written names i2) _ (new_made names i0 of.0) c.begin-run.ensures.steps (own_within names i1) (ended_alone names outcome i2 (subst (λ (n : Next). StandsAt n i2) end c.end_run-last.ensures.stands)) c.answer_all.ensures.counts)
+    (c.end_run-last.ensures.steps names sound))
+    (λ none. paid_all _ s0 s2 c.end_run-last.new.steps _ (Writes (interp_state i2).made) _ (c.in-Ok.ensures.steps t.entry.before r)
     (cost_within i2 _ s0 s2 (subst (λ (e : Edition). IsWithin 0 s0 s2 i2 (Define names e c.args.script.now c.args.moment c.answer_all.new.heard.answers)) of.1
     (within_all names (λ further. Define names (edition_in i0) c.args.script.now c.args.moment further) c.new-heard.result.answers _ _ i2 c.answer_all.new.heard.answers 0 s0 s2
     (c.answer_all.ensures.within (λ further. Define names (edition_in i0) c.args.script.now c.args.moment further) inside0 0 s0 c.begin-run.ensures.stands
     (define_within s0 s1 _ _ (interp_written names i1) c.begin-run.ensures.steps (own_within names i1)) c.begin-run.ensures.most) c.new-heard.ensures.answers)))
-    ((rw c.into_parts-last.ensures.interp at c.reset.ensures.steps) names sound))
+    (c.end_run-last.ensures.steps names sound))
 
 pub returns-in_default-clause-evaluates : goal.returns-in_default-clause-evaluates
 returns-in_default-clause-evaluates g c =
@@ -102,8 +102,8 @@ returns-clause-clean g c =
     let sound = c.answer_all.ensures.sound names (c.begin-run.ensures.sound names of.0.0) in
     let edition : edition_in i2 ≡ edition_of t.entry.before = c.answer_all.ensures.blueprint ∙ (c.begin-run.ensures.blueprint ∙ of.1) in
     let h = c.answer_all.ensures.hears inside0 in
-    (ran_clean names c.args.passes.now c.look-turn.new.passes c.answer_all.new.passes c.look-turn.result.turn _ c.look-turn.result.look t (h.turns ++ h.more) i0 c.reset.new.self
-    h.gains of.1 ((rw c.into_parts-last.ensures.interp at c.reset.ensures.blueprint) ∙ (c.answer_all.ensures.blueprint ∙ c.begin-run.ensures.blueprint)) ((rw c.into_parts-last.ensures.interp at c.reset.ensures.is_new) names sound))
+    (ran_clean names c.args.passes.now c.look-turn.new.passes c.answer_all.new.passes c.look-turn.result.turn _ c.look-turn.result.look t (h.turns ++ h.more) i0 c.end_run-last.result.1
+    h.gains of.1 (c.end_run-last.ensures.blueprint ∙ (c.answer_all.ensures.blueprint ∙ c.begin-run.ensures.blueprint)) (c.end_run-last.ensures.is_new names sound))
 
 pub returns-clause-cells : goal.returns-clause-cells
 returns-clause-cells g c =

@@ -42,8 +42,8 @@ returns-clause-item g c = λ count before at by.
     t c.in-Ok.ensures.told c.look-turn.ensures.epoch
     (ticked _ _ c.moment.result c.moment_of-moment.result c.moment.ensures c.moment_of-moment.ensures)
     (c.run_request-done.ensures.ran c.args.request c.in-Some.interp c.renew.new.steps before t.entry.before c.begin-run.ensures c.requires.manner.0 c.requires.manner.1 of.1 by) at c.bytes_sent.ensures
-    (standing_again c.reset.new.self (edition_in c.run_request-done.new.run.interp) _ _ (rw c.into_parts-interp.ensures.interp at c.reset.ensures.blueprint) ((c.run_request-done.ensures.blueprint ∙ c.begin-run.ensures.blueprint) ∙ of.1) (rw c.into_parts-interp.ensures.interp at c.reset.ensures.marked))
-    (c.in-Ok.ensures.steps t.entry.before r) ((rw c.into_parts-interp.ensures.interp at c.reset.ensures.steps) names sound)
+    (standing_again c.end_run-interp.result.1 (edition_in c.run_request-done.new.run.interp) _ _ c.end_run-interp.ensures.blueprint ((c.run_request-done.ensures.blueprint ∙ c.begin-run.ensures.blueprint) ∙ of.1) c.end_run-interp.ensures.marked)
+    (c.in-Ok.ensures.steps t.entry.before r) (c.end_run-interp.ensures.steps names sound)
 
 pub returns-clause-clean : goal.returns-clause-clean
 returns-clause-clean g c =
@@ -53,8 +53,8 @@ returns-clause-clean g c =
     let of = one_of names t.entry.before c.renew.new.worker.interp _ (sym c.in-Some.ensures.value) (c.in-Ok.ensures.of t.entry.before r) in
     let sound = c.run_request-done.ensures.sound names (c.begin-run.ensures.sound names of.0.0) in
     let ran = c.run_request-done.ensures.ran c.args.request c.in-Some.interp c.renew.new.steps c.args.manner.answered t.entry.before c.begin-run.ensures c.requires.manner.0 c.requires.manner.1 of.1 (omega arith) in
-    (ran_clean names c.args.passes.now c.look-turn.new.passes c.run_request-done.new.passes c.look-turn.result.turn _ c.look-turn.result.look t (ran.turns ++ ran.more) c.in-Some.interp c.reset.new.self
-    ran.gains of.1 ((rw c.into_parts-interp.ensures.interp at c.reset.ensures.blueprint) ∙ (c.run_request-done.ensures.blueprint ∙ c.begin-run.ensures.blueprint)) ((rw c.into_parts-interp.ensures.interp at c.reset.ensures.is_new) names sound))
+    (ran_clean names c.args.passes.now c.look-turn.new.passes c.run_request-done.new.passes c.look-turn.result.turn _ c.look-turn.result.look t (ran.turns ++ ran.more) c.in-Some.interp c.end_run-interp.result.1
+    ran.gains of.1 (c.end_run-interp.ensures.blueprint ∙ (c.run_request-done.ensures.blueprint ∙ c.begin-run.ensures.blueprint)) (c.end_run-interp.ensures.is_new names sound))
 
 pub returns-clause-cells : goal.returns-clause-cells
 returns-clause-cells g c =
