@@ -1,11 +1,11 @@
 -- Operands that are a run of digits and letters.
-use Rattle.std.specs.Prelude.{ℕ, suc, ◌+◌, ◌*◌, ◌^◌, [], ◌∷◌, take, drop, max, Bool, ◌==◌, ◌&&◌, ◌||◌, nat_le, nat_lt, if◌then◌else◌, Option, None, Some, codes}
+use Rattle.std.specs.Prelude.{ℕ, suc, ◌+◌, ◌*◌, ◌^◌, [], ◌∷◌, take, drop, max, Bool, ◌==◌, ◌&&◌, ◌||◌, nat_le, nat_lt, if◌then◌else◌, Option, None, Some}
 use Rattle.std.specs.List.{prefix_len}
 use Rattle.std.specs.Option.{is_some}
 use Rattle.txt_core.specs.Names.{Bytes}
 use Rattle.txt_core.specs.Digits.{digit_of, is_digit}
 use Rattle.txt_core.specs.Number.{number}
-use Rattle.txt_core.specs.Truth.{truth_of_word}
+use Rattle.txt_core.specs.Truth.{truth_of_word, word_true, word_yes, word_on, word_false, word_no, word_off}
 
 -- an ASCII letter or digit
 abbrev pub is_word : ℕ → Bool
@@ -41,7 +41,7 @@ shared (c ∷ w) (b ∷ r) = if c == b then suc (shared w r) else 0
 
 -- how many bytes at the front a word of truth can begin with
 abbrev pub word_front : Bytes → ℕ
-word_front r = max (max (max (max (max (shared (codes "true") r) (shared (codes "yes") r)) (shared (codes "on") r)) (shared (codes "false") r)) (shared (codes "no") r)) (shared (codes "off") r)
+word_front r = max (max (max (max (max (shared word_true r) (shared word_yes r)) (shared word_on r)) (shared word_false r)) (shared word_no r)) (shared word_off r)
 
 -- the same of a number, behind its leading 0
 abbrev pub zero_front : Bytes → ℕ

@@ -3,7 +3,9 @@
 ghost use Rattle.std.specs.Prelude.{◌≡◌, ◌+◌, ◌≤◌, length};
 ghost use Rattle.tcl_expr.specs.Runs.{is_word, run_at, names_value, next_value, digits_front, shared, word_front, zero_front, value_front};
 
-use txt_core::{digit, read_int_bytes, truth_word};
+use txt_core::{
+    WORD_FALSE, WORD_NO, WORD_OFF, WORD_ON, WORD_TRUE, WORD_YES, digit, read_int_bytes, truth_word,
+};
 
 /// Whether a byte is an ASCII letter or digit.
 pub fn is_word(b: u8) -> bool
@@ -88,12 +90,12 @@ fn shared(word: &[u8], run: &[u8]) -> usize
 fn word_front(run: &[u8]) -> usize
     ensures { result ≡ word_front run.now }
 {
-    shared(b"true", run)
-        .max(shared(b"yes", run))
-        .max(shared(b"on", run))
-        .max(shared(b"false", run))
-        .max(shared(b"no", run))
-        .max(shared(b"off", run))
+    shared(WORD_TRUE, run)
+        .max(shared(WORD_YES, run))
+        .max(shared(WORD_ON, run))
+        .max(shared(WORD_FALSE, run))
+        .max(shared(WORD_NO, run))
+        .max(shared(WORD_OFF, run))
 }
 
 fn zero_front(behind: &[u8]) -> usize
