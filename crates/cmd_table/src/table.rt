@@ -48,7 +48,9 @@ impl Model for CmdTable {
 
     ghost view = { λ a. record { past = past_of a.journal.items a.slots.entries; table = present a.slots.entries } };
 
-    ghost invariant = { λ a. AreInOrder a.slots.entries × ArePlaced a.journal.items a.slots.entries × AreLatest (present a.slots.entries) a.latest };
+    ghost invariant = { λ a. AreInOrder a.slots.entries
+        × ArePlaced a.journal.items a.slots.entries
+        × AreLatest (present a.slots.entries) a.latest };
 }
 
 impl CmdTable {

@@ -25,7 +25,10 @@ pub struct Native {
     call: Call,
     ghost least_is: { least ≡ (range_of name).least },
     ghost most_is: { most ≡ (range_of name).most },
-    ghost answers: { (alloc : _) (words : _) → InRange name words.now → Call.pre call alloc words × ((result : _) → Call.post call alloc words result → Answers (pure_of name words.now) result) } by { Prim.hlevel Answers-prop },
+    ghost answers: { (alloc : _) (words : _) → InRange name words.now
+        → Call.pre call alloc words
+        × ((result : _) → Call.post call alloc words result
+        → Answers (pure_of name words.now) result) } by { Prim.hlevel Answers-prop },
 }
 
 impl Native {

@@ -47,7 +47,9 @@ impl<S: Source + Drop, K: Sink + Drop, P: Pages, C: Clock, G: Gate> Serve<
     ghost use Rattle.worker.specs.Clean.{IsClean};
 
     // Each thread's passes are of the cells, and its worker's interpreter is as newly made.
-    ghost belongs = { λ crew worker own. AreServed (names_of crew.natives.now) crew.shared.now own.passes × IsClean (names_of crew.natives.now) own.passes worker };
+    ghost belongs = { λ crew worker own.
+        AreServed (names_of crew.natives.now) crew.shared.now own.passes
+        × IsClean (names_of crew.natives.now) own.passes worker };
 
     fn serve<R: Wait>(&self, rt: &R, worker: &mut Worker, own: &mut Own<P, C>, conn: Conn<S, K>) {
         serve_counted::<Brand, _, _, _, _, _, _>(rt, self, worker, own, conn, Blank::new(1));

@@ -52,7 +52,8 @@ impl Model for Globals {
 
     ghost view = { λ a. record { table = together a.base a.own; keeps = keeps_of a.keeps.items } };
 
-    ghost invariant = { λ a. (values_of a.base ≡ base_of (keeps_of a.keeps.items)) × KnowBefore map.empty a.keeps.items };
+    ghost invariant = { λ a. (values_of a.base ≡ base_of (keeps_of a.keeps.items))
+        × KnowBefore map.empty a.keeps.items };
 }
 
 /// The value of a base scalar that isn't set aside.

@@ -48,5 +48,6 @@ pub trait Obj: Drop {
     ghost reaches_later: { (s t u : Self) → reaches s t → reaches t u → reaches s u };
 
     /// A step from an allowed state reaches the state after it.
-    ghost step_reaches: { (s : Self) (c : Self.Call) (r : Self.Reply) (t : Self) → allowed s → step s c r t → reaches s t };
+    ghost step_reaches: { (s : Self) (c : Self.Call) (r : Self.Reply) (t : Self)
+        → allowed s → step s c r t → reaches s t };
 }
