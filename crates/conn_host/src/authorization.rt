@@ -9,7 +9,7 @@ ghost use Rattle.conn_host.specs.Credentials.{is_colon, user_and_password, shown
 use base64::DecodeAllocError;
 use base64::engine::general_purpose::STANDARD;
 use std::alloc::Global;
-use txt_core::{NoMemory, Pairs, Text};
+use txt_core::{NoMemory, Pairs, Text, place_of};
 
 /// How a value with credentials begins.
 const SCHEME: &[u8] = b"Basic ";
@@ -21,19 +21,11 @@ pub struct Credentials {
     pub password: Text,
 }
 
-/// The place of the first colon.
-fn colon(bytes: &[u8]) -> Option<usize>
-    ensures place { result ≡ position is_colon bytes.now }
-    ensures within { IfSome result (λ at. at < length bytes.now) }
-{
-    bytes.iter().position(|byte| *byte == b':')
-}
-
 /// The user in front of the first colon and the password behind it; `None` where there is no colon.
 fn user_and_password(alloc: Global, bytes: &[u8]) -> Result<Option<Credentials>, NoMemory>
     ensures { IfOk result (λ found. found ≡ user_and_password bytes.now) }
 {
-    match colon(bytes) {
+    match place_of(b':', bytes) {
         Some(at) => Ok(Some(Credentials {
             user: Text::new(alloc, &bytes[..at])?,
             password: Text::new(alloc, &bytes[at + 1..])?,

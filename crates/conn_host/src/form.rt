@@ -1,7 +1,7 @@
 //! The form of a request.
 
 ghost use Rattle.std.specs.Prelude.{◌≡◌, ◌++◌, ◌<◌, length, codes, find, IfOk, IfSome, OnOk};
-ghost use Rattle.std.specs.List.{position, before_first};
+ghost use Rattle.std.specs.List.{before_first};
 ghost use Rattle.std.specs.Option.{option_copied};
 ghost use Rattle.ns_sets.specs.Fields.{ignoring_case, has_key};
 ghost use Rattle.conn_host.specs.Forms.{form_text, form_fields, is_semicolon, is_form, media_type, form_of};
@@ -9,7 +9,7 @@ ghost use Rattle.conn_host.specs.Forms.{form_text, form_fields, is_semicolon, is
 use form_urlencoded::{decode, raw_pairs};
 use http_req::Request;
 use std::alloc::Global;
-use txt_core::{NoMemory, Pairs, Text, trim};
+use txt_core::{NoMemory, Pairs, Text, place_of, trim};
 
 /// The media type of a body that is a form.
 const FORM_TYPE: &[u8] = b"application/x-www-form-urlencoded";
@@ -40,19 +40,11 @@ fn content_type(fields: &[(Text, Text)]) -> Option<&(Text, Text)>
     fields.iter().find(|field| field.0.bytes().eq_ignore_ascii_case(b"content-type"))
 }
 
-/// The place of the first semicolon.
-fn semicolon(value: &[u8]) -> Option<usize>
-    ensures place { result ≡ position is_semicolon value.now }
-    ensures within { IfSome result (λ at. at < length value.now) }
-{
-    value.iter().position(|byte| *byte == b';')
-}
-
 /// What stands before the first semicolon, or all where there is none.
 fn before_semicolon(value: &[u8]) -> &[u8]
     ensures { result.now ≡ before_first is_semicolon value.now }
 {
-    match semicolon(value) {
+    match place_of(b';', value) {
         Some(at) => &value[..at],
         None => value,
     }

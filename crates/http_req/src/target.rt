@@ -1,14 +1,14 @@
 //! What the target of a request says (RFC 9112, section 3.2).
 
 ghost use Rattle.std.specs.Prelude.{◌≡◌, ◌==◌, ◌≤◌, length, IfOk};
-ghost use Rattle.std.specs.List.{list_any, position, position_or_len};
+ghost use Rattle.std.specs.List.{list_any, position_or_len};
 ghost use Rattle.percent_encoding.specs.Percent.{percent_decode};
 ghost use Rattle.http_req.specs.Targets.{path_of, query_of, segments_of, is_target, is_unsafe, is_unsafe_byte, begins_with_host};
 
 use percent_encoding::percent_decode;
 use std::alloc::Global;
 use std::borrow::CowSlice;
-use txt_core::{NoMemory, Text, Words, begins_with_slash};
+use txt_core::{NoMemory, Text, Words, begins_with_slash, place_of};
 
 const SCHEME: &[u8] = b"http://";
 
@@ -38,9 +38,9 @@ fn begins_with_host(rest: &[u8]) -> bool
 fn path(target: &[u8]) -> &[u8]
     ensures { result.now ≡ path_of target.now }
 {
-    let path = &target[..place_of(target, b'?')];
+    let path = &target[..place_or_end(target, b'?')];
     match path.strip_prefix(SCHEME) {
-        Some(rest) => &rest[place_of(rest, b'/')..],
+        Some(rest) => &rest[place_or_end(rest, b'/')..],
         None => path,
     }
 }
@@ -49,7 +49,7 @@ fn path(target: &[u8]) -> &[u8]
 pub(crate) fn query(target: &[u8]) -> &[u8]
     ensures { result.now ≡ query_of target.now }
 {
-    let end = place_of(target, b'?');
+    let end = place_or_end(target, b'?');
     if end < target.len() {
         &target[end + 1..]
     } else {
@@ -58,17 +58,11 @@ pub(crate) fn query(target: &[u8]) -> &[u8]
 }
 
 /// The place of the first such byte, or the length where there is none.
-fn place_of(text: &[u8], wanted: u8) -> usize
+fn place_or_end(text: &[u8], wanted: u8) -> usize
     ensures within { result ≤ length text.now }
     ensures place { result ≡ position_or_len (λ byte. byte == wanted) text.now }
 {
-    find_byte(text, wanted).unwrap_or(text.len())
-}
-
-fn find_byte(text: &[u8], wanted: u8) -> Option<usize>
-    ensures { result ≡ position (λ byte. byte == wanted) text.now }
-{
-    text.iter().position(|byte| *byte == wanted)
+    place_of(wanted, text).unwrap_or(text.len())
 }
 
 /// The parts of the path between its slashes that have a byte, each percent-decoded.

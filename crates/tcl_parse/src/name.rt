@@ -1,10 +1,11 @@
 //! Names of variables.
 
-ghost use Rattle.std.specs.Prelude.{◌≡◌, ◌<◌, ◌+◌, ◌==◌, length, IfSome};
-ghost use Rattle.std.specs.List.{position};
+ghost use Rattle.std.specs.Prelude.{◌≡◌, ◌<◌, ◌+◌, length, IfSome};
 ghost use Rattle.std.specs.Option.{option_map};
 ghost use Rattle.tcl_parse.specs.Bytes.{is_name};
 ghost use Rattle.tcl_parse.specs.Names.{name_at, up_to, element_parts};
+
+use txt_core::place_of;
 
 fn may_stand_in_name(b: u8) -> bool
     ensures { result ≡ is_name b }
@@ -23,13 +24,6 @@ pub fn split_name(bytes: &[u8]) -> (&[u8], &[u8])
         count += 1;
     }
     bytes.split_at(count)
-}
-
-/// Where the first such byte stands.
-fn place_of(byte: u8, bytes: &[u8]) -> Option<usize>
-    ensures { result ≡ position (λ b. b == byte) bytes.now }
-{
-    bytes.iter().position(|b| *b == byte)
 }
 
 /// What stands before the first such byte, and what is left behind it.
