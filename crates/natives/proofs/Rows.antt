@@ -15,7 +15,7 @@ use Rattle.natives.specs.Searching.{lsearch_list, lsearch_reply}
 use Rattle.natives.specs.Options.{last_is}
 use Rattle.natives.specs.Parts.{form_at, parts_behind}
 use Rattle.natives.specs.Formatting.{filled, form_error, form_text, written}
-use Rattle.natives.specs.Strings.{subcommand_reply}
+use Rattle.natives.specs.Subcommands.{subcommand_reply}
 use Rattle.natives.specs.Pure.{Pure, reply_of}
 use Rattle.natives.specs.Ranges.{range_of}
 

@@ -11,6 +11,7 @@ pub mod Cutting
 pub mod Parts
 pub mod Formatting
 pub mod Strings
+pub mod Subcommands
 pub mod Pure
 pub mod Ranges
 pub mod Names

@@ -9,7 +9,7 @@ use Rattle.natives.specs.Sorting.{lsort_reply}
 use Rattle.natives.specs.Searching.{lsearch_reply}
 use Rattle.natives.specs.Cutting.{split_reply, join_reply}
 use Rattle.natives.specs.Formatting.{format_reply}
-use Rattle.natives.specs.Strings.{string_reply}
+use Rattle.natives.specs.Subcommands.{string_reply}
 
 -- what the command of a name comes to on a list of words, before its length is judged
 unfoldable pub reply_of : Bytes → Words → Reply

@@ -14,24 +14,24 @@ abbrev pub from_to : ℕ → ℕ → Range
 from_to least most = record { least = least; most = most }
 
 -- a command without a limit of its own takes its name and as many words as a run has steps
-abbrev pub most_words : ℕ
-most_words = 200001
+abbrev pub unlimited : ℕ
+unlimited = 200001
 
 -- each command by its name; any other name has no range that a list of words could be in
 unfoldable pub range_of : Bytes → Range
 range_of name =
-    if bytes_eq name (codes "list") then from_to 1 most_words
-    else if bytes_eq name (codes "concat") then from_to 1 most_words
+    if bytes_eq name (codes "list") then from_to 1 unlimited
+    else if bytes_eq name (codes "concat") then from_to 1 unlimited
     else if bytes_eq name (codes "lindex") then exactly 3
     else if bytes_eq name (codes "llength") then exactly 2
     else if bytes_eq name (codes "lrange") then exactly 4
-    else if bytes_eq name (codes "linsert") then from_to 4 most_words
-    else if bytes_eq name (codes "lreplace") then from_to 4 most_words
+    else if bytes_eq name (codes "linsert") then from_to 4 unlimited
+    else if bytes_eq name (codes "lreplace") then from_to 4 unlimited
     else if bytes_eq name (codes "lsearch") then from_to 3 4
     else if bytes_eq name (codes "lsort") then from_to 2 6
     else if bytes_eq name (codes "split") then from_to 2 3
     else if bytes_eq name (codes "join") then from_to 2 3
-    else if bytes_eq name (codes "format") then from_to 2 most_words
+    else if bytes_eq name (codes "format") then from_to 2 unlimited
     else if bytes_eq name (codes "string") then from_to 3 5
     else from_to 1 0
 

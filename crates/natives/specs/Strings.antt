@@ -1,4 +1,4 @@
--- `string` and its subcommands.
+-- What the subcommands of `string` come to.
 use Rattle.std.specs.Prelude.{ℕ, List, [], ◌∷◌, take, drop, length, map, reverse, find, ℤ, pos, negsuc, Bool, nat_lt, Option, None, option_to_list, if◌then◌else◌, codes, decimal, bytes_eq, Ok, Err}
 use Rattle.std.specs.List.{range_with_len, repeat}
 use Rattle.std.specs.Char.{to_ascii_lowercase, to_ascii_uppercase}
@@ -9,7 +9,7 @@ use Rattle.std.specs.Cmp.Lexicographic.{slice_cmp}
 use Rattle.txt_core.specs.Names.{Bytes, Words}
 use Rattle.txt_core.specs.PatternLaws.{matches}
 use Rattle.natives.specs.Answers.{Reply, unless}
-use Rattle.txt_core.specs.ErrorTexts.{wrong_words, unknown_subcommand, bad_value}
+use Rattle.txt_core.specs.ErrorTexts.{wrong_words, bad_value}
 use Rattle.txt_core.specs.Truth.{truth_text}
 use Rattle.natives.specs.Words.{arg, arg_or, usual_chars}
 use Rattle.natives.specs.Checks.{integer_error, integer}
@@ -126,25 +126,3 @@ counted least most words reply =
     if nat_lt (length words) least then Err (wrong_words (codes "string"))
     else if nat_lt most (length words) then Err (wrong_words (codes "string"))
     else reply
-
--- `string`: the subcommand is looked up first, and then its words are counted
-unfoldable pub subcommand_reply : Bytes → Words → Reply
-subcommand_reply name words =
-    if bytes_eq name (codes "length") then counted 3 3 words (length_reply words)
-    else if bytes_eq name (codes "index") then counted 4 4 words (index_reply words)
-    else if bytes_eq name (codes "range") then counted 5 5 words (range_reply words)
-    else if bytes_eq name (codes "compare") then counted 4 4 words (compare_reply words)
-    else if bytes_eq name (codes "equal") then counted 4 4 words (equal_reply words)
-    else if bytes_eq name (codes "first") then counted 4 4 words (first_reply words)
-    else if bytes_eq name (codes "last") then counted 4 4 words (last_reply words)
-    else if bytes_eq name (codes "match") then counted 4 4 words (match_reply words)
-    else if bytes_eq name (codes "tolower") then counted 3 3 words (tolower_reply words)
-    else if bytes_eq name (codes "toupper") then counted 3 3 words (toupper_reply words)
-    else if bytes_eq name (codes "trim") then counted 3 4 words (trim_reply words)
-    else if bytes_eq name (codes "trimleft") then counted 3 4 words (trimleft_reply words)
-    else if bytes_eq name (codes "trimright") then counted 3 4 words (trimright_reply words)
-    else if bytes_eq name (codes "repeat") then counted 4 4 words (repeat_reply words)
-    else Err (unknown_subcommand name (codes "string"))
-
-abbrev pub string_reply : Words → Reply
-string_reply words = subcommand_reply (arg words 1) words

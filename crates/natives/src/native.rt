@@ -10,7 +10,7 @@ use std::alloc::Global;
 use txt_core::{Text, Words};
 
 /// How many words a command takes that has no limit of its own: its name, and as many as a run has steps.
-pub const MOST_WORDS: u32 = 200_001;
+pub const UNLIMITED: u32 = 200_001;
 
 /// A command's function: its words, the command's name first, to its result.
 pub type Call = fn(Global, &Words) -> Result<Text, Fault>;

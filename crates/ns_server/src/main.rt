@@ -32,15 +32,15 @@ macro_rules! add_native {
 /// function is left by what stands last.
 macro_rules! add_natives {
     ($alloc:expr, $natives:ident, $failed:expr) => {
-        add_native!($alloc, $natives, $failed, 0, b"concat", 1, MOST_WORDS, tcl_listcmd::concat_command);
-        add_native!($alloc, $natives, $failed, 1, b"format", 2, MOST_WORDS, tcl_string::format_command);
+        add_native!($alloc, $natives, $failed, 0, b"concat", 1, UNLIMITED, tcl_listcmd::concat_command);
+        add_native!($alloc, $natives, $failed, 1, b"format", 2, UNLIMITED, tcl_string::format_command);
         add_native!($alloc, $natives, $failed, 2, b"join", 2, 3, tcl_string::join_command);
         add_native!($alloc, $natives, $failed, 3, b"lindex", 3, 3, tcl_listcmd::lindex_command);
-        add_native!($alloc, $natives, $failed, 4, b"linsert", 4, MOST_WORDS, tcl_listcmd::linsert_command);
-        add_native!($alloc, $natives, $failed, 5, b"list", 1, MOST_WORDS, tcl_listcmd::list_command);
+        add_native!($alloc, $natives, $failed, 4, b"linsert", 4, UNLIMITED, tcl_listcmd::linsert_command);
+        add_native!($alloc, $natives, $failed, 5, b"list", 1, UNLIMITED, tcl_listcmd::list_command);
         add_native!($alloc, $natives, $failed, 6, b"llength", 2, 2, tcl_listcmd::llength_command);
         add_native!($alloc, $natives, $failed, 7, b"lrange", 4, 4, tcl_listcmd::lrange_command);
-        add_native!($alloc, $natives, $failed, 8, b"lreplace", 4, MOST_WORDS, tcl_listcmd::lreplace_command);
+        add_native!($alloc, $natives, $failed, 8, b"lreplace", 4, UNLIMITED, tcl_listcmd::lreplace_command);
         add_native!($alloc, $natives, $failed, 9, b"lsearch", 3, 4, tcl_listcmd::lsearch_command);
         add_native!($alloc, $natives, $failed, 10, b"lsort", 2, 6, tcl_listcmd::lsort_command);
         add_native!($alloc, $natives, $failed, 11, b"split", 2, 3, tcl_string::split_command);
@@ -64,7 +64,7 @@ use crate::status::Status;
 use crate::streams::{ReaderSource, WriterSink};
 use cmd_table::Steps;
 use log::{Log, info};
-use natives::{MOST_WORDS, Native, Natives};
+use natives::{Native, Natives, UNLIMITED};
 use outside::{Clock, Net, OpenGate, Pages, Sink, Source};
 use serve_options::asked_for;
 use std::alloc::Global;

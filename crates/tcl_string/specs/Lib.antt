@@ -5,4 +5,3 @@ pub mod Joins
 pub mod Keeping
 pub mod Patterns
 pub mod Sets
-pub mod Subcommands

@@ -14,7 +14,6 @@ mod question;
 mod repeating;
 mod searching;
 mod string;
-mod subcommand;
 mod trimming;
 
 pub use cutting::split_command;

@@ -1,6 +1,6 @@
 use Rattle.tcl_string.proofs.Saying.{comes}
-use Rattle.tcl_string.specs.Subcommands.{reply_by}
-use Rattle.tcl_string.specs.declared.subcommand.Subcommand.TheVariants.{Length, Index, Range, Compare, Equal, First, Last, Match, Tolower, Toupper, Trim, Trimleft, Trimright}
+use Rattle.natives.specs.Subcommands.{reply_by}
+use Rattle.natives.specs.declared.subcommand.Subcommand.TheVariants.{Length, Index, Range, Compare, Equal, First, Last, Match, Tolower, Toupper, Trim, Trimleft, Trimright}
 use Rattle.tcl_string.proofs.string.run.Goals as goal
 
 pub returns-in-Length : goal.returns-in-Length

@@ -1,4 +1,4 @@
-use Rattle.natives.specs.Strings.{string_reply}
+use Rattle.natives.specs.Subcommands.{string_reply}
 use Rattle.natives.specs.Pure.{pure_string}
 use Rattle.tcl_string.proofs.Saying.{comes_within}
 use Rattle.tcl_string.proofs.string.string_command.Goals as goal

@@ -3,10 +3,10 @@ use Rattle.std.specs.Prelude.{codes}
 use Rattle.natives.specs.Answers.{Reply, Says}
 use Rattle.txt_core.specs.ErrorTexts.{unknown_subcommand}
 use Rattle.natives.specs.Words.{arg}
-use Rattle.natives.specs.Strings.{string_reply}
+use Rattle.natives.specs.Subcommands.{string_reply}
 use Rattle.tcl_string.specs.Early.{Comes}
-use Rattle.tcl_string.specs.Subcommands.{subcommand_named, reply_named}
-use Rattle.tcl_string.specs.declared.subcommand.Subcommand.{Subcommand}
+use Rattle.natives.specs.Subcommands.{subcommand_named, reply_named}
+use Rattle.natives.specs.declared.subcommand.Subcommand.{Subcommand}
 use Rattle.tcl_string.proofs.Naming.{reply_of_name}
 use Rattle.tcl_string.proofs.Saying.{comes, answers_said}
 use Rattle.tcl_string.proofs.string.string_reply.Goals as goal

@@ -4,7 +4,7 @@ use Rattle.std.proofs.lemmas.Slice.Eq.{bytes_eq-Decides}
 use Rattle.natives.specs.Answers.{Answers, Says, limited}
 use Rattle.txt_core.specs.ErrorTexts.{wrong_words}
 use Rattle.natives.specs.Words.{arg}
-use Rattle.natives.specs.Strings.{subcommand_reply}
+use Rattle.natives.specs.Subcommands.{subcommand_reply}
 use Rattle.natives.specs.Pure.{pure_of, pure_string}
 use Rattle.natives.specs.declared.fault.Fault.{Fault}
 use Rattle.natives.specs.declared.fault.Fault.TheVariants.{Error, NoMemory}

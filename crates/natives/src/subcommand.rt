@@ -1,7 +1,7 @@
 //! The subcommands of `string` by their names, and how many words each takes.
 
 ghost use Rattle.std.specs.Prelude.{◌≡◌, bytes_eq};
-ghost use Rattle.tcl_string.specs.Subcommands.{looking_named, changing_named, subcommand_named, least_words, most_words};
+ghost use Rattle.natives.specs.Subcommands.{looking_named, changing_named, subcommand_named, least_words, most_words};
 
 /// A subcommand of `string`.
 #[derive(Clone, Copy)]

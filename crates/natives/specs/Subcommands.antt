@@ -1,11 +1,12 @@
--- The subcommands of `string`.
+-- `string`, by the subcommands that it has.
 use Rattle.std.specs.Prelude.{ℕ, Option, None, Some, codes, bytes_eq, if◌then◌else◌, Err}
 use Rattle.txt_core.specs.Names.{Bytes, Words}
 use Rattle.natives.specs.Answers.{Reply}
+use Rattle.natives.specs.Words.{arg}
 use Rattle.txt_core.specs.ErrorTexts.{unknown_subcommand}
 use Rattle.natives.specs.Strings.{counted, length_reply, index_reply, range_reply, compare_reply, equal_reply, first_reply, last_reply, match_reply, tolower_reply, toupper_reply, trim_reply, trimleft_reply, trimright_reply, repeat_reply}
-use Rattle.tcl_string.specs.declared.subcommand.Subcommand.{Subcommand}
-use Rattle.tcl_string.specs.declared.subcommand.Subcommand.TheVariants.{Length, Index, Range, Compare, Equal, First, Last, Match, Tolower, Toupper, Trim, Trimleft, Trimright, Repeat}
+use Rattle.natives.specs.declared.subcommand.Subcommand.{Subcommand}
+use Rattle.natives.specs.declared.subcommand.Subcommand.TheVariants.{Length, Index, Range, Compare, Equal, First, Last, Match, Tolower, Toupper, Trim, Trimleft, Trimright, Repeat}
 
 -- the subcommand that looks at texts, of a name
 abbrev pub looking_named : Bytes → Option Subcommand
@@ -93,3 +94,10 @@ reply_by Repeat words = repeat_reply words
 abbrev pub reply_named : Option Subcommand → Bytes → Words → Reply
 reply_named None name words = Err (unknown_subcommand name (codes "string"))
 reply_named (Some subcommand) name words = counted (least_words subcommand) (most_words subcommand) words (reply_by subcommand words)
+
+-- `string`: the subcommand is looked up first, and then its words are counted
+unfoldable pub subcommand_reply : Bytes → Words → Reply
+subcommand_reply name words = reply_named (subcommand_named name) name words
+
+abbrev pub string_reply : Words → Reply
+string_reply words = subcommand_reply (arg words 1) words
