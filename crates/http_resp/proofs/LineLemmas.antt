@@ -1,14 +1,14 @@
 -- The head of a response is lines that hold no line end.
-use Rattle.std.proofs.Common.{◌≡◌, ℕ, zero, suc, ◌+◌, ◌/◌, ◌%◌, ◌<◌, ◌≤◌, Bool, true, false, ◌&&◌, List, [], ◌∷◌, ◌++◌, map, length, codes, decimal, if◌then◌else◌, refl, ap, sym, ◌∙◌, append-nil, append_assoc, arith, get_or, min}
+use Rattle.std.proofs.Common.{◌≡◌, ℕ, zero, suc, ◌+◌, ◌/◌, ◌%◌, ◌<◌, ◌≤◌, Bool, true, false, ◌&&◌, List, [], ◌∷◌, ◌++◌, map, length, codes, decimal, if◌then◌else◌, refl, ap, ◌∙◌, arith, get_or, min}
 use Rattle.std.specs.Prelude.{filter, ◌==◌}
-use Rattle.std.specs.List.{list_all, flat_map}
+use Rattle.std.specs.List.{list_all}
 use Rattle.std.specs.Fmt.{digits, digits_onto, digit_glyph}
 use Rattle.std.proofs.lemmas.Bool.Decides.{nat_tests}
 use Rattle.std.proofs.lemmas.List.Folds.{list_all-append}
 use Rattle.http_header.specs.Token.{is_value_byte, is_token_byte, token_test}
-use Rattle.http_resp.specs.OutputFields.{field_line, output_lines, is_sent}
+use Rattle.http_resp.specs.OutputFields.{field_line, field_lines, is_sent}
 use Rattle.http_resp.specs.StatusLine.{reason, status_line}
-use Rattle.http_resp.specs.ResponseBytes.{has_content, content_lines, connection_line, head_bytes}
+use Rattle.http_resp.specs.ResponseBytes.{has_content, content_fields, connection_field, head_fields, head_bytes}
 use Rattle.std.proofs.lemmas.Bool.{and_parts}
 use Rattle.std.proofs.Common.{cond, ◌-◌}
 use Rattle.httpdate.specs.Calendar.{days_in_month}
@@ -19,28 +19,16 @@ use Rattle.http_header.proofs.TokenLemmas.{token_byte_range}
 use Rattle.http_resp.specs.Moment.{fixdate, parts_at}
 use Rattle.txt_core.specs.Limits.{last_moment}
 use Rattle.http_resp.proofs.MomentLemmas.{parts_hold}
-use Rattle.http_resp.specs.Lines.{holds_no_line_end, with_ends, field_text, content_texts, head_lines, IsInLines}
+use Rattle.http_resp.specs.Lines.{holds_no_line_end, with_ends, field_text, head_lines, IsInLines}
 use Rattle.http_resp.specs.declared.response.Response.{Response}
 
-with_ends_append : (xs ys : List (List ℕ)) → with_ends (xs ++ ys) ≡ with_ends xs ++ with_ends ys
-with_ends_append [] ys = refl
-with_ends_append (x ∷ xs) ys = ap (λ l. (x ++ codes "\r\n") ++ l) (with_ends_append xs ys) ∙ sym (append_assoc (x ++ codes "\r\n") (with_ends xs) (with_ends ys))
-
-with_ends_fields : (fields : List (List ℕ × List ℕ)) → flat_map (λ (field : List ℕ × List ℕ). field_line field.0 field.1) fields ≡ with_ends (map (λ (field : List ℕ × List ℕ). field_text field.0 field.1) fields)
+with_ends_fields : (fields : List (List ℕ × List ℕ)) → field_lines fields ≡ with_ends (map field_text fields)
 unfolding field_line
 with_ends_fields [] = refl
 with_ends_fields (field ∷ fields) = ap (λ l. field_line field.0 field.1 ++ l) (with_ends_fields fields)
 
-content_whole : (response : Response) (content : Bool) → has_content response.status ≡ content → content_lines response ≡ with_ends (content_texts response)
-unfolding content_lines field_line
-content_whole response true is = rw (is, append-nil) refl
-content_whole response false is = rw is refl
-
 both : (xs ys : List ℕ) → holds_no_line_end xs ≡ true → holds_no_line_end ys ≡ true → holds_no_line_end (xs ++ ys) ≡ true
 both xs ys a b = list_all-append is_value_byte xs ys ∙ cc
-
-all_both : (xs ys : List (List ℕ)) → list_all holds_no_line_end xs ≡ true → list_all holds_no_line_end ys ≡ true → list_all holds_no_line_end (xs ++ ys) ≡ true
-all_both xs ys a b = list_all-append holds_no_line_end xs ys ∙ cc
 
 digit_unbroken : (digit : ℕ) → digit < 10 → is_value_byte (digit_glyph false digit) ≡ true
 digit_unbroken digit h = grind (arith, nat_tests)
@@ -117,58 +105,51 @@ token_unbroken (b ∷ name) is =
     let parts = and_parts _ _ is in
     and_true _ _ (token_is_value b parts.0) (token_unbroken name parts.1)
 
-field_unbroken : (field : List ℕ × List ℕ) → is_sent field ≡ true → holds_no_line_end (field_text field.0 field.1) ≡ true
+field_unbroken : (field : List ℕ × List ℕ) → is_sent field ≡ true → holds_no_line_end (field_text field) ≡ true
 field_unbroken field sent =
     let fit = and_parts _ _ (and_parts _ _ sent).0 in
     let name = and_parts _ _ (and_parts _ _ fit.0).0 in
     both (field.0 ++ codes ": ") field.1 (both field.0 (codes ": ") (token_unbroken field.0 name.1) refl) fit.1
 
 fields_step : (sent : Bool) (field : List ℕ × List ℕ) (others : List (List ℕ × List ℕ)) → is_sent field ≡ sent
-    → list_all holds_no_line_end (map (λ (f : List ℕ × List ℕ). field_text f.0 f.1) others) ≡ true
-    → list_all holds_no_line_end (map (λ (f : List ℕ × List ℕ). field_text f.0 f.1) (cond sent (field ∷ others) others)) ≡ true
+    → list_all holds_no_line_end (map field_text others) ≡ true
+    → list_all holds_no_line_end (map field_text (cond sent (field ∷ others) others)) ≡ true
 fields_step true field others is rest = and_true _ _ (field_unbroken field is) rest
 fields_step false field others is rest = rest
 
-fields_unbroken : (fields : List (List ℕ × List ℕ)) → list_all holds_no_line_end (map (λ (field : List ℕ × List ℕ). field_text field.0 field.1) (filter is_sent fields)) ≡ true
+fields_unbroken : (fields : List (List ℕ × List ℕ)) → list_all holds_no_line_end (map field_text (filter is_sent fields)) ≡ true
 fields_unbroken [] = refl
 fields_unbroken (field ∷ fields) = fields_step (is_sent field) field (filter is_sent fields) refl (fields_unbroken fields)
 
-content_unbroken : (response : Response) (content : Bool) → has_content response.status ≡ content → holds_no_line_end response.kind ≡ true → list_all holds_no_line_end (content_texts response) ≡ true
+content_unbroken : (response : Response) (content : Bool) → has_content response.status ≡ content → holds_no_line_end response.kind ≡ true → list_all holds_no_line_end (map field_text (content_fields response)) ≡ true
+unfolding content_fields
 content_unbroken response true is kind =
     rw is (and_true _ _ (both (codes "Content-Type: ") response.kind refl kind) (and_true _ _ (both (codes "Content-Length: ") (decimal (length response.body)) refl (decimal_unbroken (length response.body))) refl))
 content_unbroken response false is kind = rw is refl
 
-connection_unbroken : (close : Bool) → holds_no_line_end (field_text (codes "Connection") (if close then codes "close" else codes "keep-alive")) ≡ true
+connection_unbroken : (close : Bool) → holds_no_line_end (field_text (connection_field close)) ≡ true
 connection_unbroken true = refl
 connection_unbroken false = refl
 
-glued : (status date server output content connection end : List ℕ)
-    → status ++ date ++ server ++ output ++ content ++ connection ++ end ≡ (status ++ (date ++ (server ++ ((output ++ content) ++ (connection ++ []))))) ++ end
-glued status date server output content connection end = simp (append_assoc, append-nil)
-
-lines_behind : (output content : List ℕ) (outputs contents lasts : List (List ℕ)) → output ≡ with_ends outputs → content ≡ with_ends contents
-    → (output ++ content) ++ with_ends lasts ≡ with_ends ((outputs ++ contents) ++ lasts)
-lines_behind output content outputs contents lasts o c =
-    ap (λ l. (l ++ content) ++ with_ends lasts) o ∙ (ap (λ l. (with_ends outputs ++ l) ++ with_ends lasts) c
-    ∙ (ap (λ l. l ++ with_ends lasts) (sym (with_ends_append outputs contents)) ∙ sym (with_ends_append (outputs ++ contents) lasts)))
+texts_append : (xs ys : List (List ℕ × List ℕ)) → list_all holds_no_line_end (map field_text xs) ≡ true → list_all holds_no_line_end (map field_text ys) ≡ true → list_all holds_no_line_end (map field_text (xs ++ ys)) ≡ true
+texts_append [] ys a b = b
+texts_append (x ∷ xs) ys a b =
+    let parts = and_parts _ _ a in
+    and_true _ _ parts.0 (texts_append xs ys parts.1 b)
 
 head_whole : (response : Response) (moment : ℕ) (close : Bool) → head_bytes response moment close ≡ with_ends (head_lines response moment close) ++ codes "\r\n"
-unfolding head_bytes status_line field_line output_lines connection_line
-head_whole response moment close =
-    let option = if close then codes "close" else codes "keep-alive" in
-    let behind = lines_behind (output_lines response.fields) (content_lines response) (map (λ (field : List ℕ × List ℕ). field_text field.0 field.1) (filter is_sent response.fields)) (content_texts response) (field_text (codes "Connection") option ∷ []) (with_ends_fields (filter is_sent response.fields)) (content_whole response (has_content response.status) refl) in
-    glued (status_line response.status) (field_line (codes "Date") (fixdate moment)) (field_line (codes "Server") (codes "AOLserver-profile/1")) (output_lines response.fields) (content_lines response) (connection_line close) (codes "\r\n")
-    ∙ ap (λ l. (status_line response.status ++ (field_line (codes "Date") (fixdate moment) ++ (field_line (codes "Server") (codes "AOLserver-profile/1") ++ l))) ++ codes "\r\n") behind
+unfolding head_bytes status_line
+head_whole response moment close = ap (λ l. (status_line response.status ++ l) ++ codes "\r\n") (with_ends_fields (head_fields response moment close))
 
 pub in_lines : (response : Response) (moment : ℕ) (close : Bool) → holds_no_line_end response.kind ≡ true → IsInLines response moment close
 in_lines response moment close kind =
-    let outputs = map (λ (field : List ℕ × List ℕ). field_text field.0 field.1) (filter is_sent response.fields) in
+    let outputs = filter is_sent response.fields in
     record {
       whole = head_whole response moment close;
       unbroken =
           and_true _ _ (both (decimal response.status ++ codes " ") (reason response.status) (both (decimal response.status) (codes " ") (decimal_unbroken response.status) refl) (reason_unbroken response.status))
           (and_true _ _ (fixdate_unbroken moment)
-          (all_both (outputs ++ content_texts response) (field_text (codes "Connection") (if close then codes "close" else codes "keep-alive") ∷ [])
-          (all_both outputs (content_texts response) (fields_unbroken response.fields) (content_unbroken response (has_content response.status) refl kind))
+          (texts_append (outputs ++ content_fields response) (connection_field close ∷ [])
+          (texts_append outputs (content_fields response) (fields_unbroken response.fields) (content_unbroken response (has_content response.status) refl kind))
           (and_true _ _ (connection_unbroken close) refl)));
     }

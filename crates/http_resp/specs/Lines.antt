@@ -1,12 +1,10 @@
 -- The head of a response as lines.
-use Rattle.std.specs.Prelude.{◌≡◌, Bool, IsTrue, [], ◌∷◌, ◌++◌, length, codes, decimal, filter, map, if◌then◌else◌}
+use Rattle.std.specs.Prelude.{◌≡◌, Bool, IsTrue, ◌∷◌, ◌++◌, codes, map}
 use Rattle.std.specs.List.{list_all, flat_map}
 use Rattle.http_header.specs.Token.{is_value_byte}
 use Rattle.txt_core.specs.Names.{Bytes, Words, Moment}
-use Rattle.http_resp.specs.Moment.{fixdate}
-use Rattle.http_resp.specs.OutputFields.{is_sent}
 use Rattle.http_resp.specs.StatusLine.{status_text}
-use Rattle.http_resp.specs.ResponseBytes.{has_content, head_bytes}
+use Rattle.http_resp.specs.ResponseBytes.{head_bytes, head_fields}
 use Rattle.http_resp.specs.declared.response.Response.{Response}
 
 -- No byte is 127 or one below 32 other than tab; so none is a carriage return, a line feed or a NUL.
@@ -17,24 +15,13 @@ holds_no_line_end bytes = list_all is_value_byte bytes
 abbrev pub with_ends : Words → Bytes
 with_ends lines = flat_map (λ line. line ++ codes "\r\n") lines
 
-abbrev pub field_text : Bytes → Bytes → Bytes
-field_text name value = name ++ codes ": " ++ value
-
-abbrev pub content_texts : Response → Words
-content_texts response =
-    if has_content response.status
-    then field_text (codes "Content-Type") response.kind ∷ field_text (codes "Content-Length") (decimal (length response.body)) ∷ []
-    else []
+abbrev pub field_text : Bytes × Bytes → Bytes
+field_text field = field.0 ++ codes ": " ++ field.1
 
 -- The lines of a head before the empty one.
 abbrev pub head_lines : Response → Moment → Bool → Words
 head_lines response moment close =
-    (codes "HTTP/1.1 " ++ status_text response.status)
-    ∷ field_text (codes "Date") (fixdate moment)
-    ∷ field_text (codes "Server") (codes "AOLserver-profile/1")
-    ∷ map (λ (field : Bytes × Bytes). field_text field.0 field.1) (filter is_sent response.fields)
-    ++ content_texts response
-    ++ field_text (codes "Connection") (if close then codes "close" else codes "keep-alive") ∷ []
+    (codes "HTTP/1.1 " ++ status_text response.status) ∷ map field_text (head_fields response moment close)
 
 -- The head is these lines and an empty one, and no line holds the end of a line.
 pub record IsInLines (response : Response) (moment : Moment) (close : Bool) : Type 0 where

@@ -9,6 +9,10 @@ use Rattle.txt_core.specs.Names.{Bytes, Words, Pairs}
 unfoldable pub field_line : Bytes → Bytes → Bytes
 field_line name value = name ++ codes ": " ++ value ++ codes "\r\n"
 
+-- The lines of fields, in their order.
+abbrev pub field_lines : Pairs → Bytes
+field_lines fields = flat_map (λ (field : Bytes × Bytes). field_line field.0 field.1) fields
+
 -- The names of the fields that the server writes itself, or never, in lower case.
 abbrev pub own_names : Words
 own_names =
@@ -26,4 +30,4 @@ is_sent field = is_field_name field.0 && list_all is_value_byte field.1 && not (
 
 -- Those that are sent, in their order; the others are left out.
 unfoldable pub output_lines : Pairs → Bytes
-output_lines fields = flat_map (λ field. field_line field.0 field.1) (filter is_sent fields)
+output_lines fields = field_lines (filter is_sent fields)

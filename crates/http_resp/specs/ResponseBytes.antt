@@ -1,8 +1,8 @@
 -- The bytes of a response.
-use Rattle.std.specs.Prelude.{ℕ, ◌==◌, Bool, ◌||◌, not, [], ◌++◌, length, codes, decimal, if◌then◌else◌}
-use Rattle.txt_core.specs.Names.{Bytes, Moment}
+use Rattle.std.specs.Prelude.{ℕ, ◌==◌, Bool, ◌||◌, not, [], ◌∷◌, ◌++◌, length, codes, decimal, filter, if◌then◌else◌}
+use Rattle.txt_core.specs.Names.{Bytes, Moment, Pairs}
 use Rattle.http_resp.specs.Moment.{fixdate}
-use Rattle.http_resp.specs.OutputFields.{field_line, output_lines}
+use Rattle.http_resp.specs.OutputFields.{field_lines, is_sent}
 use Rattle.http_resp.specs.StatusLine.{status_line}
 use Rattle.http_resp.specs.declared.response.Response.{Response}
 
@@ -12,25 +12,33 @@ has_content status = not (status == 204 || status == 304)
 
 -- What the content is, where there may be any. The length is the body's, also where only the head is
 -- sent (RFC 9110, section 8.6).
-unfoldable pub content_lines : Response → Bytes
-content_lines response =
+unfoldable pub content_fields : Response → Pairs
+content_fields response =
     if has_content response.status
-    then field_line (codes "Content-Type") response.kind ++ field_line (codes "Content-Length") (decimal (length response.body))
+    then (codes "Content-Type", response.kind) ∷ (codes "Content-Length", decimal (length response.body)) ∷ []
     else []
 
-unfoldable pub connection_line : Bool → Bytes
-connection_line close = field_line (codes "Connection") (if close then codes "close" else codes "keep-alive")
+-- What the server calls itself.
+abbrev pub server_name : Bytes
+server_name = codes "AOLserver-profile/1"
 
--- The head: the status line, the fields in this order and an empty line.
+-- Whether the connection stays open.
+abbrev pub connection_field : Bool → Bytes × Bytes
+connection_field close = (codes "Connection", if close then codes "close" else codes "keep-alive")
+
+-- The fields of a head, in this order.
+abbrev pub head_fields : Response → Moment → Bool → Pairs
+head_fields response moment close =
+    (codes "Date", fixdate moment)
+    ∷ (codes "Server", server_name)
+    ∷ filter is_sent response.fields
+    ++ content_fields response
+    ++ connection_field close ∷ []
+
+-- The head: the status line, the fields and an empty line.
 unfoldable pub head_bytes : Response → Moment → Bool → Bytes
 head_bytes response moment close =
-    status_line response.status
-    ++ field_line (codes "Date") (fixdate moment)
-    ++ field_line (codes "Server") (codes "AOLserver-profile/1")
-    ++ output_lines response.fields
-    ++ content_lines response
-    ++ connection_line close
-    ++ codes "\r\n"
+    status_line response.status ++ field_lines (head_fields response moment close) ++ codes "\r\n"
 
 -- The head and then the body, or the head alone where the request asks for no more or the status has
 -- no content.

@@ -1,8 +1,8 @@
 //! The bytes of a response.
 
 ghost use Rattle.std.specs.Prelude.{◌≡◌, ◌++◌, IfOk, OnOk, MatchOption, codes};
-ghost use Rattle.http_resp.specs.OutputFields.{field_line};
-ghost use Rattle.http_resp.specs.ResponseBytes.{response_bytes, head_bytes, content_lines, connection_line, has_content};
+ghost use Rattle.http_resp.specs.OutputFields.{field_line, field_lines};
+ghost use Rattle.http_resp.specs.ResponseBytes.{response_bytes, head_bytes, content_fields, connection_field, server_name, has_content};
 ghost use Rattle.http_resp.specs.StatusLine.{reason, status_text, status_line};
 
 use crate::date::fixdate;
@@ -87,7 +87,8 @@ fn has_content(status: u16) -> bool
 
 /// Appends the fields that say what the content is, where there may be any.
 fn push_content_fields(text: &mut Vec<u8>, response: &Response) -> Result<(), AllocError>
-    ensures { OnOk result (text.new.items ≡ text.old.items ++ content_lines response.now) }
+    ensures { OnOk result
+        (text.new.items ≡ text.old.items ++ field_lines (content_fields response.now)) }
 {
     if !has_content(response.status) {
         return Ok(());
@@ -103,9 +104,9 @@ fn push_content_fields(text: &mut Vec<u8>, response: &Response) -> Result<(), Al
 }
 
 /// The field that says whether the connection stays open.
-#[tactic(auto, unfolding(crate::specs::ResponseBytes::connection_line, crate::specs::OutputFields::field_line))]
+#[tactic(auto, unfolding(crate::specs::OutputFields::field_line))]
 fn connection_line(close: bool) -> &'static [u8]
-    ensures { result.now ≡ connection_line close }
+    ensures { result.now ≡ field_line (connection_field close).0 (connection_field close).1 }
 {
     if close {
         return b"Connection: close\r\n";
@@ -117,8 +118,7 @@ fn connection_line(close: bool) -> &'static [u8]
 #[tactic(auto, unfolding(crate::specs::OutputFields::field_line))]
 fn push_server_field(text: &mut Vec<u8>) -> Result<(), AllocError>
     ensures { OnOk result
-        (text.new.items
-        ≡ text.old.items ++ field_line (codes "Server") (codes "AOLserver-profile/1")) }
+        (text.new.items ≡ text.old.items ++ field_line (codes "Server") server_name) }
 {
     text.extend_from_slice(b"Server: AOLserver-profile/1\r\n")
 }
