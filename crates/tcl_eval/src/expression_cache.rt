@@ -11,8 +11,8 @@ use std::num::NonZeroUsize;
 use std::rc::Rc;
 use txt_core::{NoMemory, Text};
 
-/// How many texts are kept, beside those at the places.
-const MOST_KEPT: usize = 512;
+/// How many scripts an engine keeps by their texts, and how many expressions, beside the latest of each.
+pub(crate) const MOST_KEPT: usize = 512;
 
 /// How many bytes a text has at most whose script or expression is kept. A longer one is read each time.
 pub(crate) const MOST_KEPT_BYTES: usize = 4_096;

@@ -9,7 +9,7 @@ ghost use Rattle.tcl_eval.specs.Short.{most_kept_bytes};
 ghost use Rattle.tcl_eval.specs.declared.engine.OpenQuestion.{OpenQuestion};
 
 use crate::engine::Engine;
-use crate::expression_cache::{Expressions, MOST_KEPT_BYTES};
+use crate::expression_cache::{Expressions, MOST_KEPT, MOST_KEPT_BYTES};
 use crate::latest::{Latest, find_latest, put_latest};
 use crate::message::script_fault;
 use crate::read_expr::ReadExpr;
@@ -22,9 +22,6 @@ use std::marker::Model;
 use std::rc::Rc;
 use tcl_host::Host;
 use txt_core::{NoMemory, Text, Words};
-
-/// How many scripts an engine keeps by their texts, beside those that it ran most lately.
-const SCRIPTS: usize = 512;
 
 /// The scripts and the expressions that an engine keeps by their texts, scripts from its first start
 /// on. Contracts see nothing of them, as what is kept changes no run.
@@ -58,7 +55,7 @@ impl Readings {
     /// Begins to keep scripts, where that hasn't begun. The only error is want of memory.
     pub(crate) fn begin(&mut self, alloc: Global) -> Result<(), NoMemory> {
         if self.scripts.is_none() {
-            let scripts = Cache::new(alloc, SCRIPTS)?;
+            let scripts = Cache::new(alloc, MOST_KEPT)?;
             self.scripts = Some(scripts);
         }
         Ok(())
