@@ -19,7 +19,8 @@ use Rattle.ictl.specs.Settle.{Run, Settled, account_of, settle}
 use Rattle.ictl.specs.Defines.{define_end, no_inner}
 use Rattle.ictl.specs.Fresh.{state_on, request_state, script_state, define_state, outset}
 use Rattle.ictl.specs.Visits.{filter_calls, authoriser, authorisation, serving_by, visit_of, cleanups_of}
-use Rattle.ictl.specs.Main.{Progress, Stretch, run_budget, run_questions, first_depth, full, visited, scripts, script_end, defined_end, Main, Script, Define, traces_from, behind}
+use Rattle.txt_core.specs.Limits.{run_budget}
+use Rattle.ictl.specs.Main.{Progress, Stretch, run_questions, first_depth, full, visited, scripts, script_end, defined_end, Main, Script, Define, traces_from, behind}
 use Rattle.ictl.specs.Interps.{interp_state, IsSound, IsFresh, IsNew, Holds}
 use Rattle.ictl.specs.declared.settling.Settling.{Settling}
 use Rattle.ictl.specs.declared.visit.Visit.{Visit}

@@ -20,7 +20,8 @@ use Rattle.ictl.specs.Fresh.{build_steps, define_state, outset}
 use Rattle.ictl.specs.Settle.{Run, account_of, Settled, ended, asking, exhausted, nested, Defined, said, stands, gone, sunk, behind_inner, settle}
 use Rattle.ictl.specs.Defines.{inner_runs, no_inner, define_end}
 use Rattle.http_resp.specs.declared.response.Response.{Response}
-use Rattle.ictl.specs.Main.{Progress, Define as define_run, run_questions, run_budget, first_depth, asks, writes, defined_end, runs}
+use Rattle.txt_core.specs.Limits.{run_budget}
+use Rattle.ictl.specs.Main.{Progress, Define as define_run, run_questions, first_depth, asks, writes, defined_end, runs}
 use Rattle.ictl.specs.declared.ending.Ending.{Ending}
 use Rattle.ictl.specs.declared.defining.DefineRun.{DefineRun}
 use Rattle.ictl.specs.Standing.{state_of, comes_to, onward, written, inner_written, define_at, define_gives, settling_at}

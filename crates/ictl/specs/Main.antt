@@ -1,6 +1,7 @@
 -- The runs of an interpreter: a request up to its response and behind it, a scheduled script, and a definition run.
 use Rattle.std.specs.Prelude.{ℕ, List, [], ◌∷◌, Bool, true, false, codes, Option, Some, None}
 use Rattle.txt_core.specs.Names.{Bytes, Words, Names, Moment}
+use Rattle.txt_core.specs.Limits.{run_budget}
 use Rattle.outside.specs.declared.question.Answer.{Answer}
 use Rattle.outside.specs.declared.question.Answer.TheVariants as kinds
 use Rattle.outside.specs.declared.question.Question.{Question}
@@ -45,11 +46,8 @@ pub data Progress : Type 0 where
   -- it has ended, and these answers are left
   ends : (outcome : Outcome) (state : State HostState) (inside : ℕ) (left : List Answer) → Progress
 
--- what a run may spend: a request up to its response, and anew behind it; a scheduled script; a definition run in all
-abbrev pub run_budget : ℕ
-run_budget = 200000
-
--- how many questions it may ask in that: eight for each command, and one more
+-- how many questions a run may ask in its budget, which is that of a request up to its response, and anew behind it, of a
+-- scheduled script, and of a definition run in all: eight for each command, and one more
 abbrev pub run_questions : ℕ
 run_questions = 1800000
 

@@ -42,11 +42,8 @@ use tcl_eval::{Outcome, made_grows};
 use txt_core::{NoMemory, Text, Words};
 use url_tables::Routes;
 
-/// What a run may spend: a request up to its response, and anew behind it; a scheduled script; a
-/// definition run in all.
-pub const RUN_BUDGET: u64 = 200_000;
-
-/// How many questions it may ask in that. It never asks so many: each command that asks is paid for, and
+/// How many questions a run may ask in its budget, which is that of a request up to its response, and
+/// anew behind it, of a scheduled script, and of a definition run in all. It never asks so many: each command that asks is paid for, and
 /// asks eight times at most.
 pub const RUN_QUESTIONS: u64 = 1_800_000;
 

@@ -20,7 +20,7 @@ ghost use Rattle.ictl.specs.Falls.{IsReady, DefineStopAsks, DefineFalls, IsAskin
 
 use crate::defining::{DefineRun, DefineStop};
 use crate::ending::{Ending, Verdict, answered, both, verdict_of};
-use crate::interp::{Interp, RUN_BUDGET, RUN_QUESTIONS};
+use crate::interp::{Interp, RUN_QUESTIONS};
 use crate::next::Next;
 use crate::serving::words_at;
 use crate::settling::FIRST_DEPTH;
@@ -36,7 +36,7 @@ use std::mem;
 use std::sync::ledger::Ledger;
 use tcl_eval::{Outcome, Work, made_grows};
 use tcl_host::{ERROR, OK};
-use txt_core::{NoMemory, Text, Words};
+use txt_core::{NoMemory, RUN_BUDGET, Text, Words};
 
 /// A copy of the text at a place, or none past the end.
 fn text_at(alloc: Global, list: &Words, at: usize) -> Result<Option<Text>, NoMemory>

@@ -1,6 +1,7 @@
 -- How many words the commands take, the name among them.
-use Rattle.std.specs.Prelude.{ℕ, ◌≤◌, length, if◌then◌else◌, codes, bytes_eq}
+use Rattle.std.specs.Prelude.{ℕ, ◌+◌, ◌≤◌, length, if◌then◌else◌, codes, bytes_eq}
 use Rattle.txt_core.specs.Names.{Bytes, Words}
+use Rattle.txt_core.specs.Limits.{run_budget}
 
 -- the least and the most words of a command
 pub record Range : Type 0 where
@@ -13,9 +14,9 @@ exactly count = record { least = count; most = count }
 abbrev pub from_to : ℕ → ℕ → Range
 from_to least most = record { least = least; most = most }
 
--- a command without a limit of its own takes its name and as many words as a run has steps
+-- a command without a limit of its own takes its name and as many words as a run may spend
 abbrev pub unlimited : ℕ
-unlimited = 200001
+unlimited = run_budget + 1
 
 -- each command by its name; any other name has no range that a list of words could be in
 unfoldable pub range_of : Bytes → Range

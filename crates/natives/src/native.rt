@@ -7,10 +7,10 @@ ghost use Rattle.natives.specs.Ranges.{range_of, InRange};
 
 use crate::fault::Fault;
 use std::alloc::Global;
-use txt_core::{Text, Words};
+use txt_core::{RUN_BUDGET, Text, Words};
 
-/// How many words a command takes that has no limit of its own: its name, and as many as a run has steps.
-pub const UNLIMITED: u32 = 200_001;
+/// How many words a command takes that has no limit of its own: its name, and as many as a run may spend.
+pub const UNLIMITED: u32 = RUN_BUDGET as u32 + 1;
 
 /// A command's function: its words, the command's name first, to its result.
 pub type Call = fn(Global, &Words) -> Result<Text, Fault>;

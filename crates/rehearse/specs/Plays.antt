@@ -3,6 +3,7 @@ use Rattle.std.specs.Prelude.{◌≡◌, ℕ, ◌<◌, ◌≤◌, List, [], ◌�
 use Rattle.std.specs.FinMap as map
 use Rattle.std.specs.List.{list_any}
 use Rattle.txt_core.specs.Names.{Bytes, Names, Moment}
+use Rattle.txt_core.specs.Paths.{slash}
 use Rattle.txt_core.specs.Limits.{last_moment}
 use Rattle.rehearse.specs.Events.{Actor, worker, scheduler, Event, workers, clock, page, define, connect, step, run, most_page, most_block, most_input, most_workers}
 use Rattle.rehearse.specs.Lines.{Line}
@@ -21,7 +22,7 @@ is_break byte = byte == 32 || byte == 10
 
 -- a path is a word that begins with a slash
 abbrev pub IsPath : Bytes → Type 0
-IsPath path = (rest : Bytes) × (path ≡ 47 ∷ rest) × (list_any is_break rest ≡ false)
+IsPath path = (rest : Bytes) × (path ≡ slash ∷ rest) × (list_any is_break rest ≡ false)
 
 -- the scheduler is always there, and a worker where its number is below that of the workers
 abbrev pub IsThere : World → Actor → Type 0

@@ -2,6 +2,7 @@
 use Rattle.std.specs.Prelude.{◌≡◌, ℕ, ◌+◌, ◌≤◌, [], ◌∷◌, ◌++◌, length, Bool, not, ◌==◌, IsTrue, Option, Some, None, decimal, codes}
 use Rattle.std.specs.List.{list_all, join_with_byte}
 use Rattle.txt_core.specs.Names.{Bytes, Words}
+use Rattle.txt_core.specs.Paths.{slash}
 use Rattle.rehearse.specs.declared.event.Event as code_event
 use Rattle.rehearse.specs.declared.event.Event.TheVariants as code_events
 use Rattle.rehearse.specs.declared.head.Actor as code_actor
@@ -48,7 +49,7 @@ IsActor actor word = IsShortActor (actor_of actor) × (word ≡ actor_word (acto
 
 -- a slash stands in front, and no space behind it
 abbrev pub IsPathWord : Bytes → Type 0
-IsPathWord path = (rest : Bytes) × (path ≡ 47 ∷ rest) × IsTrue (list_all (is_other 32) rest)
+IsPathWord path = (rest : Bytes) × (path ≡ slash ∷ rest) × IsTrue (list_all (is_other 32) rest)
 
 -- the words of the line
 abbrev pub head_words : Head → Words

@@ -2,7 +2,7 @@
 use Rattle.std.specs.Prelude.{ℕ, Bool, not, ◌||◌, ◌==◌, [], ◌∷◌, codes, bytes_eq, if◌then◌else◌}
 use Rattle.std.specs.List.{list_any, slice_split}
 use Rattle.txt_core.specs.Names.{Bytes}
-pub use Rattle.txt_core.specs.Paths.{is_slash}
+pub use Rattle.txt_core.specs.Paths.{is_slash, slash}
 
 -- a path without the slash that it may begin with
 abbrev pub behind_slash : Bytes → Bytes
@@ -11,7 +11,7 @@ behind_slash (byte ∷ path) = if is_slash byte then path else byte ∷ path
 
 -- what is written, with a slash put in front where it lacks one
 abbrev pub page_path : Bytes → Bytes
-page_path written = 47 ∷ behind_slash written
+page_path written = slash ∷ behind_slash written
 
 -- a backslash, or byte 0
 abbrev pub is_bad_byte : ℕ → Bool

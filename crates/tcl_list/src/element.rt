@@ -4,7 +4,6 @@ ghost use Rattle.std.specs.Prelude.{◌≡◌, ◌<◌, ◌≤◌, false, length
 ghost use Rattle.txt_core.specs.Lists.{ends_element, next, BytesAt};
 ghost use Rattle.tcl_list.specs.Answers.{step_of, IsShorter};
 
-use crate::gap::is_blank_or_newline;
 use std::alloc::{AllocError, Global};
 use txt_core::{Form, read_escape};
 
@@ -26,7 +25,7 @@ fn next(quoted: bool, bytes: &[u8]) -> Step<'_>
     match bytes.split_first() {
         None => Step::Ends,
         Some((b, tail)) => {
-            if quoted && *b == b'"' || !quoted && is_blank_or_newline(*b) {
+            if quoted && *b == b'"' || !quoted && is_space(*b) {
                 Step::Ends
             } else if *b == b'\\' {
                 let (form, rest) = read_escape(tail);

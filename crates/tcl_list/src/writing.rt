@@ -7,15 +7,14 @@ ghost use Rattle.tcl_list.specs.Manners.{written_by};
 ghost use Rattle.txt_core.specs.Quoting.{is_special, letter_of, with_backslashes, escaped, written, quoting};
 
 use crate::brace::Nesting;
-use crate::gap::{FORM_FEED, VERTICAL_TAB, is_blank_or_newline};
 use std::alloc::{AllocError, Global};
-use txt_core::{Known, NoMemory, Text, Words};
+use txt_core::{Known, NoMemory, Text, Words, is_space};
 
 /// Whether the byte keeps an element from standing as itself.
 fn special(b: u8) -> bool
     ensures { result ≡ is_special b }
 {
-    is_blank_or_newline(b) || matches!(b, b'{' | b'}' | b'[' | b']' | b'"' | b'\\' | b'$' | b';')
+    is_space(b) || matches!(b, b'{' | b'}' | b'[' | b']' | b'"' | b'\\' | b'$' | b';')
 }
 
 /// How an element is written.

@@ -14,7 +14,8 @@ abbrev pub with_pairs : Texts → Words → Texts
 with_pairs texts (key ∷ text ∷ rest) = with_pairs (map.insert texts key text) rest
 with_pairs texts _ = texts
 
--- values where a key has again what it had before: this value in place of the one that it has, or none
+-- values where a key has again what it had before: this value in place of the one that it has, or none; where a value is given and the
+-- key has none, nothing changes
 abbrev pub given_back : {V : Type 0} → map.FinMap text_cmp V → Bytes → Option V → map.FinMap text_cmp V
 given_back values key None = map.remove values key
 given_back values key (Some value) = if map.contains_key values key then map.insert values key value else values

@@ -22,6 +22,10 @@ last_moment = 253402300799
 abbrev pub moment_of : ℕ → Moment
 moment_of moment = min moment last_moment
 
+-- what a run may spend
+abbrev pub run_budget : ℕ
+run_budget = 200000
+
 -- in how many buckets the shared arrays stand
 abbrev pub bucket_count : ℕ
 bucket_count = 8

@@ -15,6 +15,9 @@ pub const MOST_NESTED: u32 = 200;
 /// The last moment: the last second of the year 9999, in seconds since the beginning of 1970.
 pub const LAST_MOMENT: u64 = 253_402_300_799;
 
+/// What a run may spend.
+pub const RUN_BUDGET: u64 = 200_000;
+
 /// In how many buckets the shared arrays stand.
 pub const BUCKET_COUNT: u8 = 8;
 
