@@ -1,10 +1,9 @@
 //! The credentials of a request.
 
-ghost use Rattle.std.specs.Prelude.{◌≡◌, ◌<◌, length, IfOk, IfSome, option_map};
-ghost use Rattle.std.specs.List.{position};
+ghost use Rattle.std.specs.Prelude.{◌≡◌, IfOk};
 ghost use Rattle.base64.specs.Engines.{standard};
 ghost use Rattle.base64.specs.GeneralPurpose.{decoded_of};
-ghost use Rattle.conn_host.specs.Credentials.{is_colon, user_and_password, shown_by, shown_in, credentials};
+ghost use Rattle.conn_host.specs.Credentials.{user_and_password, shown_by, shown_in, credentials};
 
 use base64::DecodeAllocError;
 use base64::engine::general_purpose::STANDARD;

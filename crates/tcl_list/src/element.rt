@@ -5,7 +5,7 @@ ghost use Rattle.txt_core.specs.Lists.{ends_element, next, BytesAt};
 ghost use Rattle.tcl_list.specs.Answers.{step_of, IsShorter};
 
 use std::alloc::{AllocError, Global};
-use txt_core::{Form, read_escape};
+use txt_core::{Form, is_space, read_escape};
 
 /// What comes next in an element that isn't in braces.
 #[derive(Clone, Copy)]
