@@ -10,6 +10,10 @@ use crate::brace::Nesting;
 use std::alloc::{AllocError, Global};
 use txt_core::{Known, NoMemory, Text, Words, is_space};
 
+const VERTICAL_TAB: u8 = 11;
+
+const FORM_FEED: u8 = 12;
+
 /// Whether the byte keeps an element from standing as itself.
 fn special(b: u8) -> bool
     ensures { result ≡ is_special b }
