@@ -1,3 +1,4 @@
 -- What a reader believes.
+pub mod Limits
 pub mod Parts
 pub mod Stops

@@ -5,6 +5,7 @@ ghost use Rattle.std.specs.List.{All};
 ghost use Rattle.txt_core.specs.Shares.{WHOLE};
 ghost use Rattle.conn_queue.specs.Queues.{IsOf, pass_view};
 ghost use Rattle.outside.specs.Nets.{IsNew};
+ghost use Rattle.server_threads.specs.Limits.{most_parts};
 ghost use Rattle.server_threads.specs.Stops.{Stops};
 
 use crate::accepting::{Stop, accept_all};
@@ -60,7 +61,7 @@ pub fn serve_all<
 ) -> Result<Stop, NoMemory>
     requires own { V.fits staff.now own.old }
     requires owns { All (V.fits staff.now) owns.items }
-    requires few { vec_len owns ≤ 1000 }
+    requires few { vec_len owns ≤ most_parts }
     requires new { IsNew (N.state net.old) }
     ensures own { V.fits staff.now own.new }
     ensures stops { IfOk result (λ stop.
@@ -94,7 +95,7 @@ fn parts_of<T: Drop, W: Drop, V: Staff<T, W>>(
     requires queue { IsOf queue.now pass.old }
     requires units { (pass_view pass.old).units ≡ WHOLE }
     requires owns { All (V.fits staff.now) owns.items }
-    requires few { vec_len owns ≤ 1000 }
+    requires few { vec_len owns ≤ most_parts }
     ensures queue { IsOf queue.now pass.new }
     ensures parts { IfOk result (λ parts.
         All (λ part. IsOf queue.now part.pass × V.fits staff.now part.own) parts.items) }
