@@ -34,12 +34,12 @@ connection host = connected host.request
 abbrev pub integer : Words → ℕ → Checked ℤ
 integer words place = numbered (number (arg words place)) (arg words place)
 
--- a number from 0 on
-abbrev pub natural : Checked ℤ → Words → ℕ → Checked ℕ
-natural (Ok (pos n)) words place = Ok n
-natural (Ok (negsuc n)) words place = Err (unfit words place)
-natural (Err message) words place = Err message
+-- of a number, that it is one from 0 on
+abbrev pub not_negative : Checked ℤ → Words → ℕ → Checked ℕ
+not_negative (Ok (pos n)) words place = Ok n
+not_negative (Ok (negsuc n)) words place = Err (unfit words place)
+not_negative (Err message) words place = Err message
 
 -- the word at this place counts something: it is a number from 0 on
 abbrev pub count : Words → ℕ → Checked ℕ
-count words place = natural (integer words place) words place
+count words place = not_negative (integer words place) words place

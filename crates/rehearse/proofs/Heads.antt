@@ -8,9 +8,9 @@ use Rattle.rehearse.specs.declared.head.Head.{Head}
 use Rattle.rehearse.specs.declared.head.Head.TheVariants as heads
 use Rattle.rehearse.specs.declared.keyword.Keyword.{Keyword}
 use Rattle.rehearse.specs.declared.keyword.Keyword.TheVariants as keywords
-use Rattle.rehearse.specs.Events.{actor_word, most_page, most_block, most_input}
+use Rattle.rehearse.specs.Events.{name_of, actor_word, most_page, most_block, most_input}
 use Rattle.rehearse.specs.Numbers.{IsSmall}
-use Rattle.rehearse.specs.Reading.{is_other, CutAt, name_of, actor_of, IsActor, IsPathWord, head_words, head_block, IsShortHead, IsHead, PageAt, ConnectAt}
+use Rattle.rehearse.specs.Reading.{is_other, CutAt, actor_of, IsActor, IsPathWord, head_words, head_block, IsShortHead, IsHead, PageAt, ConnectAt}
 use Rattle.rehearse.proofs.Cutting.{cuts_same}
 use Rattle.rehearse.proofs.Keywords.{same_keyword, no_space}
 use Rattle.rehearse.proofs.Numbers.{small_fits, decimal_other}

@@ -4,7 +4,8 @@ use Rattle.std.specs.Prelude.{◌==◌, if◌then◌else◌}
 use Rattle.std.specs.List.{list_all}
 use Rattle.rehearse.specs.declared.keyword.Keyword.{Keyword}
 use Rattle.rehearse.specs.declared.keyword.Keyword.TheVariants.{Workers, Clock, Page, Define, Connect, Step, Run}
-use Rattle.rehearse.specs.Reading.{is_other, name_of}
+use Rattle.rehearse.specs.Events.{name_of}
+use Rattle.rehearse.specs.Reading.{is_other}
 
 -- a keyword by two bytes of its word
 decode : List ℕ → Keyword

@@ -8,10 +8,10 @@ use Rattle.rehearse.specs.declared.head.Head.{Head}
 use Rattle.rehearse.specs.declared.head.Head.TheVariants as heads
 use Rattle.rehearse.specs.declared.keyword.Keyword.{Keyword}
 use Rattle.rehearse.specs.declared.keyword.Keyword.TheVariants as keywords
-use Rattle.rehearse.specs.Events.{Actor, worker, scheduler, actor_word, Event, workers, clock, page, define, connect, step, run, newline, words_of, block_of, block_end, spelled, most_block, most_input}
+use Rattle.rehearse.specs.Events.{Actor, worker, scheduler, name_of, actor_word, Event, workers, clock, page, define, connect, step, run, newline, words_of, block_of, block_end, spelled, most_block, most_input}
 use Rattle.rehearse.specs.Numbers.{IsSmall}
 use Rattle.rehearse.specs.Plays.{IsPath, is_break}
-use Rattle.rehearse.specs.Reading.{is_other, CutAt, name_of, actor_of, IsShortActor, IsPathWord, head_words, head_block, behind_line, IsShortHead, IsHead, IsShort, HasHead}
+use Rattle.rehearse.specs.Reading.{is_other, CutAt, actor_of, IsShortActor, IsPathWord, head_words, head_block, behind_line, IsShortHead, IsHead, IsShort, HasHead}
 use Rattle.rehearse.proofs.Cutting.{parts_other}
 use Rattle.rehearse.proofs.Words.{Without, same_words, line_without}
 use Rattle.rehearse.proofs.Keywords.{same_keyword, no_space, no_newline}

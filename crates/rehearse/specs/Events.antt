@@ -3,6 +3,8 @@ use Rattle.std.specs.Prelude.{ℕ, List, [], ◌∷◌, ◌++◌, length, decima
 use Rattle.std.specs.List.{join_with_byte}
 use Rattle.txt_core.specs.Names.{Bytes, Words, Moment}
 use Rattle.txt_core.specs.Limits.{most_bytes}
+use Rattle.rehearse.specs.declared.keyword.Keyword.{Keyword}
+use Rattle.rehearse.specs.declared.keyword.Keyword.TheVariants as keywords
 
 -- who takes steps: a worker by its number, from 0, or the scheduler
 pub data Actor : Type 0 where
@@ -39,19 +41,29 @@ abbrev pub block_end : Option Bytes → Bytes
 block_end (Some block) = block ++ newline
 block_end None = []
 
+-- the first word of each event
+abbrev pub name_of : Keyword → Bytes
+name_of keywords.Workers = codes "workers"
+name_of keywords.Clock = codes "clock"
+name_of keywords.Page = codes "page"
+name_of keywords.Define = codes "define"
+name_of keywords.Connect = codes "connect"
+name_of keywords.Step = codes "step"
+name_of keywords.Run = codes "run"
+
 abbrev pub actor_word : Actor → Bytes
 actor_word (worker number) = decimal number
 actor_word scheduler = codes "s"
 
 -- The words of an event's line. Numbers are decimal without extra zeros; where there is a block, the last word is its length.
 abbrev pub words_of : Event → Words
-words_of (workers count) = codes "workers" ∷ decimal count ∷ []
-words_of (clock moment) = codes "clock" ∷ decimal moment ∷ []
-words_of (page path text) = codes "page" ∷ path ∷ decimal (length text) ∷ []
-words_of (define block) = codes "define" ∷ decimal (length block) ∷ []
-words_of (connect number input) = codes "connect" ∷ decimal number ∷ decimal (length input) ∷ []
-words_of (step actor) = codes "step" ∷ actor_word actor ∷ []
-words_of (run actor) = codes "run" ∷ actor_word actor ∷ []
+words_of (workers count) = name_of keywords.Workers ∷ decimal count ∷ []
+words_of (clock moment) = name_of keywords.Clock ∷ decimal moment ∷ []
+words_of (page path text) = name_of keywords.Page ∷ path ∷ decimal (length text) ∷ []
+words_of (define block) = name_of keywords.Define ∷ decimal (length block) ∷ []
+words_of (connect number input) = name_of keywords.Connect ∷ decimal number ∷ decimal (length input) ∷ []
+words_of (step actor) = name_of keywords.Step ∷ actor_word actor ∷ []
+words_of (run actor) = name_of keywords.Run ∷ actor_word actor ∷ []
 
 abbrev pub block_of : Event → Option Bytes
 block_of (workers count) = None

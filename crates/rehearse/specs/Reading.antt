@@ -9,9 +9,8 @@ use Rattle.rehearse.specs.declared.head.Actor as code_actor
 use Rattle.rehearse.specs.declared.head.Actor.TheVariants as code_actors
 use Rattle.rehearse.specs.declared.head.Head.{Head}
 use Rattle.rehearse.specs.declared.head.Head.TheVariants as heads
-use Rattle.rehearse.specs.declared.keyword.Keyword.{Keyword}
 use Rattle.rehearse.specs.declared.keyword.Keyword.TheVariants as keywords
-use Rattle.rehearse.specs.Events.{Actor, worker, scheduler, actor_word, Event, workers, clock, page, define, connect, step, run, most_page, most_block, most_input}
+use Rattle.rehearse.specs.Events.{Actor, worker, scheduler, name_of, actor_word, Event, workers, clock, page, define, connect, step, run, most_page, most_block, most_input}
 use Rattle.rehearse.specs.Numbers.{IsSmall}
 use Rattle.rehearse.specs.Plays.{IsPath}
 
@@ -24,16 +23,6 @@ abbrev pub CutAt : ℕ → Bytes → Bytes × Bytes → Type 0
 CutAt byte text x = IsTrue (list_all (is_other byte) x.0) × (text ≡ x.0 ++ byte ∷ x.1)
 
 -- ---- lines
-
--- the first word of each event
-abbrev pub name_of : Keyword → Bytes
-name_of keywords.Workers = codes "workers"
-name_of keywords.Clock = codes "clock"
-name_of keywords.Page = codes "page"
-name_of keywords.Define = codes "define"
-name_of keywords.Connect = codes "connect"
-name_of keywords.Step = codes "step"
-name_of keywords.Run = codes "run"
 
 abbrev pub actor_of : code_actor.Actor → Actor
 actor_of (code_actors.Worker number) = worker number
@@ -53,13 +42,13 @@ IsPathWord path = (rest : Bytes) × (path ≡ slash ∷ rest) × IsTrue (list_al
 
 -- the words of the line
 abbrev pub head_words : Head → Words
-head_words (heads.Workers count) = codes "workers" ∷ decimal count ∷ []
-head_words (heads.Clock moment) = codes "clock" ∷ decimal moment ∷ []
-head_words (heads.Page path size) = codes "page" ∷ path.now ∷ decimal size ∷ []
-head_words (heads.Define size) = codes "define" ∷ decimal size ∷ []
-head_words (heads.Connect number size) = codes "connect" ∷ decimal number ∷ decimal size ∷ []
-head_words (heads.Step actor) = codes "step" ∷ actor_word (actor_of actor) ∷ []
-head_words (heads.Run actor) = codes "run" ∷ actor_word (actor_of actor) ∷ []
+head_words (heads.Workers count) = name_of keywords.Workers ∷ decimal count ∷ []
+head_words (heads.Clock moment) = name_of keywords.Clock ∷ decimal moment ∷ []
+head_words (heads.Page path size) = name_of keywords.Page ∷ path.now ∷ decimal size ∷ []
+head_words (heads.Define size) = name_of keywords.Define ∷ decimal size ∷ []
+head_words (heads.Connect number size) = name_of keywords.Connect ∷ decimal number ∷ decimal size ∷ []
+head_words (heads.Step actor) = name_of keywords.Step ∷ actor_word (actor_of actor) ∷ []
+head_words (heads.Run actor) = name_of keywords.Run ∷ actor_word (actor_of actor) ∷ []
 
 -- the length of the block
 abbrev pub head_block : Head → Option ℕ
@@ -86,10 +75,10 @@ IsHead head line = IsShortHead head × (line ≡ join_with_byte 32 (head_words h
 
 -- the words behind `page`, and those behind `connect`
 abbrev pub PageAt : Head → Bytes → Type 0
-PageAt head words = IsHead head (codes "page " ++ words)
+PageAt head words = IsHead head (name_of keywords.Page ++ 32 ∷ words)
 
 abbrev pub ConnectAt : Head → Bytes → Type 0
-ConnectAt head words = IsHead head (codes "connect " ++ words)
+ConnectAt head words = IsHead head (name_of keywords.Connect ++ 32 ∷ words)
 
 -- how many bytes stand behind the line
 abbrev pub behind_line : Option ℕ → ℕ

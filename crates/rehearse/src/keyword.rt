@@ -2,7 +2,7 @@
 
 ghost use Rattle.std.specs.Prelude.{◌≡◌};
 ghost use Rattle.rehearse.specs.Numbers.{Finds};
-ghost use Rattle.rehearse.specs.Reading.{name_of};
+ghost use Rattle.rehearse.specs.Events.{name_of};
 
 /// The first word of an event.
 #[derive(Clone, Copy, Debug, PartialEq, Eq)]
