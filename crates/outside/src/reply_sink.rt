@@ -77,16 +77,12 @@ impl<R: Wait> Sink for ReplySink<R> {
             self.new.calls.faults }
     {
         if self.calls.begin() {
-            self.calls.fault();
-            return WriteAnswer::Failed;
+            return self.calls.fail_write();
         }
         let count = self.piece.min(piece.len());
         match self.replies.append(&self.rt, self.at, &piece[..count]) {
             Ok(()) => WriteAnswer::Took(count),
-            Err(_) => {
-                self.calls.fault();
-                WriteAnswer::Failed
-            }
+            Err(_) => self.calls.fail_write(),
         }
     }
 }
