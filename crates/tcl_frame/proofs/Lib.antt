@@ -2,6 +2,7 @@ pub mod Bases
 pub mod Changes
 pub mod ElementNames
 pub mod Findings
+pub mod Fronts
 pub mod Keeping
 pub mod Maps
 pub mod Tables

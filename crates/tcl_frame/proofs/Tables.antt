@@ -10,11 +10,10 @@ use Rattle.std.proofs.lemmas.Bool.{cases_Bool, cond-true, cond-false, true≢fal
 use Rattle.std.proofs.lemmas.Map.Lookups.{exact_bytes}
 use Rattle.tcl_frame.specs.declared.variable.Variable.{Variable}
 use Rattle.tcl_frame.specs.declared.variable.Variable.TheVariants.{Scalar, Array}
-use Rattle.txt_core.specs.Keyed.{with_pairs}
 use Rattle.tcl_frame.specs.Variables.{Elements, elements_in}
-use Rattle.tcl_frame.specs.Arrays.{with_index, with_indexes, without_index}
-use Rattle.tcl_frame.specs.Appending.{text_of, with_more, with_more_at}
-use Rattle.tcl_frame.specs.Meaning.{element, whole, value_there, no_write, no_removal, no_array}
+use Rattle.tcl_frame.specs.Arrays.{without_index}
+use Rattle.tcl_frame.specs.Appending.{text_of}
+use Rattle.tcl_frame.specs.Meaning.{element, value_or_nothing, value_there, no_write, no_removal}
 
 -- one step further from what holds at `Ok`
 pub on_ok : {A E : Type 0} (r : Result A E) (X Y : Type 0) → (X → Y) → OnOk r X → OnOk r Y
@@ -25,6 +24,11 @@ on_ok (Err e) X Y f h = tt
 pub on_err : {A E : Type 0} (r : Result A E) (X Y : Type 0) → (X → Y) → OnErr r X → OnErr r Y
 on_err (Ok x) X Y f h = tt
 on_err (Err e) X Y f h = f h
+
+-- one step further from what holds at `Some`
+pub on_some : {A : Type 0} (o : Option A) (X Y : Type 0) → (X → Y) → OnSome o X → OnSome o Y
+on_some None X Y f h = tt
+on_some (Some x) X Y f h = f h
 
 -- what holds where there is a value, where there is one
 pub at_some : {A : Type 0} (o : Option A) (x : A) (X : Type 0) → o ≡ Some x → OnSome o X → X
@@ -39,37 +43,10 @@ same_inserted m k v there = same_map nat_list_cmp_total exact_bytes _ _ (λ q.
     (λ n. cond-false (is_eq (slice_cmp nat_cmp q k)) (Some v) (map.get m q) n)
     (cases_Bool (is_eq (slice_cmp nat_cmp q k))))
 
--- an element that can be written is in an array
-write_in_array : (v : Variable) (index value : List ℕ) → no_write (element (Some v) index) ≡ None → with_index v index value ≡ Array (map.insert (elements_in (Some v)) index value)
-write_in_array (Scalar text) index value e = absurd (true≢false (ap is_some e))
-write_in_array (Array elements) index value e = refl
-
-pub element_written : (v : Variable) (found : Option Variable) (index value : List ℕ) → Some v ≡ found → no_write (element found index) ≡ None
-    → with_index v index value ≡ Array (map.insert (elements_in found) index value)
-element_written v found index value e =
-    subst (λ f. no_write (element f index) ≡ None → with_index v index value ≡ Array (map.insert (elements_in f) index value)) e (write_in_array v index value)
-
--- a scalar that can be written grows
-scalar_grows : (v : Variable) (more : List ℕ) → no_write (whole (Some v)) ≡ None → with_more v more ≡ Scalar (value_there (whole (Some v)) ++ more)
-scalar_grows (Scalar text) more e = refl
-scalar_grows (Array elements) more e = absurd (true≢false (ap is_some e))
-
-pub scalar_grown : (v : Variable) (found : Option Variable) (more : List ℕ) → Some v ≡ found → no_write (whole found) ≡ None
-    → with_more v more ≡ Scalar (value_there (whole found) ++ more)
-scalar_grown v found more e =
-    subst (λ f. no_write (whole f) ≡ None → with_more v more ≡ Scalar (value_there (whole f) ++ more)) e (scalar_grows v more)
-
--- an element that can be written grows in an array
-element_grows : (v : Variable) (index more : List ℕ) → no_write (element (Some v) index) ≡ None
-    → with_more_at v index more ≡ Array (map.insert (elements_in (Some v)) index (value_there (element (Some v) index) ++ more))
-element_grows (Scalar text) index more e = absurd (true≢false (ap is_some e))
-element_grows (Array elements) index more e = refl
-
-pub element_grown : (v : Variable) (found : Option Variable) (index more : List ℕ) → Some v ≡ found → no_write (element found index) ≡ None
-    → with_more_at v index more ≡ Array (map.insert (elements_in found) index (value_there (element found index) ++ more))
-element_grown v found index more e =
-    subst (λ f. no_write (element f index) ≡ None → with_more_at v index more ≡ Array (map.insert (elements_in f) index (value_there (element f index) ++ more))) e
-    (element_grows v index more)
+-- an element of an array can always be written
+pub element_open : (o : Option (List ℕ)) → no_write (value_or_nothing o) ≡ None
+element_open None = refl
+element_open (Some text) = refl
 
 -- the text of an element in an array that was absent, and the array with it
 module _ (elements : Elements) (found : Option Variable) (index more : List ℕ) (new : elements ≡ map.empty) (none : None ≡ found) where
@@ -83,16 +60,6 @@ module _ (elements : Elements) (found : Option Variable) (index more : List ℕ)
   first_element =
       ap (map.insert elements index) first_text
       ∙ ap (λ m. map.insert m index (value_there (element found index) ++ more)) (new ∙ ap elements_in none)
-
--- pairs that can be written to a variable that stands are written to an array
-pairs_in_array : (v : Variable) (pairs : List (List ℕ)) → no_array (whole (Some v)) ≡ None → with_indexes v pairs ≡ Array (with_pairs (elements_in (Some v)) pairs)
-pairs_in_array (Scalar text) pairs e = absurd (true≢false (ap is_some e))
-pairs_in_array (Array elements) pairs e = refl
-
-pub indexes_written : (v : Variable) (found : Option Variable) (pairs : List (List ℕ)) → Some v ≡ found → no_array (whole found) ≡ None
-    → with_indexes v pairs ≡ Array (with_pairs (elements_in found) pairs)
-indexes_written v found pairs e =
-    subst (λ f. no_array (whole f) ≡ None → with_indexes v pairs ≡ Array (with_pairs (elements_in f) pairs)) e (pairs_in_array v pairs)
 
 -- an element that can be removed is in an array
 removal_in_array : (v : Variable) (index : List ℕ) → no_removal (element (Some v) index) ≡ None → without_index v index ≡ Array (map.remove (elements_in (Some v)) index)

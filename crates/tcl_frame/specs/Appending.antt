@@ -1,9 +1,7 @@
 -- What more bytes behind a value make of a variable and of variables by name.
 use Rattle.std.specs.Prelude.{◌++◌, Option, Some}
-use Rattle.std.specs.FinMap as map
 use Rattle.txt_core.specs.Names.{Bytes}
 use Rattle.tcl_frame.specs.declared.variable.Variable.{Variable}
-use Rattle.tcl_frame.specs.declared.variable.Variable.TheVariants.{Scalar, Array}
 use Rattle.tcl_frame.specs.Names.{Named}
 use Rattle.tcl_frame.specs.Variables.{Table, with_value}
 use Rattle.tcl_frame.specs.Meaning.{whole, value_or_nothing, element, found, value_there}
@@ -19,16 +17,6 @@ text_in variable = value_there (whole (Some variable))
 -- the text of an array's element, which is empty where it is absent, and where the variable is a scalar
 abbrev pub text_at : Variable → Bytes → Bytes
 text_at variable index = value_there (element (Some variable) index)
-
--- a scalar with more bytes behind its text; an array stays as it is
-abbrev pub with_more : Variable → Bytes → Variable
-with_more (Scalar text) more = Scalar (text ++ more)
-with_more (Array elements) more = Array elements
-
--- an array with more bytes behind the text at the index, which is empty where it is absent; a scalar stays as it is
-abbrev pub with_more_at : Variable → Bytes → Bytes → Variable
-with_more_at (Scalar text) index more = Scalar text
-with_more_at (Array elements) index more = Array (map.insert elements index (text_of (map.get elements index) ++ more))
 
 -- more bytes behind the value of the name, which is empty where it is absent
 abbrev pub longer : Table → Named → Bytes → Bytes

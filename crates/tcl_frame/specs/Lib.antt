@@ -10,9 +10,12 @@ pub mod Appending
 pub mod Arrays
 -- What only proofs use.
 pub mod Entries
+pub mod Few
 pub mod Findings
 pub mod Globals
 pub mod Lending
 pub mod OwnLending
 pub mod Seen
 pub mod StackCode
+pub mod TableCode
+pub mod TableLending

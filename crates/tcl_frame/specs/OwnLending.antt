@@ -7,8 +7,7 @@ use Rattle.tcl_frame.specs.Stack.{Stack}
 use Rattle.tcl_frame.specs.declared.frame.Frame.{Frame}
 use Rattle.tcl_frame.specs.Frames.{links_name, top_variables, with_table}
 use Rattle.tcl_frame.specs.contracts.frames.Frames as frames
-use Rattle.tcl_frame.specs.contracts.variable.Variable as variable
-use Rattle.tcl_frame.specs.contracts.dictionary.Dictionary as dictionary
+use Rattle.tcl_frame.specs.contracts.table.Table as table
 
 -- the variables of the topmost of these frames, where a variable of this name is one of them
 abbrev pub own_variables : List Frame → Bytes → Option Table
@@ -18,5 +17,5 @@ own_variables frames name = if links_name frames name then None else Some (top_v
 -- lent the frames are as they were
 abbrev pub lends_own : MutBor Stack → Bytes → Option (MutBor Table) → Fml
 lends_own s name r =
-    LendsSo frames.the_row (dictionary.the_row variable.the_row) s r
+    LendsSo frames.the_row table.the_row s r
     (λ n w. OnSome r (n ≡ with_table s.now name w)) (λ n. n ≡ s.now)

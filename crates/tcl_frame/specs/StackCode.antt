@@ -1,16 +1,12 @@
 -- How the frames of an interpreter, and its global variables, are stored by proofs.
 use Rattle.std.specs.Prelude.{List, refl}
 use Rattle.std.specs.Coded.{Coded, code_by, coded×, coded_list, coded_ℕ}
-use Rattle.std.specs.FinMap as map
 use Rattle.tcl_frame.specs.Variables.{Table}
 use Rattle.tcl_frame.specs.Stack.{Stack, Kept}
 use Rattle.tcl_frame.specs.Globals.{Globals}
+use Rattle.tcl_frame.specs.TableCode.{table_code}
 use Rattle.tcl_frame.specs.declared.frame.Frame.{Frame}
 use Rattle.tcl_frame.specs.contracts.frame.Frame as frame
-use Rattle.tcl_frame.specs.contracts.variable.Variable as variable
-
-abbrev table_code : Coded Table
-table_code = map.code (coded_list coded_ℕ) variable.the_row.coded
 
 abbrev keeps_code : Coded (List Kept)
 keeps_code = coded_list (coded× (coded_list coded_ℕ) (coded_list coded_ℕ))

@@ -10,6 +10,7 @@ ghost use Rattle.txt_core.specs.Keyed.{given_back};
 use std::alloc::Global;
 use std::collections::BTreeMap;
 use std::marker::Model;
+use std::mem;
 use txt_core::NoMemory;
 
 /// Values by the bytes of their keys, in byte order of these. Contracts see a finite map.
@@ -82,19 +83,25 @@ impl<V> Dictionary<V> {
         self.values.contains_key(key)
     }
 
-    /// Gives a key this value in place of any that it had. Where memory wants, nothing changes.
+    /// Gives a key this value in place of any that it had. A key that has a value takes no memory.
+    /// Where memory wants, nothing changes.
     pub fn insert(&mut self, key: &[u8], value: V) -> Result<(), NoMemory>
     where
         V: Drop,
         ensures ok { OnOk result (self.new ≡ map.insert self.old key.now value) }
         ensures err { OnErr result (self.new ≡ self.old) }
     {
-        self.replace(key, value)?;
-        Ok(())
+        match self.get_mut(key) {
+            Some(place) => {
+                *place = value;
+                Ok(())
+            }
+            None => self.put(key, value),
+        }
     }
 
     /// Gives a key this value, and hands back the one that it had; `None` exactly where it had none.
-    /// Where memory wants, nothing changes.
+    /// A key that has a value takes no memory. Where memory wants, nothing changes.
     pub fn replace(&mut self, key: &[u8], value: V) -> Result<Option<V>, NoMemory>
     where
         V: Drop,
@@ -102,9 +109,26 @@ impl<V> Dictionary<V> {
         ensures before { IfOk result (λ before. before ≡ map.get self.old key.now) }
         ensures err { OnErr result (self.new ≡ self.old) }
     {
+        match self.get_mut(key) {
+            Some(place) => Ok(Some(mem::replace(place, value))),
+            None => {
+                self.put(key, value)?;
+                Ok(None)
+            }
+        }
+    }
+
+    /// Gives a key this value in place of any that it had, with a copy of the key. Where memory wants,
+    /// nothing changes.
+    fn put(&mut self, key: &[u8], value: V) -> Result<(), NoMemory>
+    where
+        V: Drop,
+        ensures ok { OnOk result (self.new ≡ map.insert self.old key.now value) }
+        ensures err { OnErr result (self.new ≡ self.old) }
+    {
         let key = Vec::from_slice(self.alloc, key)?;
-        let before = self.values.insert(key, value)?;
-        Ok(before)
+        self.values.insert(key, value)?;
+        Ok(())
     }
 
     /// Gives a key that has a value this one, or takes the key's value away where there is none to

@@ -2,7 +2,7 @@
 
 ghost use Rattle.std.specs.Prelude.{◌≡◌};
 ghost use Rattle.tcl_frame.specs.Findings.{found_seen};
-ghost use Rattle.tcl_frame.specs.Meaning.{is_there, is_array_there, no_write, no_removal, no_array};
+ghost use Rattle.tcl_frame.specs.Meaning.{is_there, is_array_there, no_removal};
 
 use crate::fault::VarFault;
 use crate::variable::Elements;
@@ -36,17 +36,6 @@ impl Found<'_> {
         matches!(self, Found::AnArray(_))
     }
 
-    /// Why a write is refused, if it is.
-    pub fn no_write(&self) -> Option<VarFault>
-        ensures { result ≡ no_write (found_seen self.now) }
-    {
-        match self {
-            Found::Nothing | Found::Value(_) => None,
-            Found::AnArray(_) => Some(VarFault::IsArray),
-            Found::InScalar => Some(VarFault::NotArray),
-        }
-    }
-
     /// Why a removal is refused, if it is.
     pub fn no_removal(&self) -> Option<VarFault>
         ensures { result ≡ no_removal (found_seen self.now) }
@@ -55,16 +44,6 @@ impl Found<'_> {
             Found::Nothing => Some(VarFault::NoVariable),
             Found::Value(_) | Found::AnArray(_) => None,
             Found::InScalar => Some(VarFault::NotArray),
-        }
-    }
-
-    /// Why no array can be written there, if none can.
-    pub fn no_array(&self) -> Option<VarFault>
-        ensures { result ≡ no_array (found_seen self.now) }
-    {
-        match self {
-            Found::Nothing | Found::AnArray(_) => None,
-            Found::Value(_) | Found::InScalar => Some(VarFault::NotArray),
         }
     }
 }

@@ -4,7 +4,7 @@ ghost use Rattle.std.specs.Prelude.{◌≡◌};
 ghost use Rattle.tcl_frame.specs.Frames.{empty_frame};
 
 use crate::dictionary::Dictionary;
-use crate::variable::Table;
+use crate::table::Table;
 use std::alloc::Global;
 
 /// Variables, and names that mean the global variables.
@@ -20,7 +20,7 @@ impl Frame {
         ensures { result ≡ empty_frame }
     {
         Frame {
-            variables: Dictionary::new(alloc),
+            variables: Table::new(alloc),
             links: Dictionary::new(alloc),
         }
     }

@@ -18,7 +18,7 @@ use crate::found::Found;
 use crate::frame::Frame;
 use crate::globals::Globals;
 use crate::name::Name;
-use crate::variable::Table;
+use crate::table::Table;
 use std::alloc::Global;
 use std::marker::Model;
 use txt_core::{Known, NoMemory, Pairs, Text};

@@ -4,6 +4,7 @@
 mod base;
 mod dictionary;
 mod fault;
+mod few;
 mod found;
 mod frame;
 mod frames;

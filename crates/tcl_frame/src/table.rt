@@ -1,6 +1,9 @@
 //! Variables by name, without frames.
 
 ghost use Rattle.std.specs.Prelude.{◌≡◌, ◌≢◌, None, IfOk, IfErr, OnOk, OnErr};
+ghost use Rattle.std.specs.Borrow.{sem};
+ghost use Rattle.std.specs.Option.{option_copied, option_copied_mut};
+ghost use Rattle.std.specs.FinMap as map;
 ghost use Rattle.txt_core.specs.Knowing.{Holds};
 ghost use Rattle.tcl_frame.specs.Variables.{with_value, without, with_array};
 ghost use Rattle.tcl_frame.specs.Appending.{longer, with_longer};
@@ -9,14 +12,130 @@ ghost use Rattle.tcl_frame.specs.Meaning.{found, no_write, no_removal, no_array}
 ghost use Rattle.tcl_frame.specs.Seen.{name_seen};
 ghost use Rattle.tcl_frame.specs.Findings.{found_seen};
 ghost use Rattle.tcl_frame.specs.Refusal.{IsRefusedFor};
+ghost use Rattle.tcl_frame.specs.TableLending.{lends_variable};
 
+use crate::dictionary::Dictionary;
 use crate::fault::VarFault;
+use crate::few::{Entry, find_entry, place_of};
 use crate::found::Found;
 use crate::name::Name;
-use crate::variable::{Elements, Table, Variable};
+use crate::variable::{Elements, Variable};
+use std::alloc::Global;
+use std::marker::Model;
 use txt_core::{Known, NoMemory, Text};
 
+/// How many variables stand in the list at most.
+const MOST_FEW: usize = 8;
+
+/// Variables by name. The first ones stand in a list, which is searched from its front; those that come
+/// while it is full stand in a dictionary. Contracts see a finite map.
+#[derive(Debug, Drop)]
+pub struct Table {
+    alloc: Global,
+    few: Vec<Entry>,
+    rest: Dictionary<Variable>,
+}
+
+impl Model for Table {
+    ghost use Rattle.tcl_frame.specs.Variables.{Table};
+    ghost use Rattle.tcl_frame.specs.Few.{in_front};
+    ghost use Rattle.tcl_frame.specs.TableCode.{table_code};
+
+    ghost Value = { Table };
+
+    ghost coded = { table_code };
+
+    ghost view = { λ a. in_front a.few.items a.rest };
+}
+
 impl Table {
+    /// No variables. Nothing is allocated until the first is put.
+    pub fn new(alloc: Global) -> Self
+        ensures { result ≡ map.empty }
+    {
+        Table {
+            alloc,
+            few: Vec::new(alloc),
+            rest: Dictionary::new(alloc),
+        }
+    }
+
+    /// Takes all variables away. It takes no memory.
+    pub fn clear(&mut self)
+        ensures { self.new ≡ map.empty }
+    {
+        self.few.clear();
+        self.rest.clear();
+    }
+
+    /// The variable of a name; `None` exactly where there is none.
+    fn get(&self, name: &[u8]) -> Option<&Variable>
+        ensures { option_copied result ≡ map.get self.now name.now }
+    {
+        match find_entry(&self.few, name) {
+            Some(entry) => Some(&entry.variable),
+            None => self.rest.get(name),
+        }
+    }
+
+    /// The variable of a name, to be changed; `None` exactly where there is none.
+    fn get_mut(&mut self, name: &[u8]) -> Option<&mut Variable>
+        ensures* writes_back { sem 𝓛 (lends_variable self.entry name.now result) }
+        ensures value { option_copied_mut result ≡ map.get self.old name.now }
+    {
+        match place_of(&self.few, name) {
+            Some(place) => match self.few.get_mut(place) {
+                Some(entry) => Some(&mut entry.variable),
+                None => None,
+            },
+            None => self.rest.get_mut(name),
+        }
+    }
+
+    /// Whether there is a variable of a name.
+    pub fn contains(&self, name: &[u8]) -> bool
+        ensures { result ≡ map.contains_key self.now name.now }
+    {
+        self.get(name).is_some()
+    }
+
+    /// Makes this the variable of a name, in place of any that there was. Where memory wants, nothing
+    /// changes.
+    pub fn insert(&mut self, name: &[u8], variable: Variable) -> Result<(), NoMemory>
+        ensures ok { OnOk result (self.new ≡ map.insert self.old name.now variable) }
+        ensures err { OnErr result (self.new ≡ self.old) }
+    {
+        match self.get_mut(name) {
+            Some(place) => {
+                *place = variable;
+                Ok(())
+            }
+            None => self.add(name, variable),
+        }
+    }
+
+    /// Makes this the variable of a name that has none. Where memory wants, nothing changes.
+    fn add(&mut self, name: &[u8], variable: Variable) -> Result<(), NoMemory>
+        requires { map.get self.old name.now ≡ None }
+        ensures ok { OnOk result (self.new ≡ map.insert self.old name.now variable) }
+        ensures err { OnErr result (self.new ≡ self.old) }
+    {
+        if self.few.len() >= MOST_FEW {
+            return self.rest.insert(name, variable);
+        }
+        let name = Text::new(self.alloc, name)?;
+        self.few.push(Entry { name, variable })?;
+        Ok(())
+    }
+
+    /// Takes the variable of a name away, where there is one. It takes no memory.
+    pub fn remove(&mut self, name: &[u8])
+        ensures { self.new ≡ map.remove self.old name.now }
+    {
+        self.few.retain(|entry| !entry.is_named(name));
+        self.rest.remove(name);
+    }
+
     /// What a name finds.
     pub fn find(&self, name: &Name<'_>) -> Found<'_>
         ensures { found_seen result ≡ found self.now (name_seen name.now) }
@@ -58,21 +177,33 @@ impl Table {
         ensures refused { IsRefusedFor (no_write (found self.old (name_seen name.now))) result }
         ensures err { OnErr result (self.new ≡ self.old) }
     {
-        if let Some(fault) = self.find(name).no_write() {
-            return Err(fault);
-        }
         match name {
-            Name::Whole(name) => self.insert(name, Variable::Scalar(value))?,
-            Name::Element(array, index) => self.write_element(array, index, value)?,
+            Name::Whole(name) => self.write_whole(name, value),
+            Name::Element(array, index) => self.write_element(array, index, value),
         }
-        Ok(())
+    }
+
+    /// Gives a scalar this value.
+    fn write_whole(&mut self, name: &[u8], value: Text) -> Result<(), VarFault>
+        ensures ok { OnOk result (self.new ≡ with_value self.old (names.Whole name.now) value) }
+        ensures refused { IsRefusedFor (no_write (found self.old (names.Whole name.now))) result }
+        ensures err { OnErr result (self.new ≡ self.old) }
+    {
+        match self.get_mut(name) {
+            Some(variable) => variable.write(value),
+            None => {
+                self.add(name, Variable::Scalar(value))?;
+                Ok(())
+            }
+        }
     }
 
     /// Gives an element this value, in an array that is made where the name has none.
-    fn write_element(&mut self, array: &[u8], index: &[u8], value: Text) -> Result<(), NoMemory>
-        requires { no_write (found self.old (names.Element array.now index.now)) ≡ None }
+    fn write_element(&mut self, array: &[u8], index: &[u8], value: Text) -> Result<(), VarFault>
         ensures ok { OnOk result
             (self.new ≡ with_value self.old (names.Element array.now index.now) value) }
+        ensures refused { IsRefusedFor
+            (no_write (found self.old (names.Element array.now index.now))) result }
         ensures err { OnErr result (self.new ≡ self.old) }
     {
         match self.get_mut(array) {
@@ -80,7 +211,8 @@ impl Table {
             None => {
                 let mut elements = Elements::new(self.alloc);
                 elements.insert(index, value)?;
-                self.insert(array, Variable::Array(elements))
+                self.add(array, Variable::Array(elements))?;
+                Ok(())
             }
         }
     }
@@ -95,24 +227,19 @@ impl Table {
         ensures refused { IsRefusedFor (no_write (found self.old (name_seen name.now))) result }
         ensures err { OnErr result (self.new ≡ self.old) }
     {
-        let refusal = self.find(name).no_write();
-        if let Some(fault) = refusal {
-            return Err(fault);
+        match name {
+            Name::Whole(name) => self.append_whole(name, more, known),
+            Name::Element(array, index) => self.append_element(array, index, more, known),
         }
-        let value = match name {
-            Name::Whole(name) => self.append_whole(name, more, known)?,
-            Name::Element(array, index) => self.append_element(array, index, more, known)?,
-        };
-        Ok(value)
     }
 
     /// Puts bytes behind a scalar's value. An absent scalar is made.
-    fn append_whole(&mut self, name: &[u8], more: &[u8], known: Known) -> Result<Text, NoMemory>
-        requires open { no_write (found self.old (names.Whole name.now)) ≡ None }
-        requires holds { Holds known (longer self.old (names.Whole name.now) more.now) }
+    fn append_whole(&mut self, name: &[u8], more: &[u8], known: Known) -> Result<Text, VarFault>
+        requires { Holds known (longer self.old (names.Whole name.now) more.now) }
         ensures value { IfOk result (λ value.
             value ≡ longer self.old (names.Whole name.now) more.now) }
         ensures ok { OnOk result (self.new ≡ with_longer self.old (names.Whole name.now) more.now) }
+        ensures refused { IsRefusedFor (no_write (found self.old (names.Whole name.now))) result }
         ensures err { OnErr result (self.new ≡ self.old) }
     {
         let alloc = self.alloc;
@@ -121,7 +248,7 @@ impl Table {
             None => {
                 let mut text = Text::new(alloc, more)?.knowing(known);
                 let same = text.share(alloc)?;
-                self.insert(name, Variable::Scalar(text))?;
+                self.add(name, Variable::Scalar(text))?;
                 Ok(same)
             }
         }
@@ -134,23 +261,22 @@ impl Table {
         index: &[u8],
         more: &[u8],
         known: Known,
-    ) -> Result<Text, NoMemory>
-        requires open { no_write (found self.old (names.Element array.now index.now)) ≡ None }
-        requires holds { Holds known
-            (longer self.old (names.Element array.now index.now) more.now) }
+    ) -> Result<Text, VarFault>
+        requires { Holds known (longer self.old (names.Element array.now index.now) more.now) }
         ensures value { IfOk result (λ value.
             value ≡ longer self.old (names.Element array.now index.now) more.now) }
         ensures ok { OnOk result
             (self.new ≡ with_longer self.old (names.Element array.now index.now) more.now) }
+        ensures refused { IsRefusedFor
+            (no_write (found self.old (names.Element array.now index.now))) result }
         ensures err { OnErr result (self.new ≡ self.old) }
     {
-        let alloc = self.alloc;
         match self.get_mut(array) {
-            Some(variable) => variable.append_at(alloc, index, more, known),
+            Some(variable) => variable.append_at(index, more, known),
             None => {
-                let mut elements = Elements::new(alloc);
+                let mut elements = Elements::new(self.alloc);
                 let value = elements.append(index, more, known)?;
-                self.insert(array, Variable::Array(elements))?;
+                self.add(array, Variable::Array(elements))?;
                 Ok(value)
             }
         }
@@ -184,25 +310,11 @@ impl Table {
         }
     }
 
-    /// Gives each index of a list the value behind it, in the array of this name, which is made where
-    /// it is absent.
+    /// Gives each index of a list the value behind it, in the array of this name. An array that stands
+    /// is written to in place; an absent one is made apart.
     pub fn write_array(&mut self, name: &[u8], pairs: &[Text]) -> Result<(), VarFault>
         ensures ok { OnOk result (self.new ≡ with_array self.old name.now pairs.now) }
         ensures refused { IsRefusedFor (no_array (found self.old (names.Whole name.now))) result }
-        ensures err { OnErr result (self.new ≡ self.old) }
-    {
-        if let Some(fault) = self.find_whole(name).no_array() {
-            return Err(fault);
-        }
-        self.write_pairs(name, pairs)?;
-        Ok(())
-    }
-
-    /// The same where it isn't refused. An array that stands is written to in place; an absent one is
-    /// made apart.
-    fn write_pairs(&mut self, name: &[u8], pairs: &[Text]) -> Result<(), NoMemory>
-        requires { no_array (found self.old (names.Whole name.now)) ≡ None }
-        ensures ok { OnOk result (self.new ≡ with_array self.old name.now pairs.now) }
         ensures err { OnErr result (self.new ≡ self.old) }
     {
         match self.get_mut(name) {
@@ -210,7 +322,8 @@ impl Table {
             None => {
                 let mut elements = Elements::new(self.alloc);
                 elements.write_pairs(pairs)?;
-                self.insert(name, Variable::Array(elements))
+                self.add(name, Variable::Array(elements))?;
+                Ok(())
             }
         }
     }

@@ -1,20 +1,22 @@
 //! A variable.
 
-ghost use Rattle.std.specs.Prelude.{◌≡◌, ◌++◌, IfOk, OnOk, OnErr};
-ghost use Rattle.txt_core.specs.Knowing.{Holds};
-ghost use Rattle.tcl_frame.specs.Arrays.{with_index, with_indexes, without_index};
-ghost use Rattle.tcl_frame.specs.Appending.{text_in, text_at, text_of, with_more, with_more_at};
+ghost use Rattle.std.specs.Prelude.{◌≡◌, ◌++◌, Some, IfOk, OnOk, OnErr};
 ghost use Rattle.std.specs.FinMap as map;
+ghost use Rattle.txt_core.specs.Keyed.{with_pairs};
+ghost use Rattle.txt_core.specs.Knowing.{Holds};
+ghost use Rattle.tcl_frame.specs.Arrays.{without_index};
+ghost use Rattle.tcl_frame.specs.Variables.{elements_in};
+ghost use Rattle.tcl_frame.specs.Appending.{text_in, text_at, text_of};
+ghost use Rattle.tcl_frame.specs.Meaning.{whole, element, no_write, no_array};
+ghost use Rattle.tcl_frame.specs.Refusal.{IsRefusedFor};
 
 use crate::dictionary::Dictionary;
+use crate::fault::VarFault;
 use std::alloc::Global;
 use txt_core::{Known, NoMemory, Pairs, Text};
 
 /// The texts of an array by index.
 pub type Elements = Dictionary<Text>;
-
-/// Variables by name.
-pub type Table = Dictionary<Variable>;
 
 /// What a variable is.
 #[derive(Debug, Drop)]
@@ -26,59 +28,95 @@ pub enum Variable {
 }
 
 impl Variable {
-    /// Gives an element of an array this value. A scalar is left as it is.
-    pub fn write_element(&mut self, index: &[u8], value: Text) -> Result<(), NoMemory>
-        ensures ok { OnOk result (self.new ≡ with_index self.old index.now value) }
+    /// Gives a scalar this text. An array is refused.
+    pub fn write(&mut self, value: Text) -> Result<(), VarFault>
+        ensures ok { OnOk result (self.new ≡ Variable.Scalar value) }
+        ensures refused { IsRefusedFor (no_write (whole (Some self.old))) result }
         ensures err { OnErr result (self.new ≡ self.old) }
     {
         match self {
-            Variable::Array(elements) => elements.insert(index, value),
-            Variable::Scalar(_) => Ok(()),
+            Variable::Scalar(text) => {
+                *text = value;
+                Ok(())
+            }
+            Variable::Array(_) => Err(VarFault::IsArray),
         }
     }
 
-    /// Gives each index of a list the value behind it. A scalar is left as it is.
-    pub fn write_pairs(&mut self, pairs: &[Text]) -> Result<(), NoMemory>
-        ensures ok { OnOk result (self.new ≡ with_indexes self.old pairs.now) }
+    /// Gives an element of an array this value. A scalar is refused.
+    #[tactic(auto, using(crate::proofs::Tables::element_open))]
+    pub fn write_element(&mut self, index: &[u8], value: Text) -> Result<(), VarFault>
+        ensures ok { OnOk result
+            (self.new
+            ≡ Variable.Array (map.insert (elements_in (Some self.old)) index.now value)) }
+        ensures refused { IsRefusedFor (no_write (element (Some self.old) index.now)) result }
         ensures err { OnErr result (self.new ≡ self.old) }
     {
         match self {
-            Variable::Array(elements) => elements.write_pairs(pairs),
-            Variable::Scalar(_) => Ok(()),
+            Variable::Array(elements) => {
+                elements.insert(index, value)?;
+                Ok(())
+            }
+            Variable::Scalar(_) => Err(VarFault::NotArray),
         }
     }
 
-    /// Puts bytes behind a scalar's text, and gives the new text. An array is left as it is, and the
-    /// answer is the new bytes alone.
-    pub fn append(&mut self, alloc: Global, more: &[u8], known: Known) -> Result<Text, NoMemory>
+    /// Gives each index of a list the value behind it. A scalar is refused.
+    pub fn write_pairs(&mut self, pairs: &[Text]) -> Result<(), VarFault>
+        ensures ok { OnOk result
+            (self.new ≡ Variable.Array (with_pairs (elements_in (Some self.old)) pairs.now)) }
+        ensures refused { IsRefusedFor (no_array (whole (Some self.old))) result }
+        ensures err { OnErr result (self.new ≡ self.old) }
+    {
+        match self {
+            Variable::Array(elements) => {
+                elements.write_pairs(pairs)?;
+                Ok(())
+            }
+            Variable::Scalar(_) => Err(VarFault::NotArray),
+        }
+    }
+
+    /// Puts bytes behind a scalar's text, and gives the new text. An array is refused.
+    pub fn append(&mut self, alloc: Global, more: &[u8], known: Known) -> Result<Text, VarFault>
         requires { Holds known (text_in self.old ++ more.now) }
         ensures value { IfOk result (λ text. text ≡ text_in self.old ++ more.now) }
-        ensures ok { OnOk result (self.new ≡ with_more self.old more.now) }
+        ensures ok { OnOk result (self.new ≡ Variable.Scalar (text_in self.old ++ more.now)) }
+        ensures refused { IsRefusedFor (no_write (whole (Some self.old))) result }
         ensures err { OnErr result (self.new ≡ self.old) }
     {
         match self {
-            Variable::Scalar(text) => text.append_sharing(alloc, more, known),
-            Variable::Array(_) => Text::new(alloc, more),
+            Variable::Scalar(text) => {
+                let same = text.append_sharing(alloc, more, known)?;
+                Ok(same)
+            }
+            Variable::Array(_) => Err(VarFault::IsArray),
         }
     }
 
     /// Puts bytes behind an element's text, which is empty where it is absent, and gives the new
-    /// text. A scalar is left as it is, and the answer is the new bytes alone.
-    pub fn append_at(
-        &mut self,
-        alloc: Global,
-        index: &[u8],
-        more: &[u8],
-        known: Known,
-    ) -> Result<Text, NoMemory>
+    /// text. A scalar is refused.
+    #[tactic(auto, using(crate::proofs::Tables::element_open))]
+    pub fn append_at(&mut self, index: &[u8], more: &[u8], known: Known) -> Result<Text, VarFault>
         requires { Holds known (text_at self.old index.now ++ more.now) }
         ensures value { IfOk result (λ text. text ≡ text_at self.old index.now ++ more.now) }
-        ensures ok { OnOk result (self.new ≡ with_more_at self.old index.now more.now) }
+        ensures ok { OnOk result
+            (self.new
+            ≡ Variable.Array
+            (map.insert
+            (elements_in (Some self.old))
+            index.now
+            (text_at self.old index.now ++ more.now))) }
+
+        ensures refused { IsRefusedFor (no_write (element (Some self.old) index.now)) result }
         ensures err { OnErr result (self.new ≡ self.old) }
     {
         match self {
-            Variable::Array(elements) => elements.append(index, more, known),
-            Variable::Scalar(_) => Text::new(alloc, more),
+            Variable::Array(elements) => {
+                let same = elements.append(index, more, known)?;
+                Ok(same)
+            }
+            Variable::Scalar(_) => Err(VarFault::NotArray),
         }
     }
 

@@ -1,7 +1,12 @@
-use Rattle.std.proofs.Common.{◌≡◌, ap, sym, ◌∙◌}
+use Rattle.std.proofs.Common.{◌≡◌, ap, sym, subst, ◌∙◌}
 use Rattle.std.specs.FinMap as map
-use Rattle.tcl_frame.proofs.Tables.{on_ok, on_err, at_some, same_inserted, indexes_written}
-use Rattle.tcl_frame.proofs.table.Table.write_pairs.Goals as goal
+use Rattle.txt_core.specs.Keyed.{with_pairs}
+use Rattle.tcl_frame.specs.declared.variable.Variable.TheVariants.{Array}
+use Rattle.tcl_frame.specs.Variables.{elements_in}
+use Rattle.tcl_frame.specs.Meaning.{whole, no_array}
+use Rattle.tcl_frame.specs.Refusal.{IsRefusedFor}
+use Rattle.tcl_frame.proofs.Tables.{on_ok, on_err, at_some, same_inserted}
+use Rattle.tcl_frame.proofs.table.Table.write_array.Goals as goal
 
 pub returns-in-Some-clause-ok : goal.returns-in-Some-clause-ok
 returns-in-Some-clause-ok c =
@@ -9,7 +14,10 @@ returns-in-Some-clause-ok c =
     on_ok c.write_pairs.result _ _ (λ is.
     at_some c.get_mut.result c.in-Some.variable (c.get_mut.follows.lender new ≡ map.insert c.args.self.now c.args.name.now new) c.in-Some.is (c.get_mut.follows.holds new)
     ∙ ap (map.insert c.args.self.now c.args.name.now)
-    (is ∙ indexes_written c.in-Some.variable.now (map.get c.args.self.now c.args.name.now) c.args.pairs.now c.in-Some.ensures.value c.requires)) c.write_pairs.ensures.ok
+    (is ∙ ap (λ o. Array (with_pairs (elements_in o) c.args.pairs.now)) c.in-Some.ensures.value)) c.write_pairs.ensures.ok
+
+pub returns-in-Some-clause-refused : goal.returns-in-Some-clause-refused
+returns-in-Some-clause-refused c = subst (λ o. IsRefusedFor (no_array (whole o)) c.write_pairs.result) c.in-Some.ensures.value c.write_pairs.ensures.refused
 
 pub returns-in-Some-clause-err : goal.returns-in-Some-clause-err
 returns-in-Some-clause-err c =

@@ -1,0 +1,9 @@
+use Rattle.std.proofs.Common.{◌≡◌}
+use Rattle.std.specs.FinMap as map
+use Rattle.tcl_frame.proofs.Tables.{at_some}
+use Rattle.tcl_frame.proofs.dictionary.Dictionary.insert.Goals as goal
+
+pub returns-in-Some-clause-ok : goal.returns-in-Some-clause-ok
+returns-in-Some-clause-ok g c =
+    let value = c.args.value in
+    at_some c.get_mut.result c.in-Some.place (c.get_mut.follows.lender value ≡ map.insert c.args.self.now c.args.key.now value) c.in-Some.is (c.get_mut.follows.holds value)

@@ -1,0 +1,24 @@
+use Rattle.std.proofs.Common.{◌≡◌, ap, sym, subst, ◌∙◌}
+use Rattle.std.specs.FinMap as map
+use Rattle.tcl_frame.specs.Meaning.{whole, no_write}
+use Rattle.tcl_frame.specs.Refusal.{IsRefusedFor}
+use Rattle.tcl_frame.proofs.Tables.{on_ok, on_err, at_some, same_inserted}
+use Rattle.tcl_frame.proofs.table.Table.write_whole.Goals as goal
+
+pub returns-in-Some-clause-ok : goal.returns-in-Some-clause-ok
+returns-in-Some-clause-ok c =
+    let new = c.write.new.self in
+    on_ok c.write.result _ _ (λ is.
+    at_some c.get_mut.result c.in-Some.variable (c.get_mut.follows.lender new ≡ map.insert c.args.self.now c.args.name.now new) c.in-Some.is (c.get_mut.follows.holds new)
+    ∙ ap (map.insert c.args.self.now c.args.name.now) is) c.write.ensures.ok
+
+pub returns-in-Some-clause-refused : goal.returns-in-Some-clause-refused
+returns-in-Some-clause-refused c = subst (λ o. IsRefusedFor (no_write (whole o)) c.write.result) c.in-Some.ensures.value c.write.ensures.refused
+
+pub returns-in-Some-clause-err : goal.returns-in-Some-clause-err
+returns-in-Some-clause-err c =
+    let new = c.write.new.self in
+    on_err c.write.result _ _ (λ is.
+    at_some c.get_mut.result c.in-Some.variable (c.get_mut.follows.lender new ≡ map.insert c.args.self.now c.args.name.now new) c.in-Some.is (c.get_mut.follows.holds new)
+    ∙ ap (map.insert c.args.self.now c.args.name.now) is
+    ∙ same_inserted c.args.self.now c.args.name.now c.in-Some.variable.now (sym c.in-Some.ensures.value)) c.write.ensures.err
