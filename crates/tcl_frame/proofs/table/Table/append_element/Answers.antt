@@ -33,14 +33,14 @@ returns-in-Some-clause-err c =
     ∙ ap (map.insert c.args.self.now c.args.array.now) is
     ∙ same_inserted c.args.self.now c.args.array.now c.in-Some.variable.now (sym c.in-Some.ensures.value)) c.append_at.ensures.err
 
-pub returns-in_ok-insert-in-None-clause-value : goal.returns-in_ok-insert-in-None-clause-value
-returns-in_ok-insert-in-None-clause-value c =
+pub returns-in_ok-add-in-None-clause-value : goal.returns-in_ok-add-in-None-clause-value
+returns-in_ok-add-in-None-clause-value c =
     c.in_ok-value-in-None.ensures.value
     ∙ first_text c.new-elements.result (map.get c.args.self.now c.args.array.now) c.args.index.now c.args.more.now c.new-elements.ensures c.in-None.ensures.value
 
-pub returns-in_ok-insert-in-None-clause-ok : goal.returns-in_ok-insert-in-None-clause-ok
-returns-in_ok-insert-in-None-clause-ok c =
-    c.in_ok-insert-in-None.ensures.ok
+pub returns-in_ok-add-in-None-clause-ok : goal.returns-in_ok-add-in-None-clause-ok
+returns-in_ok-add-in-None-clause-ok c =
+    c.in_ok-add-in-None.ensures.ok
     ∙ ap (λ t. map.insert t c.args.array.now (Array c.append.new.self)) c.get_mut.follows.holds-at-none
     ∙ ap (λ m. map.insert c.args.self.now c.args.array.now (Array m))
     (c.in_ok-value-in-None.ensures.ok

@@ -1,4 +1,4 @@
-use Rattle.std.proofs.Common.{◌≡◌, find, ap, sym, ◌∙◌}
+use Rattle.std.proofs.Common.{find, ap, sym, ◌∙◌}
 use Rattle.std.specs.FinMap as map
 use Rattle.tcl_frame.specs.Few.{is_named}
 use Rattle.tcl_frame.proofs.Fronts.{first_or, front_get}

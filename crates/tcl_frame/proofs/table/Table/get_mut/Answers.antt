@@ -1,4 +1,4 @@
-use Rattle.std.proofs.Common.{◌≡◌, position, refl, ap, sym, ◌∙◌}
+use Rattle.std.proofs.Common.{position, refl, ap, sym, ◌∙◌}
 use Rattle.std.specs.FinMap as map
 use Rattle.tcl_frame.specs.Few.{is_named, in_front}
 use Rattle.tcl_frame.proofs.Tables.{on_some}
@@ -11,8 +11,7 @@ returns-in-Some-get_mut c =
     let rest = c.self.inside.rest in
     let name = c.args.name.now in
     let entry = c.in-Some-get_mut.entry.now in
-    let place = sym (c.in-Some.ensures ∙ ap (position (is_named name)) c.deref.ensures.value) in
-    (
+    let place = sym (c.in-Some.ensures ∙ ap (position (is_named name)) c.deref.ensures.value) in (
       (
         refl,
         λ w. front_put few rest name c.in-Some.place entry place c.in-Some-get_mut.ensures.value w ∙ ap (λ m. map.insert m name w) c.self.view_is,
@@ -30,8 +29,7 @@ returns-in-None c =
     let rest = c.self.inside.rest in
     let name = c.args.name.now in
     let none = sym (c.in-None.ensures ∙ ap (position (is_named name)) c.deref.ensures.value) in
-    let lent = c.get_mut-in-None in
-    (
+    let lent = c.get_mut-in-None in (
       (
         refl,
         λ w. on_some lent.result _ _ (λ is. ap (in_front few) is ∙ put_past few rest name none w ∙ ap (λ m. map.insert m name w) c.self.view_is) (lent.follows.holds w),

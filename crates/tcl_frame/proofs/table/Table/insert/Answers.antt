@@ -1,4 +1,4 @@
-use Rattle.std.proofs.Common.{◌≡◌, ap, sym, ◌∙◌}
+use Rattle.std.proofs.Common.{◌≡◌}
 use Rattle.std.specs.FinMap as map
 use Rattle.tcl_frame.proofs.Tables.{at_some}
 use Rattle.tcl_frame.proofs.table.Table.insert.Goals as goal
