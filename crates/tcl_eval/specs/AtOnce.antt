@@ -48,8 +48,8 @@ word_at_once frames word = rest_of_word frames word (Kept [])
 
 -- a variable that is read is this behind what is kept, or this error
 abbrev pub IsPassed : Ended → SoFar → Result SoFar Ended → Type 0
-IsPassed value so_far (Ok after) = (value.code ≡ 0) × (after ≡ grown so_far value.result)
-IsPassed value so_far (Err failed) = (failed ≡ value) × ((value.code ≡ 0) → ⊥)
+IsPassed value so_far (Ok after) = (value.code ≡ code_of.ok) × (after ≡ grown so_far value.result)
+IsPassed value so_far (Err failed) = (failed ≡ value) × ((value.code ≡ code_of.ok) → ⊥)
 
 -- an operator whose left operand has this value, and whose right one comes to this
 abbrev pub right_at_once : Op → Bytes → Option Ended → Option Ended

@@ -77,7 +77,7 @@ stand_size script (stand.Waits at values) =
 stand_size script (stand.Costly at word) =
     words_size (words_from word (command_at at script)) + 1 + commands_size (commands_from (at + 1) script)
 
--- the command at which a script stands is one of its commands, which are fewer than this
+-- the place of the command at which a script stands lies below this, so that the next place is a number of the machine's
 abbrev pub IsWithin : Stand → Type 0
 IsWithin (stand.Ends value) = Unit {0}
 IsWithin stand.Spent = Unit {0}

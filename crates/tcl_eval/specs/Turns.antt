@@ -20,7 +20,7 @@ use Rattle.tcl_eval.specs.declared.loop_turns.Tested.TheVariants as tested
 use Rattle.tcl_eval.specs.declared.loop_turns.Turn.{Turn}
 use Rattle.tcl_eval.specs.declared.loop_turns.Turn.TheVariants as turn
 
--- the command at which a script stands is one of its commands
+-- the place of the command at which a script stands is one behind which another may follow
 abbrev pub IsSet : Ran → Type 0
 IsSet (ran.Ends value) = Unit {0}
 IsSet ran.TooDeep = Unit {0}
@@ -65,7 +65,7 @@ module _ {H : Type 0} where
       (text : Bytes) (first second : Rest H) (k : Next H) (state : State H) (budget : ℕ) (given : Given)
       → tested_next inner text what first second k state budget given ≡ on_ok (λ v. by_truth v first second k) k value.code value.result state budget given
 
-  -- what was paid for a condition
+  -- at least so much was paid for a condition
   abbrev pub TestPays : Tested → Engine H → Engine H → Type 0
   TestPays tested.Holds new old = new.budget + 1 ≤ old.budget
   TestPays tested.Fails new old = new.budget + 1 ≤ old.budget
@@ -73,7 +73,7 @@ module _ {H : Type 0} where
   TestPays tested.Spent new old = new.budget ≤ old.budget
   TestPays tested.Left new old = new.budget ≤ old.budget
 
-  -- what was paid for a turn, where the loop ends with it, and where it goes on
+  -- at least so much was paid for a turn, where the loop ends with it, and where it goes on
   abbrev pub TurnPays : ℕ → ℕ → Option Turn → Engine H → Engine H → Type 0
   TurnPays ends goes None new old = new.budget + goes ≤ old.budget
   TurnPays ends goes (Some (turn.Ends value)) new old = new.budget + ends ≤ old.budget
@@ -111,6 +111,7 @@ turn_free turn.Whole = 0
 turn_free (turn.Body text) = 2
 turn_free (turn.Next text) = 1
 
+-- the same, where there may be none
 abbrev pub option_free : Option Turn → ℕ
 option_free None = 1
 option_free (Some what) = turn_free what

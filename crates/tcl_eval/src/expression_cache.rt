@@ -1,6 +1,7 @@
 //! Expressions that were evaluated lately.
 
-ghost use Rattle.std.specs.Prelude.{◌≡◌, IfOk, IfSome};
+ghost use Rattle.std.specs.Prelude.{◌≡◌, IfOk, IfSome, IsTrue};
+ghost use Rattle.tcl_eval.specs.Short.{IsShort};
 
 use crate::read_expr::ReadExpr;
 use lru::LruCache;
@@ -16,6 +17,13 @@ pub(crate) const MOST_KEPT: usize = 512;
 
 /// How many bytes a text has at most whose script or expression is kept. A longer one is read each time.
 pub(crate) const MOST_KEPT_BYTES: usize = 4_096;
+
+/// Whether a text is short enough for what is read of it to be kept.
+pub(crate) fn is_short(text: &Text) -> bool
+    ensures { IsTrue result → IsShort text.now }
+{
+    text.len() <= MOST_KEPT_BYTES
+}
 
 /// Texts that were evaluated lately, each with what it is as an expression. Contracts see nothing of
 /// which texts these are: what is kept of a text is true by itself.
@@ -55,9 +63,9 @@ impl Expressions {
             return Ok(read);
         }
         let read = self.read_kept(alloc, text)?;
-        if text.len() <= MOST_KEPT_BYTES {
+        if is_short(text) {
             let again = read.clone()?;
-            self.latest.put(text.bytes(), again)?;
+            self.note(text, again)?;
         }
         Ok(read)
     }
@@ -88,7 +96,7 @@ impl Expressions {
         }
         let read = ReadExpr::new(alloc, text.copy(alloc)?)?;
         let read = Rc::new(alloc, read)?;
-        if text.len() <= MOST_KEPT_BYTES {
+        if is_short(text) {
             let kept = read.clone()?;
             self.keep(alloc, text, kept)?;
         }
@@ -111,8 +119,18 @@ impl Expressions {
         }
     }
 
-    /// Keeps what a text is.
-    fn keep(&mut self, alloc: Global, text: &Text, read: Rc<ReadExpr>) -> Result<(), NoMemory> {
+    /// Puts what a short text is at its place.
+    fn note(&mut self, text: &Text, read: Rc<ReadExpr>) -> Result<(), NoMemory>
+        requires { IsShort text.now }
+    {
+        self.latest.put(text.bytes(), read)?;
+        Ok(())
+    }
+
+    /// Keeps what a short text is.
+    fn keep(&mut self, alloc: Global, text: &Text, read: Rc<ReadExpr>) -> Result<(), NoMemory>
+        requires { IsShort text.now }
+    {
         self.begin(alloc)?;
         if let Some(kept) = &mut self.kept {
             kept.put(Vec::from_slice(alloc, text.bytes())?, read)?;

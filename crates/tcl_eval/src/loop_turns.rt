@@ -6,7 +6,7 @@ ghost use Rattle.txt_core.specs.Names.{Bytes, Names};
 ghost use Rattle.parse_cache.specs.Readings.{IsReading};
 ghost use Rattle.tcl_host.specs.Codes as code_of;
 ghost use Rattle.tcl_eval.specs.State.{Rest};
-ghost use Rattle.tcl_eval.specs.Eval.{Inner, by_truth, nested, on_ok, pay, run_commands, run_script, unread};
+ghost use Rattle.tcl_eval.specs.Eval.{Inner, by_truth, evaluation_cost, nested, on_ok, pay, run_commands, run_script, unread};
 ghost use Rattle.tcl_eval.specs.Expressions.{test};
 ghost use Rattle.tcl_eval.specs.Loops.{between, in_loop, turn_body, turns};
 ghost use Rattle.tcl_eval.specs.Places.{tree_of};
@@ -206,7 +206,7 @@ impl<H: Host> Engine<H> {
             → Leads self.new self.old
             (λ first k. tested_next inner text tested first second k)
             (λ first k.
-            pay 1
+            pay evaluation_cost
             (on_ok (λ v. by_truth v first second k) k value.code value.result))) }
         ensures pays { IfOk result (λ tested. TestPays tested self.new self.old) }
         ensures straight { OnOk result (Straightly self.new self.old) }

@@ -5,11 +5,11 @@ ghost use Rattle.txt_core.specs.Names.{Bytes, Names};
 ghost use Rattle.parse_cache.specs.Readings.{IsReading};
 ghost use Rattle.tcl_eval.specs.Eval.{arg, run_script, unread};
 ghost use Rattle.tcl_eval.specs.Engine.{Same, Holds, Enters, Opens, Lower, credit, acted_next};
-ghost use Rattle.tcl_eval.specs.Short.{most_kept_bytes};
+ghost use Rattle.tcl_eval.specs.Short.{IsShort};
 ghost use Rattle.tcl_eval.specs.declared.engine.OpenQuestion.{OpenQuestion};
 
 use crate::engine::Engine;
-use crate::expression_cache::{Expressions, MOST_KEPT, MOST_KEPT_BYTES};
+use crate::expression_cache::{Expressions, MOST_KEPT, is_short};
 use crate::latest::{Latest, find_latest, put_latest};
 use crate::message::script_fault;
 use crate::read_expr::ReadExpr;
@@ -161,24 +161,20 @@ impl Readings {
     }
 }
 
-/// Whether a text is short enough to be kept.
-fn is_short(text: &Text) -> bool {
-    text.len() <= MOST_KEPT_BYTES
-}
-
 /// What a text is as a script, by a cache where it is short enough for one.
 fn read_by(scripts: &mut Cache, alloc: Global, text: &Text) -> Result<Reading, NoMemory>
     ensures { IfOk result (λ read. IsReading text.now read) }
 {
-    if text.len() > MOST_KEPT_BYTES {
-        return Reading::of(alloc, text);
+    if is_short(text) {
+        read_short(scripts, text)
+    } else {
+        Reading::of(alloc, text)
     }
-    read_short(scripts, text)
 }
 
 /// What a text is as a script, by a cache. The condition is that it is short enough for one.
 fn read_short(scripts: &mut Cache, text: &Text) -> Result<Reading, NoMemory>
-    requires { length text.now ≤ most_kept_bytes }
+    requires { IsShort text.now }
     ensures { IfOk result (λ read. IsReading text.now read) }
 {
     scripts.read(text)
