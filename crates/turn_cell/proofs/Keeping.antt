@@ -54,7 +54,7 @@ module _ {S C R : Type 0} (allowed : S → Type 0) (step : S → C → R → S �
       )
 
   -- the first push, with the object in its opening state
-  pub opens : (n port : ℕ) (v : View S C R) (x : Kept S) (s : S) → v ≡ holding (fresh WHOLE 0 s s) 0 s → x.count ≡ 0 → allowed x.object → Pushes Ru n port v x (Opens v x)
+  pub opens : (n port : ℕ) (v : View S C R) (x : Kept S) (s : S) → v ≡ holding (fresh WHOLE 0 s s) 0 s → x.count ≡ 0 → allowed x.object.value → Pushes Ru n port v x (Opens v x)
   opens n port v x s is none ok items views room r at =
       let st = r.3 in
       let held : v.held ≡ Some (0, s) = ap (λ (y : View S C R). y.held) is in
@@ -65,14 +65,14 @@ module _ {S C R : Type 0} (allowed : S → Type 0) (step : S → C → R → S �
       let empty : length st.history ≡ 0 = ⊎_elim
       (λ (lt : 0 < length st.history). let b = mine.below 0 lt (owns_all allowed step views r.0 r.1 r.2 st port v at units 0 (omega (arith, lt, st.counted))) in absurd (omega (arith, b.0, seen)))
       (λ (le : length st.history ≤ 0). omega arith) (cases_lt 0 (length st.history)) in
-      let w : View S C R = record { units = WHOLE; seen = 0; opening = x.object; low = x.object; own = []; held = None } in
+      let w : View S C R = record { units = WHOLE; seen = 0; opening = x.object.value; low = x.object.value; own = []; held = None } in
       let alone : (j : ℕ) (u : View S C R) → j ≢ port → get_elem? views j ≡ some u → u.units ≡ 0 =
       λ j u ne a. let two = units_two views port j v u at a ne in let all = st.whole in omega (arith, two, all, units) in (
         w,
         (
           0,
-          x.object,
-          x.object,
+          x.object.value,
+          x.object.value,
           record {
             history = [];
             owner = λ _. port;
@@ -83,7 +83,7 @@ module _ {S C R : Type 0} (allowed : S → Type 0) (step : S → C → R → S �
             whole = let u = units_set views port v w at in let all = st.whole in omega (arith, u, all, units);
             placed = λ k lt. absurd (omega arith);
             fits = λ j u e. ⊎_elim
-                (λ (h : (j ≡ port) × (w ≡ u)). subst (λ (y : View S C R). Fits [] x.object (λ _. port) j y) h.1
+                (λ (h : (j ≡ port) × (w ≡ u)). subst (λ (y : View S C R). Fits [] x.object.value (λ _. port) j y) h.1
                 record { own = refl; below = λ k lt f. absurd (omega arith); seen = λ _. omega arith; low = λ _. refl; opens = λ _. refl })
                 (λ (h : (j ≢ port) × (get_elem? views j ≡ some u)). let zero' = alone j u h.0 h.1 in let b = (st.fits j u h.1).own in
                 record {
@@ -330,17 +330,17 @@ module _ {S C R : Type 0} (allowed : S → Type 0) (step : S → C → R → S �
       }
 
   pub puts : (n port : ℕ) (v : View S C R) (x : Kept S) (count : ℕ) (before : S) (call : C) (reply : R) (said : Option (C × R)) → 0 < v.units → v.held ≡ Some (count, before) → said ≡ Some (call, reply)
-      → x.count ≡ count + 1 → step before call reply x.object → allowed x.object → Pushes Ru n port v x (Puts said v x)
+      → x.count ≡ count + 1 → step before call reply x.object.value → allowed x.object.value → Pushes Ru n port v x (Puts said v x)
   puts n port v x count before call reply said some' held is more legal ok items views room r at =
       let out = out_at allowed step items views r.0 r.1 port v count before at held r.4 in
-      let e : Entry S C R = turn_of count before call reply x.object in
+      let e : Entry S C R = turn_of count before call reply x.object.value in
       let w : View S C R = with_turn v e in
       let turn : IsTurn allowed step r.0 r.1 e = (out.1, out.2, legal, ok) in
       let st = puts_stands views r.0 r.1 r.2 r.3 port v e at some' turn in (
         w,
         (
           r.0 + 1,
-          x.object,
+          x.object.value,
           r.2,
           st,
           inl record {
@@ -356,7 +356,7 @@ module _ {S C R : Type 0} (allowed : S → Type 0) (step : S → C → R → S �
             let pair : Path (ℕ × S) (count, before) (count', before') = cc in
             let same' : Path (Option (C × R)) (Some (call, reply)) (Some (call', reply')) = sym is ∙ is' in
             let one : Path (C × R) (call, reply) (call', reply') = cc in
-            λ i. with_turn v (turn_of (pair i).0 (pair i).1 (one i).0 (one i).1 x.object),
+            λ i. with_turn v (turn_of (pair i).0 (pair i).1 (one i).0 (one i).1 x.object.value),
       )
 
 module _ {S C R : Type 0} (allowed : S → Type 0) (reaches : S → S → Type 0) (step : S → C → R → S → Type 0)
@@ -388,8 +388,8 @@ module _ {S C R : Type 0} (allowed : S → Type 0) (reaches : S → S → Type 0
       let same : x ≡ q.item = cc in
       let rest : items ≡ [] = cc in
       let count : x.count ≡ r.0 = ap (λ (y : Kept S). y.count) same ∙ q.counts in
-      let object : x.object ≡ r.1 = ap (λ (y : Kept S). y.object) same ∙ q.object in
-      let w : View S C R = holding v x.count x.object in
+      let object : x.object.value ≡ r.1 = ap (λ (y : Kept S). y.object.value) same ∙ q.object in
+      let w : View S C R = holding v x.count x.object.value in
       let mine = r.3.fits port v at in
       let fit : Fits r.3.history r.2 r.3.owner port w = record { own = mine.own; below = mine.below; seen = mine.seen; low = mine.low; opens = mine.opens } in (
         w,

@@ -28,7 +28,7 @@ module _ {S C R : Type 0} where
     pub item : Kept S
     pub items_are : items ≡ item ∷ []
     pub counts : item.count ≡ count
-    pub object : item.object ≡ now
+    pub object : item.object.value ≡ now
     pub none : (port : ℕ) (v : View S C R) → IsPass views port v → v.held ≡ None
 
   -- The queue is empty, and one pass alone has the object

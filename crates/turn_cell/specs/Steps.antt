@@ -21,11 +21,11 @@ module _ {S C R : Type 0} where
 
   -- the push of a new cell: the pass has the whole share, and knows the opening
   abbrev pub Opens : View S C R → Kept S → View S C R → Type 0
-  Opens v x w = w ≡ fresh WHOLE 0 x.object x.object
+  Opens v x w = w ≡ fresh WHOLE 0 x.object.value x.object.value
 
   -- a push after this call and reply, which were said: the pass that had the object has the entry of the turn
   abbrev pub Puts : Option (C × R) → View S C R → Kept S → View S C R → Type 0
-  Puts said v x w = (count : ℕ) (before : S) (call : C) (reply : R) → v.held ≡ Some (count, before) → said ≡ Some (call, reply) → w ≡ with_turn v (turn_of count before call reply x.object)
+  Puts said v x w = (count : ℕ) (before : S) (call : C) (reply : R) → v.held ≡ Some (count, before) → said ≡ Some (call, reply) → w ≡ with_turn v (turn_of count before call reply x.object.value)
 
 module _ {S C R : Type 0} (allowed : S → Type 0) (reaches : S → S → Type 0) (step : S → C → R → S → Type 0) where
   -- What a pass that knows v is told by finding the object in this state after this many turns
@@ -41,7 +41,7 @@ module _ {S C R : Type 0} (allowed : S → Type 0) (reaches : S → S → Type 0
 
   -- a pop that takes: the pass has the object as the queue held it
   abbrev pub Takes : View S C R → Kept S → View S C R → Type 0
-  Takes v x w = (w ≡ holding v x.count x.object) × Finds v x.count x.object
+  Takes v x w = (w ≡ holding v x.count x.object.value) × Finds v x.count x.object.value
 
   -- The entry may be the next one of a pass that knows v: the object was found so, and the step is legal between states that the type allows
   pub record IsNext (v : View S C R) (e : Entry S C R) : Type 0 where

@@ -77,7 +77,7 @@ impl<O: Obj> TurnCell<O> {
         let (queue, mut seat) = Queue::<O>::ruled(alloc, 1)?;
         let first = Kept {
             count: 0,
-            object: opening,
+            object: Box::new(alloc, opening)?,
         };
         match queue.try_push_as::<Opening<O>>(&mut seat, first) {
             Ok(()) => {
@@ -149,7 +149,7 @@ impl<O: Obj> TurnCell<O> {
             result.reply (pass_view pass.new) }
     {
         let Kept { count, mut object } = take::<O, R>(rt, &self.queue, &self.free, &mut pass.seat);
-        let before = Snapshot::of(&object);
+        let before = Snapshot::of(object.as_ref());
         let said = Snapshot::of(&call);
         let reply = object.act(call);
         put::<O, Brand, R>(
@@ -180,7 +180,7 @@ impl<O: Obj> TurnCell<O> {
     {
         let Pass { mut seat } = pass;
         match self.queue.pop_as::<Take<O>, R>(rt, &mut seat) {
-            Some(Kept { count: _, object }) => object,
+            Some(Kept { count: _, object }) => Box::into_inner(object),
             None => unreachable!(),
         }
     }
@@ -243,16 +243,17 @@ fn put<O: Obj, K: Said<O::Call, O::Reply>, R: Wait>(
     before: Snapshot<O>,
     call: Snapshot<O::Call>,
     reply: &O::Reply,
-    object: O,
+    object: Box<O>,
 )
     requires queue { IsPassOf queue.now seat.old × (ruled_capacity queue.now ≡ 1) }
     requires held { (0 < (view seat.old).units)
         × ((view seat.old).held ≡ Some (place, before.value)) }
-    requires legal { O.step before.value call.value reply.now object × O.allowed object }
+    requires legal { O.step before.value call.value reply.now object.value × O.allowed object.value }
     requires said { K.said ≡ Some (call.value, reply.now) }
     ensures queue { IsPassOf queue.now seat.new }
     ensures back { view seat.new
-        ≡ with_turn (view seat.old) (turn_of place before.value call.value reply.now object) }
+        ≡ with_turn (view seat.old)
+        (turn_of place before.value call.value reply.now object.value) }
 {
     let kept = Kept {
         count: one_more(rt, place),

@@ -34,9 +34,10 @@ pub struct View<S, C, R> {
     pub held: Option<(u64, S)>,
 }
 
-/// What the queue of a cell holds: the object, and how many turns it has had.
+/// What the queue of a cell holds: the object, and how many turns it has had. The object stands on the
+/// heap, so that a turn moves it neither out of the queue nor back.
 #[derive(Drop)]
 pub struct Kept<S> {
     pub count: u64,
-    pub object: S,
+    pub object: Box<S>,
 }
