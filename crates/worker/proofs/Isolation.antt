@@ -19,12 +19,12 @@ gives_same : (names : List (List ℕ)) (a b : blueprints.State) (one other : Req
     → one ≡ other → edition_of a ≡ edition_of b → m ≡ n → given ≡ heard → c ≡ d → (reply ≡ second) × (way ≡ end)
 gives_same names a b one other m n given heard c d reply second left rest way end g h request edition moment answers close =
     let main : Main names (edition_of a) one m given ≡ Main names (edition_of b) other n heard = λ i. Main names (edition i) (request i) (moment i) (answers i) in
-    let written : writes g.response g.ending g.state g.inside left ≡ writes h.response h.ending h.state h.inside rest = sym g.main ∙ (main ∙ h.main) in
-    let response : g.response ≡ h.response = cc in
+    let written : writes g.responds.response g.responds.ending g.responds.state g.responds.inside left ≡ writes h.responds.response h.responds.ending h.responds.state h.responds.inside rest = sym g.responds.main ∙ (main ∙ h.responds.main) in
+    let response : g.responds.response ≡ h.responds.response = cc in
     let whole : whole_run names a one m true given ≡ whole_run names b other n true heard = λ i. behind_response names (edition i) (moment i) true (request i) (Main names (edition i) (request i) (moment i) (answers i)) in
     let ended = sym g.after ∙ (whole ∙ h.after) in
     let outcome : g.outcome ≡ h.outcome = cc in (
-      g.bytes ∙ ((λ i. bytes_for (request i) (response i) (moment i) (close i)) ∙ sym h.bytes),
+      g.responds.bytes ∙ ((λ i. bytes_for (request i) (response i) (moment i) (close i)) ∙ sym h.responds.bytes),
       g.way_is ∙ (ap served_outcome outcome ∙ sym h.way_is),
     )
 

@@ -208,12 +208,14 @@ finished names held state request moment number before bytes p r output output_a
         h.left,
         closes_by request number before had h.left all h.all_are,
         record {
-          response = response;
-          ending = ending_of i.task;
-          state = interp_state i;
-          inside = inside;
-          main = h.main;
-          bytes = refl;
+          responds = record {
+            response = response;
+            ending = ending_of i.task;
+            state = interp_state i;
+            inside = inside;
+            main = h.main;
+            bytes = refl;
+          };
           outcome = outcome;
           last = interp_state j;
           inside_last = within;
@@ -329,12 +331,14 @@ cut_short names held state request moment number before bytes p q output output_
         [],
         closes_by request number before had [] had (sym (append-nil had)),
         record {
-          response = response;
-          ending = ending_of i.task;
-          state = interp_state i;
-          inside = inside;
-          main = main;
-          bytes = refl;
+          responds = record {
+            response = response;
+            ending = ending_of i.task;
+            state = interp_state i;
+            inside = inside;
+            main = main;
+            bytes = refl;
+          };
           outcome = both (ending_of i.task) answered;
           last = interp_state i;
           inside_last = inside;

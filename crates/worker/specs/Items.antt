@@ -71,25 +71,8 @@ MayLoseOne WantsBehind moment f answers more = AtMostOneMore moment f answers mo
 module _ (names : Names) where
   -- ---- the reply
 
-  -- On a fresh interpreter of a blueprint, at a moment and with these answers, a request comes to a response, with these answers left,
-  -- and behind it to its end, where none is left. Its reply is the bytes of that response, which say whether the connection closes.
-  -- Nothing else goes into it.
-  pub record Gives (course : Course) (request : Request) (blueprint : blueprints.State) (moment : Moment) (answers : List Answer) (close : Bool)
-      (reply : Bytes) (left : List Answer) (way : ServedOutcome) : Type 0 where
-    pub response : Response
-    pub ending : Ending
-    pub state : State HostState
-    pub inside : ℕ
-    pub main : Main names (edition_of blueprint) request moment answers ≡ writes response ending state inside left
-    pub bytes : reply ≡ bytes_for request response moment close
-    pub outcome : Outcome
-    pub last : State HostState
-    pub inside_last : ℕ
-    pub after : run_in course names blueprint request moment answers ≡ ends outcome last inside_last []
-    pub is_end : IsEnd outcome
-    pub way_is : way ≡ served_outcome outcome
-
-  -- Memory wanted behind the response: the reply is the bytes of that response all the same.
+  -- On a fresh interpreter of a blueprint, at a moment and with these answers, a request comes to a response, with these answers left.
+  -- Its reply is the bytes of that response, which say whether the connection closes. Nothing else goes into it.
   pub record Responds (request : Request) (blueprint : blueprints.State) (moment : Moment) (answers : List Answer) (close : Bool)
       (reply : Bytes) (left : List Answer) : Type 0 where
     pub response : Response
@@ -98,6 +81,17 @@ module _ (names : Names) where
     pub inside : ℕ
     pub main : Main names (edition_of blueprint) request moment answers ≡ writes response ending state inside left
     pub bytes : reply ≡ bytes_for request response moment close
+
+  -- The request comes to its response, and behind it to its end, where no answer is left. How it ended is told.
+  pub record Gives (course : Course) (request : Request) (blueprint : blueprints.State) (moment : Moment) (answers : List Answer) (close : Bool)
+      (reply : Bytes) (left : List Answer) (way : ServedOutcome) : Type 0 where
+    pub responds : Responds request blueprint moment answers close reply left
+    pub outcome : Outcome
+    pub last : State HostState
+    pub inside_last : ℕ
+    pub after : run_in course names blueprint request moment answers ≡ ends outcome last inside_last []
+    pub is_end : IsEnd outcome
+    pub way_is : way ≡ served_outcome outcome
 
   -- What a request comes to, which is the one of this number on its connection, with answers of so many bytes before it: the reply of its
   -- response, which closes the connection by its number and by the answers that were had when the response came; or the named reply,
