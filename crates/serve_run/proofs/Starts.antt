@@ -20,20 +20,20 @@ module _ (names : List (List ℕ)) (held : Option PageMap) (script : List ℕ) (
       → RunsWhole names held (λ look. define_run names look.before script moment) moment e.turn e.epoch e.answers outcome turns a b
       → DefinesAlone names held script moment a.faults b.faults outcome
   defines a b e outcome turns opens r =
-      let is_alone : AreAlone names r.look turns = alone names a.passes r.mid b.passes r.look turns opens r.looks r.gains in
-      let first : r.look.before ≡ blueprints.fresh names = is_alone.blueprint.0.1 in
+      let is_alone : AreAlone names r.first.look turns = alone names a.passes r.first.mid b.passes r.first.look turns opens r.first.looks r.gains in
+      let fresh : r.first.look.before ≡ blueprints.fresh names = is_alone.blueprint.0.1 in
       record {
-        look = r.look;
+        look = r.first.look;
         turns = turns;
         answers = e.answers;
-        is_look = (r.looks.0, r.is_told);
+        is_look = (r.first.looks.0, r.first.is_told);
         alone = is_alone;
-        asked = subst (λ (s : blueprints.State). AreAsked moment (define_run names s script moment) turns e.answers) first r.asked;
+        asked = subst (λ (s : blueprints.State). AreAsked moment (define_run names s script moment) turns e.answers) fresh r.asked;
         pages = r.pages;
         counts = r.page_counts;
         last = r.last;
         inside = r.inside;
-        ended = subst (λ (s : blueprints.State). define_run names s script moment e.answers ≡ ends outcome r.last r.inside []) first r.ended;
+        ended = subst (λ (s : blueprints.State). define_run names s script moment e.answers ≡ ends outcome r.last r.inside []) fresh r.ended;
       }
 
   told : (before after epoch : ℕ) (outcome : Outcome) → DefinesAlone names held script moment before after outcome

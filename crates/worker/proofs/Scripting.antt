@@ -32,7 +32,7 @@ use Rattle.worker.specs.Cost.{renewal, run_cost}
 use Rattle.worker.specs.Outside.{Ticks, AreHeld, page_faults, RoseBy}
 use Rattle.worker.specs.Renewing.{place_told, epoch_told, TellsLook, IsLeft}
 use Rattle.worker.specs.Runs.{edition_of, script_run, define_run}
-use Rattle.worker.specs.Scripts.{epoch_by, epoch_at, epoch_behind, evaluated, RunsWhole, RunsLost, RunsNot, Evaluates, whole, lost, unbegun, RunsDue, due_whole, due_lost, due_unbegun}
+use Rattle.worker.specs.Scripts.{epoch_by, epoch_at, epoch_behind, evaluated, LooksFirst, RunsWhole, RunsLost, RunsNot, Evaluates, whole, lost, unbegun, RunsDue, due_whole, due_lost, due_unbegun}
 use Rattle.worker.specs.Working.{run_outcome, eval_end}
 use Rattle.worker.specs.declared.scripts.Evaled.{Evaled}
 use Rattle.worker.specs.declared.scripts.EvalEnd.TheVariants as evals
@@ -85,6 +85,17 @@ is_told p q turn known look t told = λ is. let e = sym t.reply ∙ is in told (
 pub place_of : (p q : Passes) (turn known : ℕ) (look : Look) (t : TellsLook p turn known look q) → look ≢ looks.NoMemory → t.entry.place ≡ turn
 place_of p q turn known look t told = place_is t.entry.place look told ∙ sym t.at
 
+-- the look with which a run began
+abbrev looks_first : (p q : Passes) (turn epoch known : ℕ) (look : Look) (t : TellsLook p turn known look q) → look ≢ looks.NoMemory → epoch ≡ epoch_told known look → LooksFirst turn epoch p
+looks_first p q turn epoch known look t told epoch_is_told = record {
+  look = t.entry;
+  mid = q;
+  looks = t.gains;
+  is_told = is_told p q turn known look t told;
+  place = place_of p q turn known look t told;
+  epoch = epoch_is p q turn known look t told ∙ sym epoch_is_told;
+}
+
 -- ---- to its end
 
 no_turn_lost : (moment : ℕ) (f : List Answer → Progress) (given : List Answer) (more : List Turn) (outcome : Outcome) → MayStand moment f given more (next.Ended outcome) → more ≡ []
@@ -100,12 +111,7 @@ ran_whole names held run moment turn epoch known answers had a b look mid outcom
     let all_is : h.given ≡ answers = sym (h.all_are ∙ ap (λ (l : List Answer). l ++ h.given) none) in
     let only : h.turns ++ h.more ≡ h.turns = ap (λ (ts : List Turn). h.turns ++ ts) h.behind ∙ append-nil h.turns in
     record {
-      look = t.entry;
-      mid = mid;
-      looks = t.gains;
-      is_told = is_told a.passes mid turn known look t told;
-      place = place_of a.passes mid turn known look t told;
-      epoch = epoch_is a.passes mid turn known look t told ∙ sym epoch_is_told;
+      first = looks_first a.passes mid turn epoch known look t told epoch_is_told;
       gains = subst (λ (ts : List Turn). GainsTurns mid ts b.passes) only h.gains;
       asked = subst (λ (l : List Answer). AreAsked moment (λ further. run t.entry further) h.turns l) all_is h.asked;
       pages = subst (λ (ts : List Turn). AreHeld held ts) only h.pages;
@@ -132,12 +138,7 @@ pub ran_lost : (names : List (List ℕ)) (held : Option PageMap) (run : BlueEntr
 ran_lost names held run moment turn epoch known answers had a b look mid came inside interp marked before after t told epoch_is_told h none stands paid =
     let all_is : h.given ≡ answers = sym (h.all_are ∙ ap (λ (l : List Answer). l ++ h.given) none) in
     record {
-      look = t.entry;
-      mid = mid;
-      looks = t.gains;
-      is_told = is_told a.passes mid turn known look t told;
-      place = place_of a.passes mid turn known look t told;
-      epoch = epoch_is a.passes mid turn known look t told ∙ sym epoch_is_told;
+      first = looks_first a.passes mid turn epoch known look t told epoch_is_told;
       turns = h.turns;
       more = h.more;
       gains = h.gains;
@@ -160,17 +161,15 @@ stands_left : (a b : Option Standing) (edition : Edition) → ((b ≡ a) ⊎ (b 
 stands_left a b edition (inl is) = inl is
 stands_left a b edition (inr is) = inr (inl is)
 
+cost_more : (before after one run : ℕ) → after ≤ before + 2 * one → after ≤ before + 2 * one + run
+cost_more before after one run h = omega (arith, h)
+
 pub ran_lost_early : (names : List (List ℕ)) (held : Option PageMap) (run : BlueEntry → List Answer → Progress) (moment turn epoch known : ℕ) (answers : List Answer) (a b : At) (look : Look) (old new : Option Interp)
     (t : TellsLook a.passes turn known look b.passes) → look ≢ looks.NoMemory → epoch ≡ epoch_told known look → answers ≡ []
     → IsLeft look old new → a.standing ≡ standing_in old → b.standing ≡ standing_in new → b.faults ≡ a.faults → b.steps ≤ a.steps + 2 * renewal names a.standing t.entry.before
     → RunsLost names held run moment turn epoch answers a b
 ran_lost_early names held run moment turn epoch known answers a b look old new t told epoch_is_told none l had has faults paid = record {
-  look = t.entry;
-  mid = b.passes;
-  looks = t.gains;
-  is_told = is_told a.passes b.passes turn known look t told;
-  place = place_of a.passes b.passes turn known look t told;
-  epoch = epoch_is a.passes b.passes turn known look t told ∙ sym epoch_is_told;
+  first = looks_first a.passes b.passes turn epoch known look t told epoch_is_told;
   turns = [];
   more = [];
   gains = gains_none b.passes;
@@ -179,7 +178,7 @@ ran_lost_early names held run moment turn epoch known answers a b look old new t
   pages = held_none held;
   page_counts = subst (λ (n : ℕ). RoseBy 0 a.faults n) (sym faults) (rose_none a.faults);
   stands = stands_left a.standing b.standing (edition_of t.entry.before) (⊎_elim (λ (is : standing_in new ≡ standing_in old). inl (has ∙ (is ∙ sym had))) (λ (is : standing_in new ≡ None). inr (has ∙ is)) (left_stands look old new told l));
-  steps = let n = run_cost (run t.entry answers) in omega (arith, paid);
+  steps = cost_more a.steps b.steps (renewal names a.standing t.entry.before) (run_cost (run t.entry answers)) paid;
 }
 
 -- ---- where the look was refused

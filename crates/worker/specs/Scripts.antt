@@ -68,6 +68,17 @@ evaluated outcomes.TooDeep epoch = evals.TooDeep
 evaluated (outcomes.Asks question) epoch = evals.NoMemory
 evaluated outcomes.NoMemory epoch = evals.NoMemory
 
+-- ---- the look in front of a run
+
+-- A run begins by a look on the blueprint, which was answered: its place among the turns there is told, and the epoch that it found.
+pub record LooksFirst (turn at_epoch : ℕ) (before : Passes) : Type 0 where
+  pub look : BlueEntry
+  pub mid : Passes
+  pub looks : GainsLook before look mid
+  pub is_told : IsAnsweredLook look
+  pub place : look.place ≡ turn
+  pub epoch : look.before.epoch ≡ at_epoch
+
 module _ (names : Names) (held : Option PageMap) where
   -- ---- one script
 
@@ -75,42 +86,32 @@ module _ (names : Names) (held : Option PageMap) where
   -- blueprint that its look found.
   pub record RunsWhole (run : BlueEntry → List Answer → Progress) (moment : Moment) (turn at_epoch : ℕ) (answers : List Answer)
       (outcome : Outcome) (turns : List Turn) (a b : At) : Type 0 where
-    pub look : BlueEntry
-    pub mid : Passes
-    pub looks : GainsLook a.passes look mid
-    pub is_told : IsAnsweredLook look
-    pub place : look.place ≡ turn
-    pub epoch : look.before.epoch ≡ at_epoch
-    pub gains : GainsTurns mid turns b.passes
-    pub asked : AreAsked moment (run look) turns answers
+    pub first : LooksFirst turn at_epoch a.passes
+    pub gains : GainsTurns first.mid turns b.passes
+    pub asked : AreAsked moment (run first.look) turns answers
     pub pages : AreHeld held turns
     pub page_counts : RoseBy (page_faults turns) a.faults b.faults
     pub last : State HostState
     pub inside : ℕ
-    pub ended : run look answers ≡ ends outcome last inside []
+    pub ended : run first.look answers ≡ ends outcome last inside []
     pub is_end : IsEnd outcome
-    pub stands : b.standing ≡ Some (record { edition = edition_of look.before; marked = last.host.marked })
-    pub steps : b.steps ≤ a.steps + renewal names a.standing look.before + run_cost (ends outcome last inside [])
+    pub stands : b.standing ≡ Some (record { edition = edition_of first.look.before; marked = last.host.marked })
+    pub steps : b.steps ≤ a.steps + renewal names a.standing first.look.before + run_cost (ends outcome last inside [])
 
   -- A run for which memory didn't suffice, behind its look: it has the answers that were had, and the replay goes with them as far as
   -- they reach. One turn more may stand than there are answers.
   pub record RunsLost (run : BlueEntry → List Answer → Progress) (moment : Moment) (turn at_epoch : ℕ) (answers : List Answer) (a b : At)
       : Type 0 where
-    pub look : BlueEntry
-    pub mid : Passes
-    pub looks : GainsLook a.passes look mid
-    pub is_told : IsAnsweredLook look
-    pub place : look.place ≡ turn
-    pub epoch : look.before.epoch ≡ at_epoch
+    pub first : LooksFirst turn at_epoch a.passes
     pub turns : List Turn
     pub more : List Turn
-    pub gains : GainsTurns mid (turns ++ more) b.passes
-    pub asked : AreAsked moment (run look) turns answers
-    pub one_more : AtMostOneMore moment (run look) answers more
+    pub gains : GainsTurns first.mid (turns ++ more) b.passes
+    pub asked : AreAsked moment (run first.look) turns answers
+    pub one_more : AtMostOneMore moment (run first.look) answers more
     pub pages : AreHeld held (turns ++ more)
     pub page_counts : RoseBy (page_faults (turns ++ more)) a.faults b.faults
-    pub stands : (b.standing ≡ a.standing) ⊎ (b.standing ≡ None) ⊎ ((standing : Standing) × (b.standing ≡ Some standing) × (standing.edition ≡ edition_of look.before))
-    pub steps : b.steps ≤ a.steps + 2 * renewal names a.standing look.before + run_cost (run look answers)
+    pub stands : (b.standing ≡ a.standing) ⊎ (b.standing ≡ None) ⊎ ((standing : Standing) × (b.standing ≡ Some standing) × (standing.edition ≡ edition_of first.look.before))
+    pub steps : b.steps ≤ a.steps + 2 * renewal names a.standing first.look.before + run_cost (run first.look answers)
 
   -- Memory wanted before: nothing was done, or a look was taken, which was refused.
   pub record RunsNot (turn at_epoch : ℕ) (answers : List Answer) (a b : At) : Type 0 where
