@@ -1,4 +1,4 @@
--- The statuses of the responses that the server makes itself (RFC 9110, section 15).
+-- The statuses of the responses whose status no script names (RFC 9110, section 15).
 use Rattle.std.specs.Prelude.{ℕ}
 
 abbrev pub ok : ℕ

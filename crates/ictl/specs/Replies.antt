@@ -52,7 +52,7 @@ procedure_reply code given = if is_good code then given_or_failed given else fai
 -- what the pages put out, with the output fields as they are at the end
 abbrev pub page_output : HostState → Response
 page_output host =
-    record { status = 200; fields = output_fields host.conn; kind = codes "text/html"; body = host.pages.output }
+    record { status = statuses.ok; fields = output_fields host.conn; kind = codes "text/html"; body = host.pages.output }
 
 -- the response behind a first page: that which was given; without one the request failed where an error was recorded, and else it
 -- is what the pages put out

@@ -7,7 +7,7 @@ use Rattle.std.proofs.lemmas.Option.{slice_get-get_or}
 use Rattle.load_gen.specs.Load.{next, choice, target_of, get_of, block, round_of, round, rounds, load_file, most_requests}
 use Rattle.load_gen.specs.Load as load
 use Rattle.load_gen.proofs.Rounds.{get_short, target_short, file_short}
-use Rattle.rehearse.specs.Events.{Actor, worker, scheduler, Event, workers, clock, page, define, connect, step, run, newline, line_of, words_of, block_of, block_end, spelled, file_of, most_file, most_block, most_input, most_workers}
+use Rattle.rehearse.specs.Events.{Actor, worker, scheduler, Event, workers, clock, page, define, connect, step, run, line_end, line_of, words_of, block_of, block_end, spelled, file_of, most_file, most_block, most_input, most_workers}
 use Rattle.rehearse.specs.Files.{ComesNext, End, whole, bad, EndsAs, Opens, Holds}
 use Rattle.rehearse.specs.Lines.{Line}
 use Rattle.rehearse.specs.Objects.{Setting}
@@ -30,19 +30,19 @@ define_parts : (w d n b rest : List ℕ) → (((w ++ d) ++ n) ++ (b ++ n)) ++ re
 define_parts w d n b rest = simp append_assoc
 
 front_text : (d b rest : List ℕ) → (codes "workers 4\ndefine " ++ d ++ codes "\n" ++ b ++ codes "\n") ++ rest
-    ≡ codes "workers 4\n" ++ ((((codes "define" ++ (32 ∷ d)) ++ newline) ++ (b ++ newline)) ++ rest)
+    ≡ codes "workers 4\n" ++ ((((codes "define" ++ (32 ∷ d)) ++ line_end) ++ (b ++ line_end)) ++ rest)
 front_text d b rest =
-    front_parts (codes "workers 4\ndefine ") d newline b rest
-    ∙ ap (λ (t : List ℕ). codes "workers 4\n" ++ t) (sym (define_parts (codes "define ") d newline b rest))
+    front_parts (codes "workers 4\ndefine ") d line_end b rest
+    ∙ ap (λ (t : List ℕ). codes "workers 4\n" ++ t) (sym (define_parts (codes "define ") d line_end b rest))
 
 workers_text : spelled (workers 4) ≡ codes "workers 4\n"
-workers_text = ap (λ (d : List ℕ). ((codes "workers" ++ (32 ∷ d)) ++ newline) ++ []) (decimal_digit 4 (omega arith))
+workers_text = ap (λ (d : List ℕ). ((codes "workers" ++ (32 ∷ d)) ++ line_end) ++ []) (decimal_digit 4 (omega arith))
 
-step_text : (n : ℕ) → n < 10 → spelled (step (worker n)) ≡ codes "step " ++ ((48 + n) ∷ newline)
-step_text n h = ap (λ (d : List ℕ). ((codes "step" ++ (32 ∷ d)) ++ newline) ++ []) (decimal_digit n h)
+step_text : (n : ℕ) → n < 10 → spelled (step (worker n)) ≡ codes "step " ++ ((48 + n) ∷ line_end)
+step_text n h = ap (λ (d : List ℕ). ((codes "step" ++ (32 ∷ d)) ++ line_end) ++ []) (decimal_digit n h)
 
-run_text : (n : ℕ) → n < 10 → spelled (run (worker n)) ≡ codes "run " ++ ((48 + n) ∷ newline)
-run_text n h = ap (λ (d : List ℕ). ((codes "run" ++ (32 ∷ d)) ++ newline) ++ []) (decimal_digit n h)
+run_text : (n : ℕ) → n < 10 → spelled (run (worker n)) ≡ codes "run " ++ ((48 + n) ∷ line_end)
+run_text n h = ap (λ (d : List ℕ). ((codes "run" ++ (32 ∷ d)) ++ line_end) ++ []) (decimal_digit n h)
 
 each_text : (does : ℕ → Event) (text : ℕ → List ℕ) → ((n : ℕ) → n < 10 → spelled (does n) ≡ text n) → file_of (each does) ≡ text 0 ++ (text 1 ++ (text 2 ++ (text 3 ++ [])))
 each_text does text h =
@@ -52,10 +52,10 @@ each_text does text h =
     ∙ ap (λ (t : List ℕ). text 0 ++ (text 1 ++ (text 2 ++ (t ++ [])))) (h 3 (omega arith))
 
 steps_text : file_of (each (λ n. step (worker n))) ≡ codes "step 0\nstep 1\nstep 2\nstep 3\n"
-steps_text = each_text (λ n. step (worker n)) (λ n. codes "step " ++ ((48 + n) ∷ newline)) step_text
+steps_text = each_text (λ n. step (worker n)) (λ n. codes "step " ++ ((48 + n) ∷ line_end)) step_text
 
 back_text : file_of (each (λ n. run (worker n))) ≡ load.back
-back_text = each_text (λ n. run (worker n)) (λ n. codes "run " ++ ((48 + n) ∷ newline)) run_text
+back_text = each_text (λ n. run (worker n)) (λ n. codes "run " ++ ((48 + n) ∷ line_end)) run_text
 
 lines_parts : (r d n c s l input steps : List ℕ) → r ++ d ++ n ++ c ++ d ++ s ++ l ++ n ++ input ++ n ++ steps
     ≡ r ++ (d ++ (n ++ (c ++ (d ++ (s ++ (l ++ (n ++ (input ++ (n ++ steps)))))))))
@@ -68,10 +68,10 @@ events_parts r d n c s l input steps = simp append_assoc
 -- the lines of a connection, by the digits of its worker and of its length
 connection_text : (d l input steps : List ℕ) →
     codes "run " ++ d ++ codes "\n" ++ codes "connect " ++ d ++ codes " " ++ l ++ codes "\n" ++ input ++ codes "\n" ++ steps
-    ≡ (((codes "run" ++ (32 ∷ d)) ++ newline) ++ []) ++ ((((codes "connect" ++ (32 ∷ (d ++ (32 ∷ l)))) ++ newline) ++ (input ++ newline)) ++ steps)
+    ≡ (((codes "run" ++ (32 ∷ d)) ++ line_end) ++ []) ++ ((((codes "connect" ++ (32 ∷ (d ++ (32 ∷ l)))) ++ line_end) ++ (input ++ line_end)) ++ steps)
 connection_text d l input steps =
-    lines_parts (codes "run ") d newline (codes "connect ") (codes " ") l input steps
-    ∙ sym (events_parts (codes "run ") d newline (codes "connect ") (codes " ") l input steps)
+    lines_parts (codes "run ") d line_end (codes "connect ") (codes " ") l input steps
+    ∙ sym (events_parts (codes "run ") d line_end (codes "connect ") (codes " ") l input steps)
 
 round_text : (x k : ℕ) → round x k ≡ file_of (round_events x k)
 round_text x k =

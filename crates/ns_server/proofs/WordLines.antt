@@ -6,7 +6,7 @@ use Rattle.std.proofs.lemmas.Bool.Decides.{nat_tests}
 use Rattle.std.proofs.lemmas.Fmt.{decimal_by_steps, decimal_injective}
 use Rattle.std.proofs.lemmas.List.Folds.{list_any-append}
 use Rattle.std.proofs.Math.Seq.{take-append_seam, drop-append_seam}
-use Rattle.rehearse.specs.Events.{newline, line_of}
+use Rattle.rehearse.specs.Events.{line_end, line_of}
 use Rattle.rehearse.specs.Plays.{is_break}
 
 -- ---- words
@@ -93,7 +93,7 @@ pub lines_same : (ws vs : List (List ℕ)) (t u : List ℕ) → HasWord ws → H
 lines_same [] vs t u a b h k e = absurd a
 lines_same (w ∷ ws) [] t u a b h k e = absurd b
 lines_same (w ∷ ws) (v ∷ vs) t u a b h k e =
-    joined_same w v ws vs t u h k (sym (append_assoc (join_with_byte 32 (w ∷ ws)) newline t) ∙ e ∙ append_assoc (join_with_byte 32 (v ∷ vs)) newline u)
+    joined_same w v ws vs t u h k (sym (append_assoc (join_with_byte 32 (w ∷ ws)) line_end t) ∙ e ∙ append_assoc (join_with_byte 32 (v ∷ vs)) line_end u)
 
 -- ---- numbers and blocks
 
@@ -109,7 +109,7 @@ same_parts a b s t n e =
 
 -- a block whose length stands in the line
 pub blocks_same : (a b s t : List ℕ) → length a < 2 ^ 64 → length b < 2 ^ 64 → decimal (length a) ≡ decimal (length b)
-    → (a ++ newline) ++ s ≡ (b ++ newline) ++ t → (a ≡ b) × (s ≡ t)
+    → (a ++ line_end) ++ s ≡ (b ++ line_end) ++ t → (a ≡ b) × (s ≡ t)
 blocks_same a b s t h k d e =
-    let r = same_parts a b (newline ++ s) (newline ++ t) (decimal_injective (length a) (length b) h k d) (sym (append_assoc a newline s) ∙ e ∙ append_assoc b newline t) in
+    let r = same_parts a b (line_end ++ s) (line_end ++ t) (decimal_injective (length a) (length b) h k d) (sym (append_assoc a line_end s) ∙ e ∙ append_assoc b line_end t) in
     (r.0, ap (λ (z : List ℕ). drop 1 z) r.1)

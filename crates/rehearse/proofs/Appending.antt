@@ -5,7 +5,7 @@ use Rattle.tcl_eval.specs.declared.outcome.Outcome.{Outcome}
 use Rattle.tcl_eval.specs.declared.outcome.Outcome.TheVariants as outcomes
 use Rattle.txt_core.specs.declared.memory.NoMemory.{NoMemory}
 use Rattle.rehearse.specs.Defining.{define_line}
-use Rattle.rehearse.specs.Events.{newline}
+use Rattle.rehearse.specs.Events.{line_end}
 use Rattle.rehearse.specs.Lines.{define_error, response, script, script_spent, script_deep, epoch_word, listing_of}
 
 -- what follows from a good end
@@ -21,32 +21,32 @@ error_line outcome code epoch result is some = ap (define_line epoch) is ∙ by_
     by_code zero not = absurd (not refl)
     by_code (suc n) not = refl
 
-error_told : (t result : List ℕ) → (t ++ codes "define error ") ++ decimal (length result) ++ newline ++ result ++ newline ≡ t ++ listing_of (define_error result ∷ [])
-error_told t result = grouped t (codes "define error ") (decimal (length result)) newline result
+error_told : (t result : List ℕ) → (t ++ codes "define error ") ++ decimal (length result) ++ line_end ++ result ++ line_end ≡ t ++ listing_of (define_error result ∷ [])
+error_told t result = grouped t (codes "define error ") (decimal (length result)) line_end result
   where
     grouped : (t a d n r : List ℕ) → ((((t ++ a) ++ d) ++ n) ++ r) ++ n ≡ t ++ ((((a ++ d) ++ n) ++ (r ++ n)) ++ [])
     grouped t a d n r = simp (append_assoc, append-nil) refl
 
-pub tells_error : (t a b result : List ℕ) → a ≡ t ++ codes "define error " → b ≡ a ++ decimal (length result) ++ newline ++ result ++ newline
+pub tells_error : (t a b result : List ℕ) → a ≡ t ++ codes "define error " → b ≡ a ++ decimal (length result) ++ line_end ++ result ++ line_end
     → b ≡ t ++ listing_of (define_error result ∷ [])
 tells_error t a b result e f =
-    f ∙ ap (λ (x : List ℕ). x ++ decimal (length result) ++ newline ++ result ++ newline) e ∙ error_told t result
+    f ∙ ap (λ (x : List ℕ). x ++ decimal (length result) ++ line_end ++ result ++ line_end) e ∙ error_told t result
 
 response_told : (t bytes : List ℕ) (number : ℕ) (epoch : Option ℕ) (status : ℕ)
-    → (((t ++ codes "response ") ++ decimal number ++ codes " ") ++ epoch_word epoch ++ codes " ") ++ decimal (length bytes) ++ newline ++ bytes ++ newline
+    → (((t ++ codes "response ") ++ decimal number ++ codes " ") ++ epoch_word epoch ++ codes " ") ++ decimal (length bytes) ++ line_end ++ bytes ++ line_end
     ≡ t ++ listing_of (response number epoch status bytes ∷ [])
 response_told t bytes number epoch status =
-    grouped t (codes "response ") (decimal number) (codes " ") (epoch_word epoch) (decimal (length bytes)) newline bytes
+    grouped t (codes "response ") (decimal number) (codes " ") (epoch_word epoch) (decimal (length bytes)) line_end bytes
   where
     grouped : (t s a p b d n r : List ℕ) → ((((((((t ++ s) ++ a) ++ p) ++ b) ++ p) ++ d) ++ n) ++ r) ++ n
         ≡ t ++ ((((s ++ (a ++ (p ++ (b ++ (p ++ d))))) ++ n) ++ (r ++ n)) ++ [])
     grouped t s a p b d n r = simp (append_assoc, append-nil) refl
 
 pub tells_response : (t a b c d bytes : List ℕ) (number : ℕ) (epoch : Option ℕ) (status : ℕ) → a ≡ t ++ codes "response " → b ≡ a ++ decimal number ++ codes " "
-    → c ≡ b ++ epoch_word epoch ++ codes " " → d ≡ c ++ decimal (length bytes) ++ newline ++ bytes ++ newline
+    → c ≡ b ++ epoch_word epoch ++ codes " " → d ≡ c ++ decimal (length bytes) ++ line_end ++ bytes ++ line_end
     → d ≡ t ++ listing_of (response number epoch status bytes ∷ [])
 tells_response t a b c d bytes number epoch status e f g h =
-    h ∙ ap (λ (x : List ℕ). x ++ decimal (length bytes) ++ newline ++ bytes ++ newline)
+    h ∙ ap (λ (x : List ℕ). x ++ decimal (length bytes) ++ line_end ++ bytes ++ line_end)
     (g ∙ ap (λ (x : List ℕ). x ++ epoch_word epoch ++ codes " ") (f ∙ ap (λ (x : List ℕ). x ++ decimal number ++ codes " ") e))
     ∙ response_told t bytes number epoch status
 
@@ -57,10 +57,10 @@ begins_script t a b c id epoch e f g =
     g ∙ ap (λ (x : List ℕ). x ++ decimal epoch ++ codes " ") (f ∙ ap (λ (x : List ℕ). x ++ decimal id ++ codes " ") e)
 
 script_told : (t result : List ℕ) (id epoch code : ℕ)
-    → ((((t ++ codes "script ") ++ decimal id ++ codes " ") ++ decimal epoch ++ codes " ") ++ decimal code ++ codes " ") ++ decimal (length result) ++ newline ++ result ++ newline
+    → ((((t ++ codes "script ") ++ decimal id ++ codes " ") ++ decimal epoch ++ codes " ") ++ decimal code ++ codes " ") ++ decimal (length result) ++ line_end ++ result ++ line_end
     ≡ t ++ listing_of (script id epoch code result ∷ [])
 script_told t result id epoch code =
-    grouped t (codes "script ") (decimal id) (codes " ") (decimal epoch) (decimal code) (decimal (length result)) newline result
+    grouped t (codes "script ") (decimal id) (codes " ") (decimal epoch) (decimal code) (decimal (length result)) line_end result
   where
     grouped : (t s a p b c d n r : List ℕ) → ((((((((((t ++ s) ++ a) ++ p) ++ b) ++ p) ++ c) ++ p) ++ d) ++ n) ++ r) ++ n
         ≡ t ++ ((((s ++ (a ++ (p ++ (b ++ (p ++ (c ++ (p ++ d))))))) ++ n) ++ (r ++ n)) ++ [])
@@ -68,10 +68,10 @@ script_told t result id epoch code =
 
 pub tells_script : (t c d e result : List ℕ) (id epoch code : ℕ)
     → c ≡ ((t ++ codes "script ") ++ decimal id ++ codes " ") ++ decimal epoch ++ codes " "
-    → d ≡ c ++ decimal code ++ codes " " → e ≡ d ++ decimal (length result) ++ newline ++ result ++ newline
+    → d ≡ c ++ decimal code ++ codes " " → e ≡ d ++ decimal (length result) ++ line_end ++ result ++ line_end
     → e ≡ t ++ listing_of (script id epoch code result ∷ [])
 tells_script t c d e result id epoch code f g h =
-    h ∙ ap (λ (x : List ℕ). x ++ decimal (length result) ++ newline ++ result ++ newline) (g ∙ ap (λ (x : List ℕ). x ++ decimal code ++ codes " ") f)
+    h ∙ ap (λ (x : List ℕ). x ++ decimal (length result) ++ line_end ++ result ++ line_end) (g ∙ ap (λ (x : List ℕ). x ++ decimal code ++ codes " ") f)
     ∙ script_told t result id epoch code
 
 spent_told : (t : List ℕ) (id epoch : ℕ)

@@ -2,14 +2,14 @@
 use Rattle.std.proofs.Common.{◌≡◌, ℕ, List, ◌∷◌, ◌++◌, append_assoc, true, Option, None, Some, sym, subst, ap, ◌∙◌}
 use Rattle.std.specs.List.{list_all, join_with_byte}
 use Rattle.rehearse.specs.declared.head.Head.{Head}
-use Rattle.rehearse.specs.Events.{Event, newline, block_of, block_end, spelled}
+use Rattle.rehearse.specs.Events.{Event, line_end, block_of, block_end, spelled}
 use Rattle.rehearse.specs.Numbers.{Finds}
 use Rattle.rehearse.specs.Reading.{is_other, CutAt, head_words, IsHead, IsShort, HasHead}
 use Rattle.rehearse.proofs.Cutting.{cuts_same}
 use Rattle.rehearse.proofs.Spelling.{line_words, line_clean, words_same, short_of, head_for, head_for_is, event_has}
 
 pub whole_cut : (e : Event) (bytes : List ℕ) → IsShort e → bytes ≡ spelled e → CutAt 10 bytes (line_words e, block_end (block_of e))
-whole_cut e bytes h is = (line_clean e h, is ∙ append_assoc (line_words e) newline (block_end (block_of e)))
+whole_cut e bytes h is = (line_clean e h, is ∙ append_assoc (line_words e) line_end (block_end (block_of e)))
 
 pub no_line : (bytes : List ℕ) → ((x : List ℕ × List ℕ) → ¬ (CutAt 10 bytes x)) → (e : Event) → ¬ (IsShort e × (bytes ≡ spelled e))
 no_line bytes never e h = never (line_words e, block_end (block_of e)) (whole_cut e bytes h.0 h.1)
@@ -31,5 +31,5 @@ event_found bytes line behind h (Some e) cut head is =
     let clean : list_all (is_other 10) (join_with_byte 32 (head_words h)) ≡ true = ap (list_all (is_other 10)) (sym head.1) ∙ cut.0 in (
       short_of h e is.0 head.0 clean,
       cut.1 ∙ ap (λ (t : List ℕ). t ++ 10 ∷ behind) (sym words) ∙ ap (λ (t : List ℕ). line_words e ++ 10 ∷ t) is.1
-          ∙ sym (append_assoc (line_words e) newline (block_end (block_of e))),
+          ∙ sym (append_assoc (line_words e) line_end (block_end (block_of e))),
     )

@@ -7,7 +7,7 @@ use Rattle.std.proofs.lemmas.Bool.{eqb-true}
 use Rattle.std.proofs.lemmas.Option.{slice_get_within}
 use Rattle.std.proofs.Math.Seq.{take-append_seam}
 use Rattle.rehearse.specs.declared.head.Head.{Head}
-use Rattle.rehearse.specs.Events.{worker, scheduler, Event, workers, clock, page, define, connect, step, run, newline, spelled, block_of, block_end, most_file}
+use Rattle.rehearse.specs.Events.{worker, scheduler, Event, workers, clock, page, define, connect, step, run, line_end, spelled, block_of, block_end, most_file}
 use Rattle.rehearse.specs.Files.{ComesNext}
 use Rattle.rehearse.specs.Plays.{MayCome}
 use Rattle.rehearse.specs.Intakes.{IntakeState}
@@ -134,8 +134,8 @@ no_head_then s line rest is none never more world e few c =
 pub event_length : (e : Event) (h : Head) (line : List ℕ) → IsShort e → IsHead h line → line_words e ≡ line
     → length (spelled e) ≡ length line + 1 + behind_line (head_block h)
 event_length e h line short head same =
-    let parts : length (spelled e) ≡ length (line_words e ++ newline) + length (block_end (block_of e)) = length-append (line_words e ++ newline) (block_end (block_of e)) in
-    let front : length (line_words e ++ newline) ≡ length (line_words e) + length newline = length-append (line_words e) newline in
+    let parts : length (spelled e) ≡ length (line_words e ++ line_end) + length (block_end (block_of e)) = length-append (line_words e ++ line_end) (block_end (block_of e)) in
+    let front : length (line_words e ++ line_end) ≡ length (line_words e) + length line_end = length-append (line_words e) line_end in
     let behind : length (block_end (block_of e)) ≡ behind_line (head_block h) = behind_size h e (event_has e h line short head same) in
     let len : length (line_words e) ≡ length line = ap length same in
     omega (arith, parts, front, behind, len)

@@ -4,7 +4,7 @@ use Rattle.std.proofs.lemmas.List.{append_cancel_right, take-append-le}
 use Rattle.std.proofs.Math.Seq.{take-append_seam, drop-append_seam}
 use Rattle.rehearse.specs.declared.head.Head.{Head}
 use Rattle.rehearse.specs.declared.head.Head.TheVariants as heads
-use Rattle.rehearse.specs.Events.{Event, page, define, connect, newline, block_of, block_end, spelled}
+use Rattle.rehearse.specs.Events.{Event, page, define, connect, line_end, block_of, block_end, spelled}
 use Rattle.rehearse.specs.Files.{ComesNext}
 use Rattle.rehearse.specs.Playing.{HasFew}
 use Rattle.rehearse.specs.Reading.{IsShort, HasHead}
@@ -21,12 +21,12 @@ same_parts a b s t n e =
     (sym (take-append_seam a s) ∙ f ∙ take-append_seam b t, sym (drop-append_seam a s) ∙ g ∙ drop-append_seam b t)
 
 -- a block is read in one way
-same_block : (a b s t : List ℕ) → length a ≡ length b → (a ++ newline) ++ s ≡ (b ++ newline) ++ t → (a ≡ b) × (s ≡ t)
+same_block : (a b s t : List ℕ) → length a ≡ length b → (a ++ line_end) ++ s ≡ (b ++ line_end) ++ t → (a ≡ b) × (s ≡ t)
 same_block a b s t n e =
-    let len : length (a ++ newline) ≡ length (b ++ newline) =
-    length-append a newline ∙ ap (λ (m : ℕ). m + 1) n ∙ sym (length-append b newline) in
-    let p : (a ++ newline ≡ b ++ newline) × (s ≡ t) = same_parts (a ++ newline) (b ++ newline) s t len e in
-    (append_cancel_right a b newline p.0, p.1)
+    let len : length (a ++ line_end) ≡ length (b ++ line_end) =
+    length-append a line_end ∙ ap (λ (m : ℕ). m + 1) n ∙ sym (length-append b line_end) in
+    let p : (a ++ line_end ≡ b ++ line_end) × (s ≡ t) = same_parts (a ++ line_end) (b ++ line_end) s t len e in
+    (append_cancel_right a b line_end p.0, p.1)
 
 abbrev Same : Event → List ℕ → Event → List ℕ → Type 0
 Same d r e s = (d ≡ e) × (r ≡ s)

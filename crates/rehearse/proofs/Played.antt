@@ -1,7 +1,7 @@
 -- The events of a file, played one after another.
 use Rattle.std.proofs.Common.{◌≡◌, ℕ, ◌+◌, ◌≤◌, List, [], ◌∷◌, ◌++◌, length, refl, sym, subst, ap, ◌∙◌, append_assoc, append-nil, length-append, arith}
 use Rattle.std.proofs.lemmas.List.{length-set, length-replicate}
-use Rattle.rehearse.specs.Events.{Actor, worker, scheduler, Event, workers, clock, page, define, connect, step, run, newline, block_of, block_end, spelled, file_of, most_workers}
+use Rattle.rehearse.specs.Events.{Actor, worker, scheduler, Event, workers, clock, page, define, connect, step, run, line_end, block_of, block_end, spelled, file_of, most_workers}
 use Rattle.rehearse.specs.Lines.{Line, told, listing_of}
 use Rattle.rehearse.specs.Plays.{MayCome, StepsActor, RunsActor, Does, Plays, Lists, no_event, one_event}
 use Rattle.rehearse.specs.Playing.{HasFew}
@@ -16,8 +16,8 @@ use Rattle.rehearse.proofs.Spelling.{line_words}
 -- an event has a byte
 pub spelled_some : (e : Event) → 1 ≤ length (spelled e)
 spelled_some e =
-    let a : length (spelled e) ≡ length (line_words e ++ newline) + length (block_end (block_of e)) = length-append (line_words e ++ newline) (block_end (block_of e)) in
-    let b : length (line_words e ++ newline) ≡ length (line_words e) + length newline = length-append (line_words e) newline in
+    let a : length (spelled e) ≡ length (line_words e ++ line_end) + length (block_end (block_of e)) = length-append (line_words e ++ line_end) (block_end (block_of e)) in
+    let b : length (line_words e ++ line_end) ≡ length (line_words e) + length line_end = length-append (line_words e) line_end in
     omega (arith, a, b)
 
 -- a file that is one event longer

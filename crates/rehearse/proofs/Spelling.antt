@@ -8,7 +8,7 @@ use Rattle.rehearse.specs.declared.head.Head.{Head}
 use Rattle.rehearse.specs.declared.head.Head.TheVariants as heads
 use Rattle.rehearse.specs.declared.keyword.Keyword.{Keyword}
 use Rattle.rehearse.specs.declared.keyword.Keyword.TheVariants as keywords
-use Rattle.rehearse.specs.Events.{Actor, worker, scheduler, name_of, actor_word, Event, workers, clock, page, define, connect, step, run, newline, words_of, block_of, block_end, spelled, most_block, most_input}
+use Rattle.rehearse.specs.Events.{Actor, worker, scheduler, name_of, actor_word, Event, workers, clock, page, define, connect, step, run, line_end, words_of, block_of, block_end, spelled, most_block, most_input}
 use Rattle.rehearse.specs.Numbers.{IsSmall}
 use Rattle.rehearse.specs.Plays.{IsPath, is_break}
 use Rattle.rehearse.specs.Reading.{is_other, CutAt, actor_of, IsShortActor, IsPathWord, head_words, head_block, behind_line, IsShortHead, IsHead, IsShort, HasHead}
@@ -117,7 +117,7 @@ abbrev pub line_words : Event → List ℕ
 line_words e = join_with_byte 32 (words_of e)
 
 pub spelled_parts : (e : Event) (more : List ℕ) → spelled e ++ more ≡ line_words e ++ 10 ∷ (block_end (block_of e) ++ more)
-spelled_parts e more = regroup (line_words e) newline (block_end (block_of e)) more
+spelled_parts e more = regroup (line_words e) line_end (block_end (block_of e)) more
   where
     regroup : (a b c d : List ℕ) → ((a ++ b) ++ c) ++ d ≡ a ++ (b ++ (c ++ d))
     regroup a b c d = simp append_assoc refl
@@ -283,11 +283,11 @@ pub behind_size : (h : Head) (e : Event) → HasHead h e → length (block_end (
 behind_size (heads.Workers count) e is = ap (λ (d : Event). length (block_end (block_of d))) is
 behind_size (heads.Clock moment) e is = ap (λ (d : Event). length (block_end (block_of d))) is
 behind_size (heads.Page path size) e is =
-    ap (λ (d : Event). length (block_end (block_of d))) is.2 ∙ length-append is.0 newline ∙ ap (λ (n : ℕ). n + 1) is.1
+    ap (λ (d : Event). length (block_end (block_of d))) is.2 ∙ length-append is.0 line_end ∙ ap (λ (n : ℕ). n + 1) is.1
 behind_size (heads.Define size) e is =
-    ap (λ (d : Event). length (block_end (block_of d))) is.2 ∙ length-append is.0 newline ∙ ap (λ (n : ℕ). n + 1) is.1
+    ap (λ (d : Event). length (block_end (block_of d))) is.2 ∙ length-append is.0 line_end ∙ ap (λ (n : ℕ). n + 1) is.1
 behind_size (heads.Connect number size) e is =
-    ap (λ (d : Event). length (block_end (block_of d))) is.2 ∙ length-append is.0 newline ∙ ap (λ (n : ℕ). n + 1) is.1
+    ap (λ (d : Event). length (block_end (block_of d))) is.2 ∙ length-append is.0 line_end ∙ ap (λ (n : ℕ). n + 1) is.1
 behind_size (heads.Step actor) e is = ap (λ (d : Event). length (block_end (block_of d))) is
 behind_size (heads.Run actor) e is = ap (λ (d : Event). length (block_end (block_of d))) is
 

@@ -29,16 +29,16 @@ pub data Event : Type 0 where
 
 -- ---- spelling
 
-abbrev pub newline : Bytes
-newline = 10 ∷ []
+abbrev pub line_end : Bytes
+line_end = 10 ∷ []
 
 -- A line is words with one space between, and a newline.
 abbrev pub line_of : Words → Bytes
-line_of words = join_with_byte 32 words ++ newline
+line_of words = join_with_byte 32 words ++ line_end
 
 -- behind a line there may be a block, which is followed by a newline
 abbrev pub block_end : Option Bytes → Bytes
-block_end (Some block) = block ++ newline
+block_end (Some block) = block ++ line_end
 block_end None = []
 
 -- the first word of each event

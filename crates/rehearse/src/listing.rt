@@ -1,7 +1,7 @@
 //! The listing, entry by entry.
 
 ghost use Rattle.std.specs.Prelude.{◌≡◌, ◌++◌, ◌∷◌, [], OnOk, codes, decimal, length};
-ghost use Rattle.rehearse.specs.Events.{newline};
+ghost use Rattle.rehearse.specs.Events.{line_end};
 ghost use Rattle.rehearse.specs.Lines.{response, closed, epoch_word};
 ghost use Rattle.rehearse.specs.Defining.{define_line};
 ghost use Rattle.rehearse.specs.Schedules.{script_line};
@@ -12,6 +12,7 @@ ghost use Rattle.rehearse.specs.Playing.{Tells, closing_of};
 use crate::tally::Tally;
 use std::alloc::Global;
 use tcl_eval::Outcome;
+use tcl_host::OK;
 use txt_core::{NoMemory, Text, write_natural};
 
 /// Why a connection was closed.
@@ -64,7 +65,7 @@ impl Listing {
     fn push_block(&mut self, block: &[u8]) -> Result<(), NoMemory>
         ensures { OnOk result
             ((self.new.text
-            ≡ self.old.text ++ decimal (length block.now) ++ newline ++ block.now ++ newline)
+            ≡ self.old.text ++ decimal (length block.now) ++ line_end ++ block.now ++ line_end)
             × (self.new.tally ≡ self.old.tally)) }
     {
         self.push_number(block.len() as u64, b"\n")?;
@@ -90,7 +91,7 @@ impl Listing {
         ensures { OnOk result (Tells self.old (define_line epoch outcome ∷ []) self.new) }
     {
         match outcome {
-            Outcome::Done { code: 0, .. } => {
+            Outcome::Done { code: OK, .. } => {
                 self.text.append(b"defined ")?;
                 self.push_number(epoch, b"\n")
             }

@@ -12,7 +12,7 @@ use Rattle.url_tables.specs.Urls.{segments, plain_of, suffix_of, below, fits}
 use Rattle.url_tables.specs.Serving.{Match, rank, pattern_rank, match_of, route_method, registration, better, route}
 use Rattle.url_tables.specs.declared.routes.Routes.{Routes}
 use Rattle.url_tables.specs.Tables.{same_path, if_same, kept, sites_at, IsBuiltOf}
-use Rattle.url_tables.specs.Searching.{or_else, is_kind, serves, words_if, last_serving, found_at}
+use Rattle.url_tables.specs.Searching.{or_else, has_pattern_as, serves, words_if, last_serving, found_at}
 use Rattle.url_tables.proofs.Keys.{same, other}
 use Rattle.url_tables.proofs.Ranks.{only, best_when, Passes, passes_only, passes_best, is_rank, below_some, below_found, at_most_one, split, stays, from_all}
 
@@ -37,7 +37,7 @@ abbrev pub kind_rank : Bool → ℕ
 kind_rank true = 1
 kind_rank false = 0
 
-kind_at : (pattern : Bool) (suffix : Option (List ℕ)) (plain count : ℕ) → plain ≡ count → (2 * plain + pattern_rank suffix == 2 * count + kind_rank pattern) ≡ is_kind pattern suffix
+kind_at : (pattern : Bool) (suffix : Option (List ℕ)) (plain count : ℕ) → plain ≡ count → (2 * plain + pattern_rank suffix == 2 * count + kind_rank pattern) ≡ has_pattern_as pattern suffix
 kind_at true None plain count e = grind (arith, nat_tests)
 kind_at true (Some s) plain count e = grind (arith, nat_tests)
 kind_at false None plain count e = grind (arith, nat_tests)
@@ -61,15 +61,15 @@ all_fit true m site w = ap Some (sym w)
 all_fit false m site w = refl
 
 by_fit : (pattern f : Bool) (parts words : List (List ℕ)) (count : ℕ) (site : Site) → site.route.words ≡ words → length (plain_of parts) ≡ count
-    → words_of (only (is_rank (2 * count + kind_rank pattern)) (if f then Some (rank parts, words) else None)) ≡ words_if ((is_kind pattern (suffix_of parts) && true) && f) site
+    → words_of (only (is_rank (2 * count + kind_rank pattern)) (if f then Some (rank parts, words) else None)) ≡ words_if ((has_pattern_as pattern (suffix_of parts) && true) && f) site
 by_fit pattern true parts words count site w e =
-    rw (kind_at pattern (suffix_of parts) (length (plain_of parts)) count e) (all_fit (is_kind pattern (suffix_of parts)) (rank parts, words) site w)
-by_fit pattern false parts words count site w e = no_fit (is_kind pattern (suffix_of parts)) site
+    rw (kind_at pattern (suffix_of parts) (length (plain_of parts)) count e) (all_fit (has_pattern_as pattern (suffix_of parts)) (rank parts, words) site w)
+by_fit pattern false parts words count site w e = no_fit (has_pattern_as pattern (suffix_of parts)) site
 
 by_method : (pattern b : Bool) (inherit : Bool) (parts words path : List (List ℕ)) (count : ℕ) (site : Site) → site.route.words ≡ words → count ≤ length path → plain_of parts ≡ take count path
     → words_of (only (is_rank (2 * count + kind_rank pattern)) (if b then match_of inherit parts (below (plain_of parts) path) words else None))
-    ≡ words_if ((is_kind pattern (suffix_of parts) && b) && fits inherit (suffix_of parts) (drop count path)) site
-by_method pattern false inherit parts words path count site w le e = no_words (is_kind pattern (suffix_of parts)) (fits inherit (suffix_of parts) (drop count path)) site
+    ≡ words_if ((has_pattern_as pattern (suffix_of parts) && b) && fits inherit (suffix_of parts) (drop count path)) site
+by_method pattern false inherit parts words path count site w le e = no_words (has_pattern_as pattern (suffix_of parts)) (fits inherit (suffix_of parts) (drop count path)) site
 by_method pattern true inherit parts words path count site w le e =
     let whole : path ≡ plain_of parts ++ drop count path = sym (take-append-drop count path) ∙ ap (λ (p : List (List ℕ)). p ++ drop count path) (sym e) in
     let left : below (plain_of parts) path ≡ Some (drop count path) = ap (below (plain_of parts)) whole ∙ below_found (plain_of parts) (drop count path) in

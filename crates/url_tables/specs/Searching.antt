@@ -18,13 +18,13 @@ or_else (Some first) second = Some first
 or_else None second = second
 
 -- whether there is a suffix where there is to be one, and none where there is to be none
-abbrev pub is_kind : Bool → Option Bytes → Bool
-is_kind true suffix = is_some suffix
-is_kind false suffix = not (is_some suffix)
+abbrev pub has_pattern_as : Bool → Option Bytes → Bool
+has_pattern_as true suffix = is_some suffix
+has_pattern_as false suffix = not (is_some suffix)
 
 -- whether a registration, kept under its plain segments, serves a method and what is left of a path; by whether it has a pattern
 abbrev pub serves : Bool → Bytes → Words → Site → Bool
-serves pattern method rest site = is_kind pattern site.suffix && bytes_eq site.method method && fits site.inherit site.suffix rest
+serves pattern method rest site = has_pattern_as pattern site.suffix && bytes_eq site.method method && fits site.inherit site.suffix rest
 
 -- the words of one that serves
 abbrev pub words_if : Bool → Site → Option Words

@@ -2,7 +2,7 @@
 
 ghost use Rattle.std.specs.Prelude.{◌≡◌};
 ghost use Rattle.url_tables.specs.Urls.{last_of, fits};
-ghost use Rattle.url_tables.specs.Searching.{is_kind, serves};
+ghost use Rattle.url_tables.specs.Searching.{has_pattern_as, serves};
 
 use txt_core::{Text, Words};
 
@@ -52,8 +52,8 @@ impl Site {
     }
 
     /// Whether its URL has a pattern, where it is to have one, or has none.
-    fn is_kind(&self, pattern: bool) -> bool
-        ensures { result ≡ is_kind pattern self.now.suffix }
+    fn has_pattern_as(&self, pattern: bool) -> bool
+        ensures { result ≡ has_pattern_as pattern self.now.suffix }
     {
         if pattern {
             self.suffix.is_some()
@@ -67,6 +67,6 @@ impl Site {
     pub fn serves(&self, method: &[u8], rest: &[Text], pattern: bool) -> bool
         ensures { result ≡ serves pattern method.now rest.now self.now }
     {
-        self.is_kind(pattern) && self.method.bytes() == method && self.fits(rest)
+        self.has_pattern_as(pattern) && self.method.bytes() == method && self.fits(rest)
     }
 }

@@ -1,5 +1,5 @@
 -- Scripts that a worker runs without a connection: those that are due, and those that make definitions.
-use Rattle.std.specs.Prelude.{◌≡◌, ◌⊎◌, ◌≤◌, ℕ, zero, suc, ◌+◌, ◌*◌, List, [], ◌∷◌, ◌++◌, Option, None, Some}
+use Rattle.std.specs.Prelude.{◌≡◌, ◌==◌, ◌⊎◌, ◌≤◌, if◌then◌else◌, ℕ, ◌+◌, ◌*◌, List, [], ◌∷◌, ◌++◌, Option, None, Some}
 use Rattle.txt_core.specs.Names.{Bytes, Names, Moment}
 use Rattle.outside.specs.Clocks.{Dial}
 use Rattle.outside.specs.Paging.{PageMap}
@@ -15,6 +15,7 @@ use Rattle.sched_core.specs.declared.call.DueScript.{DueScript}
 use Rattle.sched_core.specs.declared.call.SchedCall.TheVariants as schedule
 use Rattle.sched_core.specs.declared.call.SchedReply.{SchedReply}
 use Rattle.sched_core.specs.declared.call.SchedReply.TheVariants as scheduled
+use Rattle.tcl_host.specs.Codes as code_of
 use Rattle.tcl_eval.specs.State.{State}
 use Rattle.tcl_eval.specs.declared.outcome.Outcome.{Outcome}
 use Rattle.tcl_eval.specs.declared.outcome.Outcome.TheVariants as outcomes
@@ -61,8 +62,7 @@ epoch_behind epoch (turn ∷ other ∷ turns) = epoch_behind epoch (other ∷ tu
 -- What is told of a definition run that ended so: of a good end the epoch behind its publication, or that of its look where nothing
 -- was published; of any other code the result, which is the error.
 abbrev pub evaluated : Outcome → ℕ → EvalEnd
-evaluated (outcomes.Done zero result) epoch = evals.Done epoch
-evaluated (outcomes.Done (suc code) result) epoch = evals.Error result
+evaluated (outcomes.Done code result) epoch = if code == code_of.ok then evals.Done epoch else evals.Error result
 evaluated outcomes.Spent epoch = evals.Spent
 evaluated outcomes.TooDeep epoch = evals.TooDeep
 evaluated (outcomes.Asks question) epoch = evals.NoMemory

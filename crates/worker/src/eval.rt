@@ -24,6 +24,7 @@ use std::alloc::Global;
 use std::sync::Wait;
 use std::sync::ledger::Ledger;
 use tcl_eval::Outcome;
+use tcl_host::OK;
 use txt_core::Text;
 
 /// How a definition run ended that came to this; this is the epoch behind it.
@@ -31,7 +32,7 @@ fn end_of(next: Next, epoch: u64) -> EvalEnd
     ensures { result ≡ eval_end next epoch }
 {
     match next {
-        Next::Ended(Outcome::Done { code: 0, .. }) => EvalEnd::Done { epoch },
+        Next::Ended(Outcome::Done { code: OK, .. }) => EvalEnd::Done { epoch },
         Next::Ended(Outcome::Done { result, .. }) => EvalEnd::Error(result),
         Next::Ended(Outcome::Spent) => EvalEnd::Spent,
         Next::Ended(Outcome::TooDeep) => EvalEnd::TooDeep,

@@ -1,6 +1,6 @@
 use Rattle.std.proofs.Common.{◌≡◌, ℕ, List, [], ◌∷◌, ◌++◌, length, subst, sym, ap, ◌∙◌}
 use Rattle.std.specs.Prelude.{decimal, codes}
-use Rattle.rehearse.specs.Events.{newline}
+use Rattle.rehearse.specs.Events.{line_end}
 use Rattle.rehearse.specs.Lines.{Line, script}
 use Rattle.rehearse.specs.Playing.{Tells}
 use Rattle.rehearse.specs.Schedules.{script_line}
@@ -19,7 +19,7 @@ returns-in_ok-push_number-in-Done c =
     ap (script_line c.args.id c.args.epoch) c.in-Done.is ∙ ap (λ (r : List ℕ). script c.args.id c.args.epoch c.in-Done.code r) (sym c.bytes.ensures)
     ∙ ap (λ (n : ℕ). script c.args.id c.args.epoch n result) (sym c.from.ensures) in
     on_ok c.push_block.result
-    ((c.push_block.new.self.text ≡ c.push_number-in-Done.new.self.text ++ decimal (length result) ++ newline ++ result ++ newline)
+    ((c.push_block.new.self.text ≡ c.push_number-in-Done.new.self.text ++ decimal (length result) ++ line_end ++ result ++ line_end)
     × (c.push_block.new.self.tally ≡ c.push_number-in-Done.new.self.tally))
     (Tells c.args.self.now (script_line c.args.id c.args.epoch c.args.outcome ∷ []) c.push_block.new.self)
     (λ h. subst (λ (l : Line). Tells c.args.self.now (l ∷ []) c.push_block.new.self) (sym line) (
