@@ -6,7 +6,7 @@ use crate::counts::Faults;
 use crate::reply::Reply;
 use crate::silence::Silence;
 use crate::turn::Turn;
-use crate::waiting::{Place, Waiting};
+use crate::waiting::{PlaceInLine, Waiting};
 use outside::{ReadAnswer, Sink, Source, WriteAnswer};
 use std::alloc::{AllocError, Global};
 use std::io::{self, ErrorKind, Read, Write};
@@ -94,7 +94,7 @@ pub struct TcpSource<R> {
     rt: R,
     line: Arc<Line, Global>,
     pub(crate) waiting: Waiting,
-    place: Option<Place>,
+    place: Option<PlaceInLine>,
     request: Turn,
     pub(crate) session: Turn,
     pub(crate) faults: Faults,

@@ -39,10 +39,10 @@ impl Waiting {
     }
 
     /// Counts one more, for as long as the place is kept.
-    pub(crate) fn enter(&self) -> Result<Place, AllocError> {
+    pub(crate) fn enter(&self) -> Result<PlaceInLine, AllocError> {
         let counts = Arc::try_clone(&self.counts)?;
         counts.entered.fetch_add(1, Ordering::SeqCst);
-        Ok(Place { counts })
+        Ok(PlaceInLine { counts })
     }
 
     /// How many have begun to wait so far.
@@ -62,13 +62,13 @@ impl Waiting {
 }
 
 /// The place of one connection among those that wait. Dropping it leaves the line.
-pub(crate) struct Place {
+pub(crate) struct PlaceInLine {
     counts: Arc<Counts, Global>,
 }
 
-impl Drop for Place {
+impl Drop for PlaceInLine {
     fn drop(self) {
-        let Place { counts } = self;
+        let PlaceInLine { counts } = self;
         counts.left.fetch_add(1, Ordering::SeqCst);
     }
 }
