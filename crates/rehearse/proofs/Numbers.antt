@@ -1,67 +1,57 @@
 -- Numbers in decimal.
-use Rattle.std.proofs.Common.{◌≡◌, ℕ, zero, suc, ◌+◌, ◌-◌, ◌*◌, ◌^◌, ◌<◌, ◌≤◌, ◌⊎◌, lit<, subst, List, length, get_or, take, Bool, true, false, refl, sym, ap, ◌∙◌, arith}
-use Rattle.std.specs.Prelude.{decimal, nat_le, ◌&&◌}
+use Rattle.std.proofs.Common.{◌≡◌, ℕ, zero, suc, ◌-◌, ◌^◌, ◌<◌, ◌≤◌, lit<, subst, List, length, get_or, true, false, refl, sym, ap, ◌∙◌, arith}
+use Rattle.std.specs.Prelude.{decimal}
 use Rattle.std.specs.Int.{IsInRange}
 use Rattle.std.specs.List.{list_all}
-use Rattle.std.specs.Str.Parse.{digits_value, AllDigits}
-use Rattle.std.specs.Char.{digit_value}
+use Rattle.std.specs.Str.Parse.{AllDigits}
+use Rattle.std.proofs.lemmas.Bool.{ltb-true}
 use Rattle.std.proofs.lemmas.Bool.Decides.{nat_tests}
 use Rattle.std.proofs.lemmas.Fmt.{digits_decimal, decimal-digits_value, decimal_nonempty, decimal_digit, first_decimal, length-decimal-le, decimal_injective}
-use Rattle.std.proofs.lemmas.Int.Digits.{digits_value_more}
-use Rattle.std.proofs.lemmas.Str.{digit_value_digit}
-use Rattle.std.proofs.lemmas.Str.Parse.{IsNumeralModel, IsDigitsTest, numerals_by_value, digits_value_short, digit_at}
+use Rattle.std.proofs.lemmas.Str.Parse.{IsNumeralModel, IsDigitsTest, WeighsDigits, numerals_by_weight, digits_value_short, digit_at}
+use Rattle.txt_core.specs.Digits.{digit_of, is_digit, value_of}
 use Rattle.rehearse.specs.Numbers.{IsSmall}
 use Rattle.rehearse.specs.Reading.{is_other}
 use Rattle.rehearse.proofs.Cutting.{both, all_other}
 
--- a decimal digit
-abbrev pub is_digit : ℕ → Bool
-is_digit b = nat_le 48 b && nat_le b 57
-
-pub digit_in_range : (c : ℕ) → is_digit c ≡ true → IsInRange 48 57 c
+digit_in_range : (c : ℕ) → is_digit 10 c ≡ true → IsInRange 48 57 c
 digit_in_range c h = (grind (arith, nat_tests), grind (arith, nat_tests))
 
-pub in_range_digit : (c : ℕ) → IsInRange 48 57 c → is_digit c ≡ true
+in_range_digit : (c : ℕ) → IsInRange 48 57 c → is_digit 10 c ≡ true
 in_range_digit c h = grind (arith, nat_tests)
 
-tells : IsDigitsTest (λ t. list_all is_digit t ≡ true)
+in_range_value : (c : ℕ) → IsInRange 48 57 c → digit_of c ≡ c - 48
+in_range_value c h = grind (arith, nat_tests)
+
+tells : IsDigitsTest (λ t. list_all (is_digit 10) t ≡ true)
 tells = record {
   empty = refl;
-  parts = λ c t h. let p : (is_digit c ≡ true) × (list_all is_digit t ≡ true) = both (is_digit c) (list_all is_digit t) h in (digit_in_range c p.0, p.1);
+  parts = λ c t h. let p : (is_digit 10 c ≡ true) × (list_all (is_digit 10) t ≡ true) = both (is_digit 10 c) (list_all (is_digit 10) t) h in (digit_in_range c p.0, p.1);
   more = λ c t h k. rw (in_range_digit c h, k) refl;
 }
 
-pub own : IsNumeralModel (λ t. list_all is_digit t ≡ true) (digits_value 10)
-own = numerals_by_value (λ t. list_all is_digit t ≡ true) tells
+weighs : WeighsDigits (value_of 10)
+weighs = record { empty = refl; more = λ c t h. rw (in_range_value c h) refl }
+
+own : IsNumeralModel (λ t. list_all (is_digit 10) t ≡ true) (value_of 10)
+own = numerals_by_weight (λ t. list_all (is_digit 10) t ≡ true) tells (value_of 10) weighs
 
 pub small_fits : (n : ℕ) → IsSmall n → n < 2 ^ 64
 small_fits n h = omega arith
 
 -- a byte that is no digit stands in no number
-pub decimal_other : (c n : ℕ) → is_digit c ≡ false → n < 2 ^ 64 → list_all (is_other c) (decimal n) ≡ true
-decimal_other c n away h = all_other is_digit c (decimal n) away (digits_decimal own n h)
-
--- one digit more
-pub value_more : (ds : List ℕ) (i : ℕ) → i < length ds → IsInRange 48 57 (get_or ds i 0)
-    → digits_value 10 (take (i + 1) ds) ≡ digits_value 10 (take i ds) * 10 + (get_or ds i 0 - 48)
-value_more ds i h r =
-    let d : digit_value (get_or ds i 0) + 48 ≡ get_or ds i 0 = digit_value_digit (get_or ds i 0) r in
-    let e : digit_value (get_or ds i 0) ≡ get_or ds i 0 - 48 = minus (digit_value (get_or ds i 0)) (get_or ds i 0) d in
-    digits_value_more 10 ds i h ∙ ap (λ (n : ℕ). digits_value 10 (take i ds) * 10 + n) e
-  where
-    minus : (a b : ℕ) → a + 48 ≡ b → a ≡ b - 48
-    minus a b e = omega arith
+pub decimal_other : (c n : ℕ) → is_digit 10 c ≡ false → n < 2 ^ 64 → list_all (is_other c) (decimal n) ≡ true
+decimal_other c n away h = all_other (is_digit 10) c (decimal n) away (digits_decimal own n h)
 
 -- twelve digits write less than 1,000,000,000,000
-pub value_small : (ds : List ℕ) → list_all is_digit ds ≡ true → length ds ≤ 12 → digits_value 10 ds < 1000000000000
+pub value_small : (ds : List ℕ) → list_all (is_digit 10) ds ≡ true → length ds ≤ 12 → value_of 10 ds < 1000000000000
 value_small ds h short = digits_value_short own ds 12 h short
 
 -- digits without an extra zero are the number's
-pub canonical : (ds : List ℕ) → list_all is_digit ds ≡ true → 0 < length ds → (get_or ds 0 0 ≡ 48 → length ds ≡ 1) → length ds ≤ 12
-    → IsSmall (digits_value 10 ds) × (ds ≡ decimal (digits_value 10 ds))
+pub canonical : (ds : List ℕ) → list_all (is_digit 10) ds ≡ true → 0 < length ds → (get_or ds 0 0 ≡ 48 → length ds ≡ 1) → length ds ≤ 12
+    → IsSmall (value_of 10 ds) × (ds ≡ decimal (value_of 10 ds))
 canonical ds h some alone short =
-    let small : digits_value 10 ds < 1000000000000 = value_small ds h short in
-    let fits_here : digits_value 10 ds < 2 ^ 64 = omega arith in
+    let small : value_of 10 ds < 1000000000000 = value_small ds h short in
+    let fits_here : value_of 10 ds < 2 ^ 64 = omega arith in
     (small, sym (decimal-digits_value own ds h some alone fits_here))
 
 -- numbers that are written so are the same
@@ -94,13 +84,16 @@ extra_zero ds n e more h =
     let same : length ds ≡ length (decimal n) = ap length h.1 in
     omega (arith, one, same, more)
 
-pub other_byte : (ds : List ℕ) (i n : ℕ) → i < length ds → (get_or ds i 0 < 48) ⊎ (57 < get_or ds i 0) → IsSmall n × (ds ≡ decimal n) → ⊥
+pub other_byte : (ds : List ℕ) (i n : ℕ) → i < length ds → 10 ≤ digit_of (get_or ds i 0) → IsSmall n × (ds ≡ decimal n) → ⊥
 other_byte ds i n within out h =
     let all : AllDigits 10 (decimal n) = own.to (decimal n) (digits_decimal own n (small_fits n h.0)) in
     let there : i < length (decimal n) = subst (λ (t : List ℕ). i < length t) h.1 within in
     let range : IsInRange 48 57 (get_or (decimal n) i 0) = digit_at (decimal n) i all there in
-    let same : get_or ds i 0 ≡ get_or (decimal n) i 0 = ap (λ (t : List ℕ). get_or t i 0) h.1 in
-    omega (arith, range, same, out)
+    let small : digit_of (get_or (decimal n) i 0) < 10 = ltb-true (digit_of (get_or (decimal n) i 0)) 10 (in_range_digit (get_or (decimal n) i 0) range) in
+    below_ten (digit_of (get_or ds i 0)) (digit_of (get_or (decimal n) i 0)) (ap (λ (t : List ℕ). digit_of (get_or t i 0)) h.1) out small
+  where
+    below_ten : (a b : ℕ) → a ≡ b → 10 ≤ a → b < 10 → ⊥
+    below_ten a b same low high = omega (arith, same, low, high)
 
 -- a length that is written so is the one that was read, which may be too large
 pub too_large : (ds : List ℕ) (m n most : ℕ) → IsSmall most → IsSmall m × (ds ≡ decimal m) → most < m → (n ≤ most) × (ds ≡ decimal n) → ⊥

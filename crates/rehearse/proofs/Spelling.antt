@@ -2,6 +2,7 @@
 use Rattle.std.proofs.Common.{◌≡◌, ℕ, ◌+◌, ◌<◌, ◌≤◌, List, [], ◌∷◌, ◌++◌, append_assoc, length, length-append, Bool, true, false, ◌&&◌, Bor, refl, sym, subst, ap, ◌∙◌, arith}
 use Rattle.std.specs.Prelude.{decimal, codes, ◌==◌, ◌||◌, not}
 use Rattle.std.specs.List.{list_all, list_any, join_with_byte}
+use Rattle.txt_core.specs.Digits.{is_digit}
 use Rattle.rehearse.specs.declared.head.Actor as code_actor
 use Rattle.rehearse.specs.declared.head.Actor.TheVariants as code_actors
 use Rattle.rehearse.specs.declared.head.Head.{Head}
@@ -15,7 +16,7 @@ use Rattle.rehearse.specs.Reading.{is_other, CutAt, actor_of, IsShortActor, IsPa
 use Rattle.rehearse.proofs.Cutting.{parts_other}
 use Rattle.rehearse.proofs.Words.{Without, same_words, line_without}
 use Rattle.rehearse.proofs.Keywords.{same_keyword, no_space, no_newline}
-use Rattle.rehearse.proofs.Numbers.{is_digit, small_fits, decimal_other, decimal_same}
+use Rattle.rehearse.proofs.Numbers.{small_fits, decimal_other, decimal_same}
 use Rattle.rehearse.proofs.Heads.{keyword_of, path_plain, number_plain}
 
 -- ---- paths
@@ -47,7 +48,7 @@ broken (b ∷ rest) h k = joined (b == 32) (b == 10) h k (λ p q. broken rest p 
 
 -- A byte that stands in no word of an event.
 record Away (c : ℕ) : Type 0 where
-  digit : is_digit c ≡ false
+  digit : is_digit 10 c ≡ false
   names : (k : Keyword) → list_all (is_other c) (name_of k) ≡ true
   actor : list_all (is_other c) (codes "s") ≡ true
   path : (rest : List ℕ) → list_any is_break rest ≡ false → list_all (is_other c) (47 ∷ rest) ≡ true

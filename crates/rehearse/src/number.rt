@@ -3,6 +3,10 @@
 ghost use Rattle.std.specs.Prelude.{◌≡◌, ◌≤◌, decimal};
 ghost use Rattle.rehearse.specs.Numbers.{Finds, IsSmall};
 
+use txt_core::digit;
+
+const DECIMAL: u8 = 10;
+
 /// The most digits of a number: as many as the last moment of the clock has.
 const MOST_DIGITS: usize = 12;
 
@@ -18,11 +22,12 @@ pub fn read_number(digits: &[u8]) -> Option<u64>
         return None;
     }
     let mut number = 0u64;
-    'digits: for digit in digits {
-        if *digit < b'0' || *digit > b'9' {
+    'digits: for byte in digits {
+        let value = digit(*byte);
+        if value >= DECIMAL {
             return None;
         }
-        number = number * 10 + (*digit - b'0') as u64;
+        number = number * 10 + u64::from(value);
     }
     Some(number)
 }
