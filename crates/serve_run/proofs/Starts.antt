@@ -1,5 +1,6 @@
 -- What a definition run on the opening objects is, of which a worker told.
-use Rattle.std.proofs.Common.{◌≡◌, ℕ, zero, suc, List, [], Option, refl, sym, subst}
+use Rattle.std.proofs.Common.{◌≡◌, ℕ, zero, suc, List, [], Option, refl, sym, subst, arith}
+use Rattle.std.proofs.lemmas.Bool.{ne_eqb}
 use Rattle.outside.specs.Paging.{PageMap}
 use Rattle.blueprint.specs.States as blueprints
 use Rattle.tcl_eval.specs.declared.outcome.Outcome.{Outcome}
@@ -11,6 +12,7 @@ use Rattle.worker.specs.Runs.{define_run}
 use Rattle.worker.specs.Sessions.{At}
 use Rattle.worker.specs.Scripts.{RunsWhole, Evaluates, whole, lost, unbegun, evaluated, epoch_behind}
 use Rattle.worker.specs.declared.scripts.Evaled.{Evaled}
+use Rattle.worker.specs.declared.scripts.EvalEnd.TheVariants as evals
 use Rattle.serve_run.specs.Starting.{AreAlone, DefinesAlone}
 use Rattle.serve_run.specs.Stages.{EndsRun}
 use Rattle.serve_run.proofs.Alone.{alone}
@@ -36,10 +38,15 @@ module _ (names : List (List ℕ)) (held : Option PageMap) (script : List ℕ) (
         ended = subst (λ (s : blueprints.State). define_run names s script moment e.answers ≡ ends outcome r.last r.inside []) fresh r.ended;
       }
 
+  -- another code than that of a good end is that of an error
+  error_told : (code epoch : ℕ) (result : List ℕ) → evaluated (outcomes.Done (suc code) result) epoch ≡ evals.Error result
+  error_told code epoch result = rw (ne_eqb (suc code) 0 (λ e. omega (arith, e))) refl
+
   told : (before after epoch : ℕ) (outcome : Outcome) → DefinesAlone names held script moment before after outcome
       → EndsRun names held script moment before after (evaluated outcome epoch)
   told before after epoch (outcomes.Done zero result) d = (outcomes.Done zero result, d, (result, refl))
-  told before after epoch (outcomes.Done (suc code) result) d = (outcomes.Done (suc code) result, d, (code, refl))
+  told before after epoch (outcomes.Done (suc code) result) d =
+      subst (EndsRun names held script moment before after) (sym (error_told code epoch result)) (outcomes.Done (suc code) result, d, (code, refl))
   told before after epoch (outcomes.Asks question) d = tt
   told before after epoch outcomes.Spent d = d
   told before after epoch outcomes.TooDeep d = d
