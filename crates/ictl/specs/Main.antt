@@ -1,7 +1,7 @@
 -- The runs of an interpreter: a request up to its response and behind it, a scheduled script, and a definition run.
-use Rattle.std.specs.Prelude.{ℕ, List, [], ◌∷◌, Bool, true, false, codes, Option, Some, None}
+use Rattle.std.specs.Prelude.{ℕ, ◌+◌, ◌*◌, List, [], ◌∷◌, Bool, true, false, codes, Option, Some, None}
 use Rattle.txt_core.specs.Names.{Bytes, Words, Names, Moment}
-use Rattle.txt_core.specs.Limits.{run_budget}
+use Rattle.txt_core.specs.Limits.{bucket_count, run_budget}
 use Rattle.outside.specs.declared.question.Answer.{Answer}
 use Rattle.outside.specs.declared.question.Answer.TheVariants as kinds
 use Rattle.outside.specs.declared.question.Question.{Question}
@@ -47,9 +47,9 @@ pub data Progress : Type 0 where
   ends : (outcome : Outcome) (state : State HostState) (inside : ℕ) (left : List Answer) → Progress
 
 -- how many questions a run may ask in its budget, which is that of a request up to its response, and anew behind it, of a
--- scheduled script, and of a definition run in all: eight for each command, and one more
+-- scheduled script, and of a definition run in all: one for each command, or one for each bucket, and one more for each
 abbrev pub run_questions : ℕ
-run_questions = 1800000
+run_questions = (bucket_count + 1) * run_budget
 
 -- where the first script or call of a run stands, and the blocks of a first page
 abbrev pub first_depth : ℕ

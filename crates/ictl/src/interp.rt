@@ -39,13 +39,13 @@ use std::alloc::Global;
 use std::rc::Rc;
 use std::sync::ledger::Ledger;
 use tcl_eval::{Outcome, made_grows};
-use txt_core::{NoMemory, Text, Words};
+use txt_core::{BUCKET_COUNT, NoMemory, RUN_BUDGET, Text, Words};
 use url_tables::Routes;
 
 /// How many questions a run may ask in its budget, which is that of a request up to its response, and
 /// anew behind it, of a scheduled script, and of a definition run in all. It never asks so many: each command that asks is paid for, and
 /// asks eight times at most.
-pub const RUN_QUESTIONS: u64 = 1_800_000;
+pub const RUN_QUESTIONS: u64 = (BUCKET_COUNT as u64 + 1) * RUN_BUDGET;
 
 /// Runs requests, scheduled scripts and scripts that make definitions, one after the other, on the
 /// blueprint that it was made from. It can stand at a question. One engine stays in it in every state,

@@ -26,9 +26,13 @@ required_app = with_rule (with_rule (with_rule bare_app
     (required_rule (codes "start")))
     (required_rule (codes "listen"))
 
+-- so many workers serve at most
+abbrev pub most_workers : ℕ
+most_workers = 16
+
 -- the command with all of its options
 abbrev pub serve_app : App
 serve_app = with_rule (with_rule (with_rule required_app
-    (number_rule (codes "workers") (pos 1) (pos 16) (codes "4")))
+    (number_rule (codes "workers") (pos 1) (pos most_workers) (codes "4")))
     (number_rule (codes "queue") (pos 1) (pos 1024) (codes "64")))
     (number_rule (codes "connections") (pos 0) (pos 4294967295) (codes "0"))

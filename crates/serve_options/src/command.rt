@@ -8,6 +8,9 @@ use clap::builder::ValueParser;
 use clap::{Arg, Command};
 use std::alloc::{AllocError, Global};
 
+/// How many workers there may be.
+pub const MOST_WORKERS: u16 = 16;
+
 /// The program's name.
 const NAME: &str = "ns_server";
 
@@ -44,7 +47,7 @@ pub(crate) fn serve_command<'a>(alloc: Global) -> Result<Command<'a>, AllocError
     ensures { IfOk result (λ c. app_of c ≡ serve_app) }
 {
     let required = required_command(alloc)?;
-    let workers = number_option(alloc, "workers", 1, 16, "4");
+    let workers = number_option(alloc, "workers", 1, MOST_WORKERS as i64, "4");
     let queue = number_option(alloc, "queue", 1, 1024, "64");
     let connections = number_option(alloc, "connections", 0, 4294967295, "0");
     let staffed = with_option(required, told(workers, WORKERS_HELP))?;

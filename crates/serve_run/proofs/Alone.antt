@@ -1,5 +1,5 @@
 -- Turns on cells of which one pass alone was ever made.
-use Rattle.std.proofs.Common.{◌≡◌, ℕ, zero, suc, List, [], ◌∷◌, ◌++◌, length, refl, sym, ap, ◌∙◌, subst}
+use Rattle.std.proofs.Common.{◌≡◌, ℕ, zero, suc, List, [], ◌∷◌, ◌++◌, ◌<◌, length, refl, sym, ap, ◌∙◌, subst, arith}
 use Rattle.turn_cell.specs.declared.view.Entry.{Entry}
 use Rattle.turn_cell.specs.declared.view.View.{View}
 use Rattle.turn_cell.specs.Cells.{pass_view}
@@ -55,6 +55,18 @@ module _ {S C R : Type 0} (allowed : S → Type 0) (reaches : S → S → Type 0
 bucket_alone : (v m w : BucketView) (es : List BucketEntry) → v ≡ opening → m ≡ v → TakesOnBucket m es w → IsBucketAlone es
 bucket_alone v m w es opens same g = history (λ s. Unit {0}) (λ s t. Unit {0}) ArraySteps map.empty m w es (same ∙ opens) g
 
+-- what holds for each of eight numbers holds for all below eight
+each_of_eight : (P : ℕ → Type 0) → P 0 → P 1 → P 2 → P 3 → P 4 → P 5 → P 6 → P 7 → (n : ℕ) → n < 8 → P n
+each_of_eight P a b c d e f g h zero lt = a
+each_of_eight P a b c d e f g h (suc zero) lt = b
+each_of_eight P a b c d e f g h (suc (suc zero)) lt = c
+each_of_eight P a b c d e f g h (suc (suc (suc zero))) lt = d
+each_of_eight P a b c d e f g h (suc (suc (suc (suc zero)))) lt = e
+each_of_eight P a b c d e f g h (suc (suc (suc (suc (suc zero))))) lt = f
+each_of_eight P a b c d e f g h (suc (suc (suc (suc (suc (suc zero)))))) lt = g
+each_of_eight P a b c d e f g h (suc (suc (suc (suc (suc (suc (suc zero))))))) lt = h
+each_of_eight P a b c d e f g h (suc (suc (suc (suc (suc (suc (suc (suc n)))))))) lt = absurd (omega (arith, lt))
+
 -- a look and then turns, by passes that were the only ones, and knew the opening
 pub alone : (names : List (List ℕ)) (p m q : Passes) (look : BlueEntry) (turns : List Turn) → AreOpening names p → GainsLook p look m → GainsTurns m turns q
     → AreAlone names look turns
@@ -65,14 +77,15 @@ alone names p m q look turns opens looks gains =
       blueprint = history blueprints.Allowed blueprint_steps.Reaches blueprint_steps.BlueprintSteps (blueprints.fresh names) (pass_view p.blueprint) (pass_view q.blueprint)
           (look ∷ blueprint_turns turns) opens.0
           (first_then blueprints.Allowed blueprint_steps.Reaches blueprint_steps.BlueprintSteps (pass_view p.blueprint) (pass_view m.blueprint) (pass_view q.blueprint) look (blueprint_turns turns) l.0 gains.0);
-      b0 = bucket_alone (pass_view p.nsv.b0) (pass_view m.nsv.b0) (pass_view q.nsv.b0) (array_turns 0 turns) o.0 l.1.0 gains.1.0;
-      b1 = bucket_alone (pass_view p.nsv.b1) (pass_view m.nsv.b1) (pass_view q.nsv.b1) (array_turns 1 turns) o.1 l.1.1 gains.1.1;
-      b2 = bucket_alone (pass_view p.nsv.b2) (pass_view m.nsv.b2) (pass_view q.nsv.b2) (array_turns 2 turns) o.2 l.1.2 gains.1.2;
-      b3 = bucket_alone (pass_view p.nsv.b3) (pass_view m.nsv.b3) (pass_view q.nsv.b3) (array_turns 3 turns) o.3 l.1.3 gains.1.3;
-      b4 = bucket_alone (pass_view p.nsv.b4) (pass_view m.nsv.b4) (pass_view q.nsv.b4) (array_turns 4 turns) o.4 l.1.4 gains.1.4;
-      b5 = bucket_alone (pass_view p.nsv.b5) (pass_view m.nsv.b5) (pass_view q.nsv.b5) (array_turns 5 turns) o.5 l.1.5 gains.1.5;
-      b6 = bucket_alone (pass_view p.nsv.b6) (pass_view m.nsv.b6) (pass_view q.nsv.b6) (array_turns 6 turns) o.6 l.1.6 gains.1.6;
-      b7 = bucket_alone (pass_view p.nsv.b7) (pass_view m.nsv.b7) (pass_view q.nsv.b7) (array_turns 7 turns) o.7 l.1.7 gains.1.7;
+      arrays = each_of_eight (λ (bucket : ℕ). IsBucketAlone (array_turns bucket turns))
+          (bucket_alone (pass_view p.nsv.b0) (pass_view m.nsv.b0) (pass_view q.nsv.b0) (array_turns 0 turns) o.0 l.1.0 gains.1.0)
+          (bucket_alone (pass_view p.nsv.b1) (pass_view m.nsv.b1) (pass_view q.nsv.b1) (array_turns 1 turns) o.1 l.1.1 gains.1.1)
+          (bucket_alone (pass_view p.nsv.b2) (pass_view m.nsv.b2) (pass_view q.nsv.b2) (array_turns 2 turns) o.2 l.1.2 gains.1.2)
+          (bucket_alone (pass_view p.nsv.b3) (pass_view m.nsv.b3) (pass_view q.nsv.b3) (array_turns 3 turns) o.3 l.1.3 gains.1.3)
+          (bucket_alone (pass_view p.nsv.b4) (pass_view m.nsv.b4) (pass_view q.nsv.b4) (array_turns 4 turns) o.4 l.1.4 gains.1.4)
+          (bucket_alone (pass_view p.nsv.b5) (pass_view m.nsv.b5) (pass_view q.nsv.b5) (array_turns 5 turns) o.5 l.1.5 gains.1.5)
+          (bucket_alone (pass_view p.nsv.b6) (pass_view m.nsv.b6) (pass_view q.nsv.b6) (array_turns 6 turns) o.6 l.1.6 gains.1.6)
+          (bucket_alone (pass_view p.nsv.b7) (pass_view m.nsv.b7) (pass_view q.nsv.b7) (array_turns 7 turns) o.7 l.1.7 gains.1.7);
       schedule = history schedule_states.Allowed (λ s t. Unit {0}) ScheduleSteps empty_schedule (pass_view m.schedule) (pass_view q.schedule) (schedule_turns turns)
           (l.2 ∙ opens.2) gains.2;
     }

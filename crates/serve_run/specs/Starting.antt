@@ -2,7 +2,7 @@
 use Rattle.std.specs.Prelude.{◌≡◌, ◌<◌, ◌≤◌, ℕ, zero, suc, List, [], ◌∷◌, length, Option, None, Some}
 use Rattle.std.specs.FinMap as map
 use Rattle.txt_core.specs.Names.{Bytes, Names, Moment}
-use Rattle.txt_core.specs.Limits.{most_bytes}
+use Rattle.txt_core.specs.Limits.{bucket_count, most_bytes}
 use Rattle.outside.specs.Clocks.{Dial}
 use Rattle.outside.specs.Faults.{Rose}
 use Rattle.outside.specs.Paging.{PageMap}
@@ -37,14 +37,7 @@ IsBucketAlone = IsHistory (λ s. Unit {0}) ArraySteps 0 map.empty
 -- left, and each is a legal step.
 pub record AreAlone (names : Names) (look : BlueEntry) (turns : List Turn) : Type 0 where
   pub blueprint : IsHistory blueprints.Allowed BlueprintSteps 0 (blueprints.fresh names) (look ∷ blueprint_turns turns)
-  pub b0 : IsBucketAlone (array_turns 0 turns)
-  pub b1 : IsBucketAlone (array_turns 1 turns)
-  pub b2 : IsBucketAlone (array_turns 2 turns)
-  pub b3 : IsBucketAlone (array_turns 3 turns)
-  pub b4 : IsBucketAlone (array_turns 4 turns)
-  pub b5 : IsBucketAlone (array_turns 5 turns)
-  pub b6 : IsBucketAlone (array_turns 6 turns)
-  pub b7 : IsBucketAlone (array_turns 7 turns)
+  pub arrays : (bucket : ℕ) → bucket < bucket_count → IsBucketAlone (array_turns bucket turns)
   pub schedule : IsHistory schedule_states.Allowed ScheduleSteps 0 empty_schedule (schedule_turns turns)
 
 -- The definition run of a script at a moment, on the opening objects, alone, ends so. Its questions are answered by turns on the

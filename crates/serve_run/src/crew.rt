@@ -8,6 +8,7 @@ use http_resp::reply_busy;
 use natives::Natives;
 use outside::{Clock, Gate, Pages, Sink, Source};
 use sched_core::SchedCall;
+use serve_options::MOST_WORKERS;
 use server_threads::{Conn, Serve, Staff, look_again, serve_each};
 use shared_state::{Passes, Shared};
 use std::alloc::Global;
@@ -18,7 +19,7 @@ use txt_core::moment_of;
 use worker::{DueRun, Worker};
 
 /// The number of the worker that runs what is due. Those that serve have the numbers below.
-const KEEPER: u16 = 16;
+const KEEPER: u16 = MOST_WORKERS;
 
 /// What all threads share.
 #[derive(Drop)]

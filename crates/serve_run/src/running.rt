@@ -1,12 +1,13 @@
 //! A run of the server.
 
-ghost use Rattle.std.specs.Prelude.{◌≡◌, ◌≤◌, ◌⊎◌, vec_len, IfOk, OnErr, MatchResult};
+ghost use Rattle.std.specs.Prelude.{◌≡◌, ◌≤◌, ◌+◌, ◌⊎◌, vec_len, IfOk, OnErr, MatchResult};
 ghost use Rattle.std.specs.List.{All};
 ghost use Rattle.txt_core.specs.Names.{Words};
 ghost use Rattle.natives.specs.Names.{names_of};
 ghost use Rattle.outside.specs.Nets.{IsNew};
 ghost use Rattle.shared_state.specs.Cells.{Serve, AreWhole, HaveUnits, Leave};
 ghost use Rattle.server_threads.specs.Stops.{Stops};
+ghost use Rattle.serve_options.specs.Command.{most_workers};
 ghost use Rattle.serve_options.specs.Reading.{AreReadFrom};
 ghost use Rattle.serve_run.specs.Serving.{Around, around_of, Ends, Serves};
 ghost use Rattle.serve_run.specs.Stages.{IsEarlier, EndsUnstarted, ended_by};
@@ -17,7 +18,7 @@ use crate::ended::{Ended, report};
 use crate::start::{NotStarted, start};
 use natives::Natives;
 use outside::{Clock, Gate, Net, Pages, Sink};
-use serve_options::{Options, Refused, read_options};
+use serve_options::{MOST_WORKERS, Options, Refused, read_options};
 use server_threads::{Conn, Plan, Stop, serve_all};
 use shared_state::{Passes, Shared};
 use std::alloc::Global;
@@ -25,9 +26,6 @@ use std::net::{TcpListener, TcpStream};
 use std::sync::Wait;
 use std::thread::Threads;
 use txt_core::{NoMemory, Text, Words};
-
-/// How many workers there may be.
-const MOST_WORKERS: u16 = 16;
 
 /// What one thread has: passes, pages and a clock of its own.
 fn own_of<P: Pages + Drop, C: Clock + Drop>(
@@ -63,11 +61,11 @@ fn owns_of<P: Pages + Drop, C: Clock + Drop>(
 ) -> Result<Vec<Own<P, C>>, NoMemory>
     requires cells { Serve (names_of natives.now) shared.now passes.old }
     requires whole { AreWhole passes.old }
-    requires few { threads ≤ 17 }
+    requires few { threads ≤ most_workers + 1 }
     ensures cells { Serve (names_of natives.now) shared.now passes.new }
     ensures owns { IfOk result (λ owns.
         All (λ own. Serve (names_of natives.now) shared.now own.passes) owns.items) }
-    ensures few { IfOk result (λ owns. vec_len owns ≤ 17) }
+    ensures few { IfOk result (λ owns. vec_len owns ≤ most_workers + 1) }
 {
     let mut owns = Vec::new(alloc);
     for _given in 0..threads {

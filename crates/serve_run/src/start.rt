@@ -13,6 +13,7 @@ use crate::ended::StartFault;
 use cmd_table::Steps;
 use natives::Natives;
 use outside::{Clock, PageAnswer, Pages};
+use serve_options::MOST_WORKERS;
 use shared_state::{Passes, Shared};
 use std::alloc::Global;
 use std::marker::Brand;
@@ -22,7 +23,7 @@ use txt_core::{MOST_BYTES, Text, moment_of};
 use worker::{EvalEnd, Worker, do_eval};
 
 /// The number of the worker that runs the start script. It is none of those that serve.
-const STARTER: u16 = 17;
+const STARTER: u16 = MOST_WORKERS + 1;
 
 /// Why the start script didn't come to a good end.
 #[derive(Drop)]

@@ -8,6 +8,7 @@ use Rattle.outside.specs.Writing.{Gains}
 use Rattle.http_req.specs.Outcomes.{Gets, Whole}
 use Rattle.blueprint.specs.States as blueprints
 use Rattle.ictl.specs.Main.{Progress}
+use Rattle.serving.specs.Connections.{most_served}
 use Rattle.shared_state.specs.declared.shared.Passes.{Passes}
 use Rattle.worker.specs.Turns.{Turn, OnBlueprint, IsLook, GainsTurns}
 use Rattle.worker.specs.Runs.{Finished, edition_of, is_marked}
@@ -133,7 +134,7 @@ Causes end f g h k = (f ≤ g) × (h ≤ k)
 
 -- at most so many requests are served on one connection
 abbrev pub AreFew : List Served → Type 0
-AreFew served = length served ≤ 100
+AreFew served = length served ≤ most_served
 
 -- ---- completeness
 
