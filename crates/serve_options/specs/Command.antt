@@ -1,5 +1,5 @@
 -- The command line of the server, as `clap` reads it: three options that are required, and three that have a default.
-use Rattle.std.specs.Prelude.{◌≡◌, ℤ, [], ◌∷◌, Some, true, false, codes, pos}
+use Rattle.std.specs.Prelude.{◌≡◌, ℕ, ℤ, [], ◌∷◌, Some, true, false, codes, pos}
 use Rattle.clap.specs.Words.{App, Rule, Text, new_app, new_rule, with_rule}
 use Rattle.clap.specs.declared.builder.arg.Arg.{Arg}
 use Rattle.clap.specs.declared.builder.value_parser.ValueParser.TheVariants.{Signed}
