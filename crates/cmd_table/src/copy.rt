@@ -5,7 +5,15 @@ ghost use Rattle.std.specs.Prelude.{◌≡◌, ◌++◌, length, take, IfOk, OnO
 use crate::command::Cmd;
 use crate::definition::{Def, Defs};
 use std::alloc::Global;
-use txt_core::{NoMemory, Sequence};
+use txt_core::{NoMemory, Sequence, Text};
+
+/// A text once more, of which copies are cheap: they share its bytes.
+pub(crate) fn copy_to_share(alloc: Global, text: &Text) -> Result<Text, NoMemory>
+    ensures { IfOk result (λ copy. copy ≡ text.now) }
+{
+    let mut copy = text.copy(alloc)?;
+    copy.share(alloc)
+}
 
 /// A command once more.
 pub(crate) fn copy_cmd(alloc: Global, cmd: &Cmd) -> Result<Cmd, NoMemory>

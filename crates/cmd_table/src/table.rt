@@ -10,7 +10,7 @@ ghost use Rattle.cmd_table.specs.Commands.{built_ins, built, defined, fits, Appl
 ghost use Rattle.natives.specs.Names.{names_of as native_names};
 
 use crate::command::Cmd;
-use crate::copy::copy_cmd;
+use crate::copy::{copy_cmd, copy_to_share};
 use crate::definition::Def;
 use crate::filling::{fill_built_ins, fill_natives, no_slots};
 use crate::journal::{Journal, change, take_back};
@@ -260,7 +260,7 @@ impl CmdTable {
         }
     }
 
-    /// Gives a name a procedure.
+    /// Gives a name a procedure, of which copies are cheap.
     fn define<L: Ledger>(
         &mut self,
         name: &Text,
@@ -276,8 +276,8 @@ impl CmdTable {
         ensures marks { steps.new + mark_of self.old ≡ steps.old + mark_of self.new }
     {
         let name = name.copy(self.alloc)?;
-        let params = params.copy(self.alloc)?;
-        let body = body.copy(self.alloc)?;
+        let params = copy_to_share(self.alloc, params)?;
+        let body = copy_to_share(self.alloc, body)?;
         self.put(name, Cmd::Proc { params, body }, steps)
     }
 
