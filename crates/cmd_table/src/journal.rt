@@ -8,6 +8,7 @@ ghost use Rattle.txt_core.specs.Order.{text_cmp};
 ghost use Rattle.cmd_table.specs.Places.{has_command};
 ghost use Rattle.cmd_table.specs.Slots.{present, with_option, AreInOrder};
 ghost use Rattle.cmd_table.specs.Journal.{back, past_of, ArePlaced};
+ghost use Rattle.cmd_table.specs.Latest.{IsSameBut};
 
 use crate::command::Cmd;
 use crate::slots::Slots;
@@ -45,6 +46,7 @@ pub(crate) fn change(
         ≡ past_of journal.old.items slots.old.entries ++ present slots.old.entries ∷ []) }
     ensures err { OnErr result
         ((journal.new.items ≡ journal.old.items) × (slots.new.entries ≡ slots.old.entries)) }
+    ensures others { IsSameBut name (present slots.old.entries) (present slots.new.entries) }
     ensures ordered { AreInOrder slots.new.entries }
     ensures placed { ArePlaced journal.new.items slots.new.entries }
 {

@@ -1,6 +1,6 @@
 //! The command table of an interpreter.
 
-ghost use Rattle.std.specs.Prelude.{◌≡◌, ◌≤◌, ◌<◌, ◌+◌, ◌||◌, IfOk, OnOk, OnErr, IsSome, IsTrue, [], None, length};
+ghost use Rattle.std.specs.Prelude.{◌≡◌, ◌↔◌, ◌≤◌, ◌<◌, ◌+◌, ◌||◌, IfOk, OnOk, OnErr, IsSome, IsTrue, [], None, Some, length};
 ghost use Rattle.std.specs.Option.{option_copied, is_some};
 ghost use Rattle.cmd_table.specs.Table.{command_of, with_command, without_command, names_of, IsInOrder, changed, mark_of, back_at, Keeps};
 ghost use Rattle.cmd_table.specs.Places.{has_command, placed};
@@ -14,7 +14,7 @@ use crate::copy::{copy_cmd, copy_to_share};
 use crate::definition::Def;
 use crate::filling::{fill_built_ins, fill_natives, no_slots};
 use crate::journal::{Journal, change, take_back};
-use crate::latest::{Latest, find_latest, put_latest};
+use crate::latest::{Latest, find_latest, forget, is_own, put_latest};
 use crate::renaming::Renamed;
 use crate::slots::{Slots, find, present_names};
 use crate::steps::Steps;
@@ -24,6 +24,9 @@ use std::marker::Model;
 use std::sync::ledger::Ledger;
 use tcl_frame::is_element_name;
 use txt_core::{NoMemory, Text, Words};
+
+/// How many bytes a name has at most that is noted where it is looked up.
+const MOST_NOTED: usize = 64;
 
 /// Commands by their names: a finite map that can be taken back to what it was at a mark. Contracts
 /// see it as the names with their commands, in the order of the names, beside what they were before
@@ -50,7 +53,7 @@ impl Model for CmdTable {
 
     ghost invariant = { λ a. AreInOrder a.slots.entries
         × ArePlaced a.journal.items a.slots.entries
-        × AreLatest (present a.slots.entries) a.latest };
+        × AreLatest (present a.slots.entries) a.latest.items };
 }
 
 impl CmdTable {
@@ -78,7 +81,7 @@ impl CmdTable {
             alloc,
             slots,
             journal: Vec::new(alloc),
-            latest: Latest::new(alloc),
+            latest: Vec::new(alloc),
         })
     }
 
@@ -87,23 +90,39 @@ impl CmdTable {
         ensures { option_copied result ≡ command_of self.now.table name.now }
     {
         match find_latest(&self.latest, name) {
-            Some(cmd) => Some(cmd),
+            Some(looked) => looked.cmd.as_ref(),
             None => find(&self.slots, name),
         }
     }
 
-    /// Notes that a name is looked up, so that `get` finds it soon until the table changes. Contracts
-    /// see nothing of it; where memory wants, nothing is noted.
+    /// Notes that a name is looked up, which may have no command, so that `get` and `is_own` find it
+    /// soon until it changes. Contracts see nothing of it; where memory wants, nothing is noted, nor is a
+    /// name of more than 64 bytes.
     pub fn note(&mut self, name: &Text)
         ensures { self.new ≡ self.old }
     {
         if find_latest(&self.latest, name).is_some() {
             return;
         }
-        let Some(cmd) = find(&self.slots, name) else {
+        if name.len() > MOST_NOTED {
             return;
-        };
-        let _noted = put_latest(self.alloc, &mut self.latest, name, cmd);
+        }
+        let found = find(&self.slots, name);
+        let _noted = put_latest(self.alloc, &mut self.latest, name, found);
+    }
+
+    /// Whether a name stands for the built-in of this very name. It notes the name, as `note` does, and
+    /// looks for it once.
+    pub fn is_own(&mut self, name: &Text) -> bool
+        ensures own { IsTrue result
+            ↔ (command_of self.old.table name.now ≡ Some (Cmd.Built name.now)) }
+        ensures same { self.new ≡ self.old }
+    {
+        if let Some(looked) = find_latest(&self.latest, name) {
+            return looked.own;
+        }
+        self.note(name);
+        is_own(self.get(name), name)
     }
 
     /// The names, each once and in byte order. Its only error is want of memory.
@@ -155,14 +174,13 @@ impl CmdTable {
     }
 
     /// Gives a name this command, or takes the one away that it has.
-    #[tactic(auto, using(crate::proofs::Latests::none_latest))]
     fn change(&mut self, name: Text, cmd: Option<Cmd>) -> Result<(), NoMemory>
         requires { IsTrue (is_some cmd || has_command self.old.table name) }
         ensures ok { OnOk result
             (self.new ≡ changed self.old (with_option self.old.table name cmd)) }
         ensures err { OnErr result (self.new ≡ self.old) }
     {
-        self.latest = Latest::new(self.alloc);
+        forget(&mut self.latest, &name);
         change(self.alloc, &mut self.slots, &mut self.journal, name, cmd)
     }
 
@@ -260,7 +278,7 @@ impl CmdTable {
         }
     }
 
-    /// Gives a name a procedure, of which copies are cheap.
+    /// Gives a name a procedure, of which copies are cheap, and which is found soon.
     fn define<L: Ledger>(
         &mut self,
         name: &Text,
@@ -275,10 +293,12 @@ impl CmdTable {
         ensures keeps { Keeps self.old self.new }
         ensures marks { steps.new + mark_of self.old ≡ steps.old + mark_of self.new }
     {
-        let name = name.copy(self.alloc)?;
+        let key = name.copy(self.alloc)?;
         let params = copy_to_share(self.alloc, params)?;
         let body = copy_to_share(self.alloc, body)?;
-        self.put(name, Cmd::Proc { params, body }, steps)
+        self.put(key, Cmd::Proc { params, body }, steps)?;
+        self.note(name);
+        Ok(())
     }
 
     /// Removes a name.

@@ -1,10 +1,13 @@
-use Rattle.std.proofs.Common.{◌≡◌, ap, subst, sym, ◌∙◌, [], ◌∷◌, ◌++◌, List, ℕ, Option}
+use Rattle.std.proofs.Common.{◌≡◌, ap, subst, sym, ◌∙◌, [], ◌∷◌, ◌++◌, List, ℕ}
 use Rattle.std.specs.Map.{lookup}
 use Rattle.std.specs.BTreeMap.{insert_entry, is_at}
 use Rattle.txt_core.specs.Order.{text_cmp}
 use Rattle.cmd_table.specs.declared.journal.Row.{Row}
-use Rattle.cmd_table.specs.Slots.{Slots, present}
+use Rattle.cmd_table.specs.Table.{Table, command_of}
+use Rattle.cmd_table.specs.Slots.{present, with_option}
 use Rattle.cmd_table.specs.Journal.{back, past_of, ArePlaced}
+use Rattle.cmd_table.proofs.Changes.{present_in_order}
+use Rattle.cmd_table.proofs.Latests.{others_stay}
 use Rattle.cmd_table.proofs.Taking.{slot_changed, taken_back, past_noted}
 use Rattle.cmd_table.proofs.Places.{one_more_slot, placed_noted}
 use Rattle.cmd_table.proofs.journal.change.Goals as goal
@@ -15,6 +18,16 @@ returns-clause-table c =
     ap present c.in_ok-before.ensures.entries
     ∙ (ap (λ (k : List ℕ). present (insert_entry text_cmp es k c.args.cmd)) c.in_ok-key.ensures
     ∙ slot_changed c.args.name c.args.cmd es c.requires.ordered)
+
+pub returns-clause-others : goal.returns-clause-others
+returns-clause-others c = λ other apart.
+    let es = c.args.slots.now.entries in
+    let after : present c.insert.new.self.entries ≡ with_option (present es) c.args.name c.args.cmd =
+    ap present c.in_ok-before.ensures.entries
+    ∙ (ap (λ (k : List ℕ). present (insert_entry text_cmp es k c.args.cmd)) c.in_ok-key.ensures
+    ∙ slot_changed c.args.name c.args.cmd es c.requires.ordered) in
+    ap (λ (t : Table). command_of t other) after
+    ∙ others_stay (present es) c.args.name c.args.cmd other (present_in_order es c.requires.ordered) apart
 
 pub returns-clause-past : goal.returns-clause-past
 returns-clause-past c =

@@ -1,10 +1,10 @@
-use Rattle.std.proofs.Common.{◌≡◌, Some, sym, ap, ◌∙◌}
-use Rattle.cmd_table.specs.Table.{command_of}
 use Rattle.cmd_table.proofs.Latests.{put_latest}
 use Rattle.cmd_table.proofs.latest.put_latest.Goals as goal
 
 pub returns : goal.returns
-returns c = λ table all is.
-    let looked : command_of table c.in_ok-looked.looked.name ≡ Some c.in_ok-looked.looked.cmd =
-    ap (command_of table) c.in_ok-looked.ensures.0 ∙ is ∙ sym (ap (λ cmd. Some cmd) c.in_ok-looked.ensures.1) in
-    put_latest table c.args.latest.now c.put.new.self c.in_ok-looked.looked all looked c.put.ensures
+returns c = λ table is all.
+    put_latest table c.args.latest.now.items c.make_places.new.latest.items c.set_place.new.latest.items c.place_of.result c.args.name.now c.bytes.result.now _ c.in_ok-looked.looked
+    is all c.in_ok-make_places.ensures c.set_place.ensures c.place_of.ensures c.bytes.ensures c.in_ok-looked.ensures.named c.in_ok-looked.ensures.holds
+
+pub returns-in_err-make_places : goal.returns-in_err-make_places
+returns-in_err-make_places c = λ table is all each there. all each (c.in_err-make_places.ensures _ each there)
