@@ -1,8 +1,10 @@
 -- The last registration of a list that serves.
-use Rattle.std.proofs.Common.{◌≡◌, ℕ, ◌+◌, ◌<◌, Bool, true, List, [], ◌∷◌, ◌++◌, length, take, drop, get_or, Option, Some, None, refl, sym, ap, ◌∙◌, subst}
+use Rattle.std.proofs.Common.{◌≡◌, ℕ, ◌+◌, ◌<◌, ◌&&◌, Bool, true, false, List, [], ◌∷◌, ◌++◌, length, take, drop, get_or, Option, Some, None, refl, sym, ap, ◌∙◌, subst, arith}
+use Rattle.std.specs.Prelude.{bytes_eq}
 use Rattle.std.proofs.lemmas.List.{take-append-drop, drop_more}
 use Rattle.url_tables.specs.declared.site.Site.{Site}
-use Rattle.url_tables.specs.Searching.{or_else, serves, words_if, last_serving}
+use Rattle.url_tables.specs.Urls.{fits}
+use Rattle.url_tables.specs.Searching.{or_else, has_pattern_as, serves, words_if, last_serving}
 use Rattle.url_tables.proofs.Sites.{or_none}
 
 or_assoc : {A : Type 0} (a b c : Option A) → or_else (or_else a b) c ≡ or_else a (or_else b c)
@@ -37,3 +39,16 @@ pub none_here : (pattern : Bool) (method : List ℕ) (rest : List (List ℕ)) (s
 none_here pattern method rest sites i site t lt is none idle =
     ap (last_serving pattern method rest) (drop_more sites i site lt ∙ ap (λ (s : Site). s ∷ drop (i + 1) sites) (sym is))
     ∙ ap (λ (o : Option (List (List ℕ))). or_else o (words_if (serves pattern method rest site) site)) none ∙ idle
+
+idle_by : (suffix : Option (List ℕ)) (same inherit : Bool) → (has_pattern_as true suffix && same && fits inherit suffix []) ≡ false
+idle_by None same inherit = refl
+idle_by (Some suffix) true inherit = refl
+idle_by (Some suffix) false inherit = refl
+
+-- where nothing is left of the path none with a pattern serves
+pub no_pattern : (method : List ℕ) (rest : List (List ℕ)) (sites : List Site) → length rest ≡ 0 → last_serving true method rest sites ≡ None
+no_pattern method (first ∷ rest) sites is = absurd (omega arith)
+no_pattern method [] [] is = refl
+no_pattern method [] (site ∷ sites) is =
+    ap (λ (o : Option (List (List ℕ))). or_else o (words_if (serves true method [] site) site)) (no_pattern method [] sites is)
+    ∙ ap (λ (t : Bool). words_if t site) (idle_by site.suffix (bytes_eq site.method method) site.inherit)

@@ -1,6 +1,6 @@
 //! The tables of a blueprint's registrations and filters.
 
-ghost use Rattle.std.specs.Prelude.{◌≡◌, ◌≤◌, ◌++◌, ◌∷◌, [], List, length, false, IfOk, OnOk};
+ghost use Rattle.std.specs.Prelude.{◌≡◌, ◌≤◌, ◌++◌, ◌∷◌, [], List, length, false, true, IfOk, OnOk};
 ghost use Rattle.std.specs.Option.{option_copied, option_map};
 ghost use Rattle.txt_core.specs.Names.{Bytes, Words};
 ghost use Rattle.cmd_table.specs.declared.definition.Def.{Def};
@@ -43,6 +43,19 @@ fn latest<'a>(sites: &'a [Site], method: &[u8], rest: &[Text], pattern: bool) ->
         }
     }
     None
+}
+
+/// The latest registration of these that has a pattern and serves the request: none where nothing is left
+/// of the path.
+#[tactic(auto, using(crate::proofs::Latest::no_pattern))]
+fn latest_pattern<'a>(sites: &'a [Site], method: &[u8], rest: &[Text]) -> Option<&'a Route>
+    ensures { option_map (λ route. route.words) (option_copied result)
+        ≡ last_serving true method.now rest.now sites.now }
+{
+    if rest.is_empty() {
+        return None;
+    }
+    latest(sites, method, rest, true)
 }
 
 /// What serves requests, and what filters they pass, of a list of definitions.
@@ -155,7 +168,7 @@ impl Routes {
     {
         let (front, rest) = path.split_at(count);
         let sites = self.sites.get(front)?;
-        match latest(sites.as_slice(), method, rest, true) {
+        match latest_pattern(sites.as_slice(), method, rest) {
             Some(route) => Some(route),
             None => latest(sites.as_slice(), method, rest, false),
         }
