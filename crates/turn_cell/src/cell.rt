@@ -197,9 +197,29 @@ fn one_more<R: Wait>(rt: &R, count: u64) -> u64
     unreachable!()
 }
 
+// Takes the object, which is mostly in the queue.
+fn take<O: Obj, R: Wait>(rt: &R, queue: &Queue<O>, free: &EventCount, seat: &mut Seat<O>) -> Kept<O>
+    requires queue { IsPassOf queue.now seat.old }
+    requires free { (0 < (view seat.old).units) × ((view seat.old).held ≡ None) }
+    ensures queue { IsPassOf queue.now seat.new }
+    ensures took { Takes O.allowed O.reaches O.step (view seat.old) result (view seat.new) }
+{
+    match try_take::<O, R>(rt, queue, seat) {
+        Some(kept) => kept,
+        None => wait_and_take::<O, R>(rt, queue, free, seat),
+    }
+}
+
 // Takes the object as soon as it finds it in the queue. Where it isn't there for long it sleeps until a
 // turn ends; since it looks once more after it has announced its sleep, it misses no end of a turn.
-fn take<O: Obj, R: Wait>(rt: &R, queue: &Queue<O>, free: &EventCount, seat: &mut Seat<O>) -> Kept<O>
+#[cold]
+#[inline(never)]
+fn wait_and_take<O: Obj, R: Wait>(
+    rt: &R,
+    queue: &Queue<O>,
+    free: &EventCount,
+    seat: &mut Seat<O>,
+) -> Kept<O>
     requires queue { IsPassOf queue.now seat.old }
     requires free { (0 < (view seat.old).units) × ((view seat.old).held ≡ None) }
     ensures queue { IsPassOf queue.now seat.new }
