@@ -5,5 +5,6 @@ pub mod Findings
 pub mod Fronts
 pub mod Keeping
 pub mod Maps
+pub mod Scalars
 pub mod Tables
 pub mod Tops

@@ -86,7 +86,7 @@ own_of global keeps frame rest table true e = absurd (true≢false (ap is_some e
 own_of global keeps frame rest table false e =
     (ap table_in e, ap (λ t. record { global = global; above = record frame { variables = t } ∷ rest; keeps = keeps }) (ap table_in e))
 
-own_in : (global : Table) (above : List Frame) (keeps : List Kept) (name : List ℕ) (table : Table) → Some table ≡ own_variables above name
+pub own_in : (global : Table) (above : List Frame) (keeps : List Kept) (name : List ℕ) (table : Table) → Some table ≡ own_variables above name
     → (table ≡ table_of (record { global = global; above = above; keeps = keeps }) name)
     × ◌≡◌ {A = Stack} (with_table (record { global = global; above = above; keeps = keeps }) name table) (record { global = global; above = above; keeps = keeps })
 own_in global [] keeps name table e = absurd (true≢false (ap is_some e))
@@ -96,7 +96,7 @@ own_in global (frame ∷ rest) keeps name table e = own_of global keeps frame re
 abbrev above_in : Stack → List Frame
 above_in stack = stack.above
 
-depth_in : (global : Table) (above : List Frame) (keeps : List Kept) (table : Table) (linked : Bool)
+pub depth_in : (global : Table) (above : List Frame) (keeps : List Kept) (table : Table) (linked : Bool)
     → length (above_in (if linked then record { global = table; above = above; keeps = keeps } else record { global = global; above = with_top above table; keeps = keeps }))
     ≡ length above
 depth_in global above keeps table true = refl

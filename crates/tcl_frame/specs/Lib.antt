@@ -12,6 +12,7 @@ pub mod Arrays
 pub mod Entries
 pub mod Few
 pub mod Findings
+pub mod GlobalLending
 pub mod Globals
 pub mod Lending
 pub mod OwnLending
@@ -19,3 +20,5 @@ pub mod Seen
 pub mod StackCode
 pub mod TableCode
 pub mod TableLending
+pub mod TextLending
+pub mod Texts

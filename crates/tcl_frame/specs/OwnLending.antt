@@ -1,11 +1,15 @@
--- The variables that the topmost frame has for its own, and what becomes of the frames once a borrow of these ends.
+-- The variables that the topmost frame has for its own, and what becomes of the frames once a borrow of these, or of a
+-- scalar's text, ends.
 use Rattle.std.specs.Prelude.{◌≡◌, List, Option, Some, None, OnSome, if◌then◌else◌}
+use Rattle.std.specs.FinMap as map
 use Rattle.std.specs.Borrow.{MutBor, Fml, LendsSo}
 use Rattle.txt_core.specs.Names.{Bytes}
+use Rattle.txt_core.specs.contracts.text.Text as text
+use Rattle.tcl_frame.specs.declared.variable.Variable.TheVariants.{Scalar}
 use Rattle.tcl_frame.specs.Variables.{Table}
 use Rattle.tcl_frame.specs.Stack.{Stack}
 use Rattle.tcl_frame.specs.declared.frame.Frame.{Frame}
-use Rattle.tcl_frame.specs.Frames.{links_name, top_variables, with_table}
+use Rattle.tcl_frame.specs.Frames.{links_name, top_variables, table_of, with_table, written}
 use Rattle.tcl_frame.specs.contracts.frames.Frames as frames
 use Rattle.tcl_frame.specs.contracts.table.Table as table
 
@@ -19,3 +23,14 @@ abbrev pub lends_own : MutBor Stack → Bytes → Option (MutBor Table) → Fml
 lends_own s name r =
     LendsSo frames.the_row table.the_row s r
     (λ n w. OnSome r (n ≡ with_table s.now name w)) (λ n. n ≡ s.now)
+
+-- the variable of the name is a scalar with the text that is written last through the result, among the variables among which it is
+-- looked up. Where nothing is lent the frames are as they were
+abbrev pub lends_plain : MutBor Stack → Bytes → Option (MutBor Bytes) → Fml
+lends_plain s name r =
+    LendsSo frames.the_row text.the_row s r
+    (λ n w. OnSome r (n ≡ with_table s.now name (map.insert (table_of s.now name) name (Scalar w)))) (λ n. n ≡ s.now)
+
+-- what is left behind the result is written to the name. Where nothing is lent the frames are as they were
+abbrev pub lends_written : MutBor Stack → Bytes → Option (MutBor Bytes) → Fml
+lends_written s name r = LendsSo frames.the_row text.the_row s r (λ n w. OnSome r (n ≡ written s.now name w)) (λ n. n ≡ s.now)

@@ -1,23 +1,26 @@
 //! The variables of an interpreter.
 
-ghost use Rattle.std.specs.Prelude.{◌≡◌, ◌≤◌, ◌<◌, ◌++◌, ◌≢◌, IfOk, IfErr, OnOk, OnErr, length, false};
+ghost use Rattle.std.specs.Prelude.{◌≡◌, ◌≤◌, ◌<◌, ◌++◌, ◌≢◌, Some, IfOk, IfErr, IfSome, OnOk, OnErr, length, false};
 ghost use Rattle.std.specs.Borrow.{sem};
 ghost use Rattle.std.specs.Option.{option_copied, option_copied_mut};
 ghost use Rattle.std.specs.FinMap as map;
 ghost use Rattle.txt_core.specs.Knowing.{Holds};
 ghost use Rattle.tcl_frame.specs.Names.{named, is_element};
-ghost use Rattle.tcl_frame.specs.Frames.{fresh, pushed, popped, links_name, found_in, has, is_array, elements_of, read_of, read_fault, write_fault, global_fault, remove_fault, array_fault, link_fault, written, globally_written, removed, pairs_written, linked, unlinked};
+ghost use Rattle.tcl_frame.specs.Frames.{fresh, pushed, popped, links_name, table_of, found_in, has, is_array, elements_of, read_of, read_fault, write_fault, global_fault, remove_fault, array_fault, link_fault, written, globally_written, removed, pairs_written, linked, unlinked};
 ghost use Rattle.tcl_frame.specs.Base.{IsAtBase, cleared, kept, unkept};
 ghost use Rattle.tcl_frame.specs.Seen.{name_seen};
 ghost use Rattle.tcl_frame.specs.Findings.{found_seen};
 ghost use Rattle.tcl_frame.specs.Refusal.{IsRefusedFor};
-ghost use Rattle.tcl_frame.specs.OwnLending.{own_variables, lends_own};
+ghost use Rattle.tcl_frame.specs.declared.variable.Variable.TheVariants.{Scalar};
+ghost use Rattle.tcl_frame.specs.Meaning.{Value};
+ghost use Rattle.tcl_frame.specs.Texts.{text_of_scalar};
+ghost use Rattle.tcl_frame.specs.OwnLending.{own_variables, lends_own, lends_plain, lends_written};
 
 use crate::fault::VarFault;
 use crate::found::Found;
 use crate::frame::Frame;
 use crate::globals::Globals;
-use crate::name::Name;
+use crate::name::{Name, is_closed};
 use crate::table::Table;
 use std::alloc::Global;
 use std::marker::Model;
@@ -154,6 +157,58 @@ impl Frames {
         }
     }
 
+    /// Whether the topmost frame leaves a variable's name to the global variables.
+    fn leaves(&self, name: &[u8]) -> bool
+        ensures { result ≡ links_name self.now.above name.now }
+    {
+        self.own(name).is_none()
+    }
+
+    /// The text of the scalar of a variable's name; `None` exactly where there is no such scalar.
+    fn scalar(&self, name: &[u8]) -> Option<&Text>
+        ensures { option_copied result
+            ≡ text_of_scalar (map.get (table_of self.now name.now) name.now) }
+    {
+        match self.own(name) {
+            Some(variables) => variables.scalar(name),
+            None => self.global.scalar(name),
+        }
+    }
+
+    /// The text of the scalar of a variable's name, to be changed; `None` where there is no such
+    /// scalar, and where it is a base scalar that was never changed.
+    fn plain_mut(&mut self, name: &[u8]) -> Option<&mut Text>
+        ensures* writes_back { sem 𝓛 (lends_plain self.entry name.now result) }
+        ensures value { IfSome (option_copied_mut result) (λ text.
+            map.get (table_of self.old name.now) name.now ≡ Some (Scalar text)) }
+    {
+        if self.leaves(name) {
+            return self.global.scalar_mut(name);
+        }
+        match self.above.last_mut() {
+            Some(frame) => frame.variables.scalar_mut(name),
+            None => None,
+        }
+    }
+
+    /// The value of a scalar, to be changed in its place, which is looked up once: what is left there
+    /// is written to the name, as by `write`. `None` says nothing of the name: the variable may be
+    /// absent or an array, or a base scalar that wasn't changed since the frames were cleared, and of
+    /// an element nothing is lent.
+    pub fn scalar_mut(&mut self, name: &Text) -> Option<&mut Text>
+        ensures* writes_back { sem 𝓛 (lends_written self.entry name.now result) }
+        ensures value { IfSome (option_copied_mut result) (λ value.
+            found_in self.old (named name.now) ≡ Value value) }
+        ensures same { IfSome (option_copied_mut result) (λ value.
+            written self.old name.now value ≡ self.old) }
+    {
+        let name = name.bytes();
+        if is_closed(name) {
+            return None;
+        }
+        self.plain_mut(name)
+    }
+
     /// What a name finds.
     fn find(&self, name: &Name<'_>) -> Found<'_>
         ensures { found_seen result ≡ found_in self.now (name_seen name.now) }
@@ -168,6 +223,21 @@ impl Frames {
     /// variable, the array or the element is absent, `IsArray` where the name is an array's, and
     /// `NotArray` where an element's array is a scalar.
     pub fn value(&self, name: &Text) -> Result<&Text, VarFault>
+        ensures value { IfOk result (λ value. value.now ≡ read_of self.now name.now) }
+        ensures refused { IsRefusedFor (read_fault self.now name.now) result }
+    {
+        let bytes = name.bytes();
+        if !is_closed(bytes) {
+            if let Some(value) = self.scalar(bytes) {
+                return Ok(value);
+            }
+        }
+        self.value_of(name)
+    }
+
+    /// The value of a scalar or an element, by what the name finds.
+    #[inline(never)]
+    fn value_of(&self, name: &Text) -> Result<&Text, VarFault>
         ensures value { IfOk result (λ value. value.now ≡ read_of self.now name.now) }
         ensures refused { IsRefusedFor (read_fault self.now name.now) result }
     {
@@ -229,6 +299,23 @@ impl Frames {
     /// comes exactly where the name is an array's, `NotArray` where an element's array is a
     /// scalar. A refusal changes nothing.
     pub fn write(&mut self, name: &Text, value: Text) -> Result<(), VarFault>
+        ensures ok { OnOk result (self.new ≡ written self.old name.now value) }
+        ensures refused { IsRefusedFor (write_fault self.old name.now) result }
+        ensures err { OnErr result (self.new ≡ self.old) }
+        ensures depth { length self.new.above ≡ length self.old.above }
+    {
+        match self.scalar_mut(name) {
+            Some(place) => {
+                *place = value;
+                Ok(())
+            }
+            None => self.write_found(name, value),
+        }
+    }
+
+    /// Gives a scalar or an element this value, by what the name means.
+    #[inline(never)]
+    fn write_found(&mut self, name: &Text, value: Text) -> Result<(), VarFault>
         ensures ok { OnOk result (self.new ≡ written self.old name.now value) }
         ensures refused { IsRefusedFor (write_fault self.old name.now) result }
         ensures err { OnErr result (self.new ≡ self.old) }
@@ -320,7 +407,7 @@ impl Frames {
     pub fn is_linked(&self, name: &Text) -> bool
         ensures { result ≡ links_name self.now.above name.now }
     {
-        self.own(name.bytes()).is_none()
+        self.leaves(name.bytes())
     }
 
     /// Makes the name mean the global variable of this name, in all calls while this frame is the

@@ -1,7 +1,8 @@
 //! The global variables, with the base scalars among them.
 
-ghost use Rattle.std.specs.Prelude.{◌≡◌, ◌≢◌, ◌≤◌, ◌<◌, ◌+◌, ◌++◌, ◌∷◌, [], length, take, None, IsSome, IfOk, IfErr, OnOk, OnErr};
-ghost use Rattle.std.specs.Option.{option_copied, option_map};
+ghost use Rattle.std.specs.Prelude.{◌≡◌, ◌≢◌, ◌≤◌, ◌<◌, ◌+◌, ◌++◌, ◌∷◌, [], length, take, None, Some, IsSome, IfOk, IfErr, IfSome, OnOk, OnErr};
+ghost use Rattle.std.specs.Borrow.{sem};
+ghost use Rattle.std.specs.Option.{option_copied, option_copied_mut, option_map};
 ghost use Rattle.std.specs.FinMap as map;
 ghost use Rattle.txt_core.specs.Names.{Bytes};
 ghost use Rattle.txt_core.specs.Knowing.{Holds};
@@ -13,6 +14,8 @@ ghost use Rattle.tcl_frame.specs.Seen.{name_seen};
 ghost use Rattle.tcl_frame.specs.Findings.{found_seen};
 ghost use Rattle.tcl_frame.specs.Refusal.{IsRefusedFor};
 ghost use Rattle.tcl_frame.specs.Base.{base_of, as_variables};
+ghost use Rattle.tcl_frame.specs.Texts.{text_of_scalar};
+ghost use Rattle.tcl_frame.specs.GlobalLending.{lends_global};
 ghost use Rattle.tcl_frame.specs.Globals.{together, values_of, standing_value, standing_again, keeps_of, KnowBefore, base_fault};
 
 use crate::base::{Base, Bases};
@@ -191,6 +194,29 @@ impl Globals {
                 Name::Whole(_) => Found::Value(value),
                 Name::Element(_, _) => Found::InScalar,
             },
+        }
+    }
+
+    /// The text of the scalar of a name; `None` exactly where there is no such scalar.
+    pub fn scalar(&self, name: &[u8]) -> Option<&Text>
+        ensures { option_copied result ≡ text_of_scalar (map.get self.now.table name.now) }
+    {
+        match base_value(&self.base, name) {
+            Some(value) => Some(value),
+            None => self.own.scalar(name),
+        }
+    }
+
+    /// The text of the scalar of a name, to be changed; `None` where there is no such scalar, and where
+    /// it is a base scalar that isn't set aside.
+    pub fn scalar_mut(&mut self, name: &[u8]) -> Option<&mut Text>
+        ensures* writes_back { sem 𝓛 (lends_global self.entry name.now result) }
+        ensures value { IfSome (option_copied_mut result) (λ text.
+            map.get self.old.table name.now ≡ Some (Variable.Scalar text)) }
+    {
+        match base_value(&self.base, name) {
+            Some(_) => None,
+            None => self.own.scalar_mut(name),
         }
     }
 

@@ -24,7 +24,7 @@ fn opening(name: &[u8]) -> Option<usize>
 }
 
 /// Whether the last byte is `)`.
-fn is_closed(name: &[u8]) -> bool
+pub fn is_closed(name: &[u8]) -> bool
     ensures { result ≡ is_closed name.now }
 {
     match name.last() {

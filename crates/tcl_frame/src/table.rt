@@ -12,7 +12,8 @@ ghost use Rattle.tcl_frame.specs.Meaning.{found, no_write, no_removal, no_array}
 ghost use Rattle.tcl_frame.specs.Seen.{name_seen};
 ghost use Rattle.tcl_frame.specs.Findings.{found_seen};
 ghost use Rattle.tcl_frame.specs.Refusal.{IsRefusedFor};
-ghost use Rattle.tcl_frame.specs.TableLending.{lends_variable};
+ghost use Rattle.tcl_frame.specs.Texts.{text_of_scalar};
+ghost use Rattle.tcl_frame.specs.TableLending.{lends_variable, lends_scalar};
 
 use crate::dictionary::Dictionary;
 use crate::fault::VarFault;
@@ -89,6 +90,30 @@ impl Table {
                 None => None,
             },
             None => self.rest.get_mut(name),
+        }
+    }
+
+    /// The text of the scalar of a name; `None` exactly where there is no such scalar.
+    pub fn scalar(&self, name: &[u8]) -> Option<&Text>
+        ensures { option_copied result ≡ text_of_scalar (map.get self.now name.now) }
+    {
+        match self.get(name) {
+            Some(variable) => variable.text(),
+            None => None,
+        }
+    }
+
+    /// The text of the scalar of a name, to be changed; `None` exactly where there is no such scalar.
+    pub fn scalar_mut(&mut self, name: &[u8]) -> Option<&mut Text>
+        ensures* writes_back { sem 𝓛 (lends_scalar self.entry name.now result) }
+        ensures value { option_copied_mut result ≡ text_of_scalar (map.get self.old name.now) }
+    {
+        match self.get_mut(name) {
+            Some(variable) => match variable.text_mut() {
+                Some(text) => Some(text),
+                None => None,
+            },
+            None => None,
         }
     }
 

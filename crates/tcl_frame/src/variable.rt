@@ -1,6 +1,8 @@
 //! A variable.
 
 ghost use Rattle.std.specs.Prelude.{◌≡◌, ◌++◌, Some, IfOk, OnOk, OnErr};
+ghost use Rattle.std.specs.Borrow.{sem};
+ghost use Rattle.std.specs.Option.{option_copied, option_copied_mut};
 ghost use Rattle.std.specs.FinMap as map;
 ghost use Rattle.txt_core.specs.Keyed.{with_pairs};
 ghost use Rattle.txt_core.specs.Knowing.{Holds};
@@ -9,6 +11,8 @@ ghost use Rattle.tcl_frame.specs.Variables.{elements_in};
 ghost use Rattle.tcl_frame.specs.Appending.{text_in, text_at, text_of};
 ghost use Rattle.tcl_frame.specs.Meaning.{whole, element, no_write, no_array};
 ghost use Rattle.tcl_frame.specs.Refusal.{IsRefusedFor};
+ghost use Rattle.tcl_frame.specs.Texts.{text_of_scalar};
+ghost use Rattle.tcl_frame.specs.TextLending.{lends_text};
 
 use crate::dictionary::Dictionary;
 use crate::fault::VarFault;
@@ -28,6 +32,27 @@ pub enum Variable {
 }
 
 impl Variable {
+    /// The text of a scalar; `None` exactly where it is an array.
+    pub fn text(&self) -> Option<&Text>
+        ensures { option_copied result ≡ text_of_scalar (Some self.now) }
+    {
+        match self {
+            Variable::Scalar(text) => Some(text),
+            Variable::Array(_) => None,
+        }
+    }
+
+    /// The text of a scalar, to be changed; `None` exactly where it is an array.
+    pub fn text_mut(&mut self) -> Option<&mut Text>
+        ensures* writes_back { sem 𝓛 (lends_text self.entry result) }
+        ensures value { option_copied_mut result ≡ text_of_scalar (Some self.old) }
+    {
+        match self {
+            Variable::Scalar(text) => Some(text),
+            Variable::Array(_) => None,
+        }
+    }
+
     /// Gives a scalar this text. An array is refused.
     pub fn write(&mut self, value: Text) -> Result<(), VarFault>
         ensures ok { OnOk result (self.new ≡ Variable.Scalar value) }
