@@ -4,4 +4,5 @@ mod Values
 mod Counts
 mod Making
 mod Growing
+mod InPlace
 mod Linking

@@ -8,4 +8,5 @@ pub mod Commands
 -- What only proofs use.
 pub mod Reading
 pub mod Growing
+pub mod InPlace
 pub mod Linking

@@ -7,6 +7,7 @@ ghost use Rattle.tcl_frame.specs.Frames.{read_of};
 ghost use Rattle.natives.specs.Answers.{Tried};
 ghost use Rattle.tcl_varcmd.specs.Answers.{Answers, IfNoMemory};
 ghost use Rattle.tcl_varcmd.specs.Growing.{grown};
+ghost use Rattle.tcl_varcmd.specs.InPlace.{Replies, storing, adding, Leaves};
 ghost use Rattle.tcl_varcmd.specs.Scalars.{stored, set_to, set_came, step_error, step_of, incr_by, incr_came, append_to, append_came, lappend_to, lappend_came};
 
 use crate::message::{check_count, check_least};
@@ -74,18 +75,58 @@ fn step(alloc: Global, n: Option<&Text>) -> Result<i64, Fault>
     }
 }
 
+/// Writes a value in the place of another. The value is the result.
+fn store_at(alloc: Global, place: &mut Text, mut value: Text) -> Result<Text, Fault>
+    ensures came { Replies (storing value) result }
+    ensures left { Leaves place.old result place.new }
+{
+    if is_too_long(&value) {
+        return Err(Fault::too_long(alloc));
+    }
+    *place = value.share(alloc)?;
+    Ok(value)
+}
+
+/// Adds to a value in its place.
+fn add_at(alloc: Global, place: &mut Text, n: Option<&Text>) -> Result<Text, Fault>
+    ensures came { Replies (adding place.old (option_copied n.entry)) result }
+    ensures left { Leaves place.old result place.new }
+{
+    let number = number_in(alloc, place)?;
+    let by = step(alloc, n)?;
+    let total = sum(alloc, number, by)?;
+    let value = write_int(alloc, total)?;
+    store_at(alloc, place, value)
+}
+
+/// Adds to a variable whose value isn't changed in its place.
+#[inline(never)]
+fn add_apart(
+    alloc: Global,
+    frames: &mut Frames,
+    name: &Text,
+    n: Option<&Text>,
+) -> Result<Text, Fault>
+    ensures came { Answers (incr_by frames.old name.now (option_copied n.entry)) result frames.new }
+    ensures kept { IfNoMemory result (frames.new ≡ frames.old) }
+    ensures depth { length frames.new.above ≡ length frames.old.above }
+{
+    let mut value = read(alloc, frames, name)?;
+    let total = add_at(alloc, &mut value, n)?;
+    write(alloc, frames, name, value)?;
+    Ok(total)
+}
+
 /// Adds to a variable.
 fn add(alloc: Global, frames: &mut Frames, name: &Text, n: Option<&Text>) -> Result<Text, Fault>
     ensures came { Answers (incr_by frames.old name.now (option_copied n.entry)) result frames.new }
     ensures kept { IfNoMemory result (frames.new ≡ frames.old) }
     ensures depth { length frames.new.above ≡ length frames.old.above }
 {
-    let old = read(alloc, frames, name)?;
-    let number = number_in(alloc, &old)?;
-    let by = step(alloc, n)?;
-    let total = sum(alloc, number, by)?;
-    let value = write_int(alloc, total)?;
-    store(alloc, frames, name, value)
+    match frames.scalar_mut(name) {
+        Some(place) => add_at(alloc, place, n),
+        None => add_apart(alloc, frames, name, n),
+    }
 }
 
 /// `incr name ?n?`.
@@ -98,9 +139,23 @@ pub(crate) fn incr(alloc: Global, frames: &mut Frames, words: &Words) -> Result<
     add(alloc, frames, word_at(words, 1), words.get(2))
 }
 
-/// Puts a text behind a variable's own, and gives the new value. The condition is that what is known
-/// of it is true.
-fn grow(
+/// Puts a text behind a value in its place, and gives the new value. The condition is that what is
+/// known of it is true.
+fn grow_at(alloc: Global, place: &mut Text, more: &Text, known: Known) -> Result<Text, Fault>
+    requires { Holds known (place.old ++ more.now) }
+    ensures came { Replies (storing (place.old ++ more.now)) result }
+    ensures left { Leaves place.old result place.new }
+{
+    if is_too_long_behind(place.len(), more) {
+        return Err(Fault::too_long(alloc));
+    }
+    let value = place.append_sharing(alloc, more.bytes(), known)?;
+    Ok(value)
+}
+
+/// Puts a text behind the value of a variable that isn't changed in its place.
+#[inline(never)]
+fn grow_apart(
     alloc: Global,
     frames: &mut Frames,
     name: &Text,
@@ -117,6 +172,26 @@ fn grow(
         return Err(Fault::too_long(alloc));
     }
     variable::append(alloc, frames, name, more.bytes(), known)
+}
+
+/// Puts a text behind a variable's own, and gives the new value. The condition is that what is known
+/// of it is true.
+fn grow(
+    alloc: Global,
+    frames: &mut Frames,
+    name: &Text,
+    more: &Text,
+    known: Known,
+) -> Result<Text, Fault>
+    requires { Holds known (read_of frames.old name.now ++ more.now) }
+    ensures came { Answers (grown frames.old name.now more.now) result frames.new }
+    ensures kept { IfNoMemory result (frames.new ≡ frames.old) }
+    ensures depth { length frames.new.above ≡ length frames.old.above }
+{
+    match frames.scalar_mut(name) {
+        Some(place) => grow_at(alloc, place, more, known),
+        None => grow_apart(alloc, frames, name, more, known),
+    }
 }
 
 /// Puts values behind a variable's own.
