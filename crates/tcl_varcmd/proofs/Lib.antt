@@ -5,4 +5,5 @@ mod Counts
 mod Making
 mod Growing
 mod InPlace
+mod Judging
 mod Linking

@@ -9,4 +9,5 @@ pub mod Commands
 pub mod Reading
 pub mod Growing
 pub mod InPlace
+pub mod Judging
 pub mod Linking

@@ -3,6 +3,7 @@
 ghost use Rattle.std.specs.Prelude.{◌≡◌, Some, codes, bytes_eq};
 ghost use Rattle.natives.specs.Words.{arg};
 ghost use Rattle.tcl_varcmd.specs.Commands.{command_named, goes_on, begins_var_command};
+ghost use Rattle.tcl_varcmd.specs.Judging.{is_on_one};
 
 use txt_core::Words;
 
@@ -71,6 +72,16 @@ fn goes_on(command: Command, words: &Words) -> bool
     match command {
         Command::Info => is_exists(words),
         _ => true,
+    }
+}
+
+/// Whether a command reads or writes one variable and no other.
+pub(crate) fn is_on_one(command: Command) -> bool
+    ensures { result ≡ is_on_one command }
+{
+    match command {
+        Command::Set | Command::Incr | Command::Append | Command::Lappend | Command::Info => true,
+        Command::Unset | Command::Global | Command::Array => false,
     }
 }
 

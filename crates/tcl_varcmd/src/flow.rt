@@ -1,13 +1,14 @@
 //! Variable commands.
 
-ghost use Rattle.std.specs.Prelude.{◌≡◌, length, Some, IsTrue};
+ghost use Rattle.std.specs.Prelude.{◌≡◌, length, Some, IsTrue, true};
 ghost use Rattle.tcl_frame.specs.Stack.{Stack};
 ghost use Rattle.tcl_varcmd.specs.Answers.{Came, Answers, IfNoMemory};
 ghost use Rattle.txt_core.specs.ErrorTexts.{too_long};
 ghost use Rattle.tcl_varcmd.specs.Commands.{command_came, bounded, var_came, begins_var_command};
+ghost use Rattle.tcl_varcmd.specs.Judging.{is_long_answer, is_on_one};
 
 use crate::array::{array, info};
-use crate::command::{Command, command_in};
+use crate::command::{Command, command_in, is_on_one};
 use crate::names::{global, unset};
 use crate::scalar::{append, incr, lappend, set};
 use natives::Fault;
@@ -52,6 +53,56 @@ fn within_limit(answer: Result<Text, Fault>, over: Text) -> Result<Text, Fault>
     }
 }
 
+/// Whether an answer has a text over the limit.
+fn is_over_limit(answer: &Result<Text, Fault>) -> bool
+    ensures { result ≡ is_long_answer answer.now }
+{
+    match answer {
+        Ok(text) | Err(Fault::Error(text)) => is_too_long(text),
+        Err(Fault::NoMemory) => false,
+    }
+}
+
+/// What a command on one variable comes to. Its answer is over the limit only where it changed
+/// nothing, so that want of memory for the error's text changes nothing.
+fn judged(
+    alloc: Global,
+    frames: &mut Frames,
+    command: Command,
+    words: &Words,
+) -> Result<Text, Fault>
+    requires { is_on_one command ≡ true }
+    ensures came { Answers (bounded (command_came frames.old (Some command) words.now)) result
+        frames.new }
+    ensures kept { IfNoMemory result (frames.new ≡ frames.old) }
+    ensures depth { length frames.new.above ≡ length frames.old.above }
+{
+    let came = answer(alloc, frames, command, words);
+    if is_over_limit(&came) {
+        return Err(Fault::too_long(alloc));
+    }
+    came
+}
+
+/// What any other command comes to. The text of the error is had before anything changes, so that want
+/// of memory for it changes nothing.
+#[inline(never)]
+fn judged_apart(
+    alloc: Global,
+    frames: &mut Frames,
+    command: Command,
+    words: &Words,
+) -> Result<Text, Fault>
+    ensures came { Answers (bounded (command_came frames.old (Some command) words.now)) result
+        frames.new }
+    ensures kept { IfNoMemory result (frames.new ≡ frames.old) }
+    ensures depth { length frames.new.above ≡ length frames.old.above }
+{
+    let over = error_text::too_long(alloc)?;
+    let answer = answer(alloc, frames, command, words);
+    within_limit(answer, over)
+}
+
 /// Does one of the commands on variables: `set`, `unset`, `incr`, `append`, `lappend`, `global`,
 /// `array` and `info exists`. The condition is that the words begin with one of these
 /// (`is_var_command`).
@@ -75,10 +126,10 @@ pub fn var_command(alloc: Global, frames: &mut Frames, words: &Words) -> Result<
 {
     match command_in(words) {
         Some(command) => {
-            // The text is had before anything changes, so that want of memory for it changes nothing.
-            let over = error_text::too_long(alloc)?;
-            let answer = answer(alloc, frames, command, words);
-            within_limit(answer, over)
+            if is_on_one(command) {
+                return judged(alloc, frames, command, words);
+            }
+            judged_apart(alloc, frames, command, words)
         }
         None => unreachable!(),
     }
