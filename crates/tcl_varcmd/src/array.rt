@@ -190,6 +190,7 @@ fn run_part(alloc: Global, frames: &mut Frames, part: Part, words: &Words) -> Re
 }
 
 /// `array` with its subcommands.
+#[inline(never)]
 pub(crate) fn array(alloc: Global, frames: &mut Frames, words: &Words) -> Result<Text, Fault>
     ensures came { Answers (array_came frames.old words.now) result frames.new }
     ensures kept { IfNoMemory result (frames.new ≡ frames.old) }
@@ -204,6 +205,7 @@ pub(crate) fn array(alloc: Global, frames: &mut Frames, words: &Words) -> Result
 }
 
 /// `info exists name`.
+#[inline(never)]
 pub(crate) fn info(alloc: Global, frames: &Frames, words: &Words) -> Result<Text, Fault>
     ensures { Answers (info_came frames.now words.now) result frames.now }
 {

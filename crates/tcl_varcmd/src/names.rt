@@ -32,6 +32,7 @@ fn unset_names(alloc: Global, frames: &mut Frames, names: &[Text]) -> Result<Tex
 }
 
 /// `unset name name*`.
+#[inline(never)]
 pub(crate) fn unset(alloc: Global, frames: &mut Frames, words: &Words) -> Result<Text, Fault>
     ensures came { Answers (unset_came frames.old words.now) result frames.new }
     ensures kept { IfNoMemory result (frames.new ≡ frames.old) }
@@ -130,6 +131,7 @@ fn link_names(alloc: Global, frames: &mut Frames, names: &[Text]) -> Result<Text
 }
 
 /// `global name name*`.
+#[inline(never)]
 pub(crate) fn global(alloc: Global, frames: &mut Frames, words: &Words) -> Result<Text, Fault>
     ensures came { Answers (global_came frames.old words.now) result frames.new }
     ensures kept { IfNoMemory result (frames.new ≡ frames.old) }

@@ -75,15 +75,16 @@ fn step(alloc: Global, n: Option<&Text>) -> Result<i64, Fault>
     }
 }
 
-/// Writes a value in the place of another. The value is the result.
-fn store_at(alloc: Global, place: &mut Text, mut value: Text) -> Result<Text, Fault>
+/// Writes a value of a few bytes, which a copy shares with none, in the place of another. The value is
+/// the result.
+fn store_at(alloc: Global, place: &mut Text, value: Text) -> Result<Text, Fault>
     ensures came { Replies (storing value) result }
     ensures left { Leaves place.old result place.new }
 {
     if is_too_long(&value) {
         return Err(Fault::too_long(alloc));
     }
-    *place = value.share(alloc)?;
+    *place = value.copy(alloc)?;
     Ok(value)
 }
 
