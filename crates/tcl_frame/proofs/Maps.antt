@@ -96,7 +96,7 @@ module _ {V : Type 0} where
       get-from_entries nat_list_cmp_total (by_bytes es) q ∙ sym (get-from_sorted (slice_cmp nat_cmp) (by_bytes es) q sorted)))
       ∙ entries-from_sorted (slice_cmp nat_cmp) (by_bytes es) sorted
 
-no_items : {A : Type 0} (xs : List A) → length xs ≡ 0 → xs ≡ []
+pub no_items : {A : Type 0} (xs : List A) → length xs ≡ 0 → xs ≡ []
 no_items [] e = refl
 no_items (x ∷ xs) e = absurd (omega arith)
 

@@ -65,6 +65,9 @@ impl<V> Dictionary<V> {
     pub fn get(&self, key: &[u8]) -> Option<&V>
         ensures { option_copied result ≡ map.get self.now key.now }
     {
+        if self.values.is_empty() {
+            return None;
+        }
         self.values.get(key)
     }
 
@@ -80,7 +83,7 @@ impl<V> Dictionary<V> {
     pub fn contains(&self, key: &[u8]) -> bool
         ensures { result ≡ map.contains_key self.now key.now }
     {
-        self.values.contains_key(key)
+        self.get(key).is_some()
     }
 
     /// Gives a key this value in place of any that it had. A key that has a value takes no memory.
