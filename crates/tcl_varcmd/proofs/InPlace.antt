@@ -1,20 +1,23 @@
 -- Commands that change a variable's value in its place.
-use Rattle.std.proofs.Common.{◌≡◌, ℕ, List, ◌++◌, length, Option, Some, None, Result, Ok, Err, refl, sym, ap, ◌∙◌, ◌+ℤ◌}
+use Rattle.std.proofs.Common.{◌≡◌, ℕ, List, ◌++◌, Option, Some, None, Result, Ok, Err, refl, sym, ap, subst, ◌∙◌, ◌+ℤ◌}
 use Rattle.std.specs.Fmt.{signed_decimal}
+use Rattle.txt_core.specs.Quoting.{quoting}
+use Rattle.tcl_list.specs.Answers.{AppendsTo}
 use Rattle.tcl_frame.specs.Names.{named}
-use Rattle.tcl_frame.specs.Meaning.{Found, Nothing, Value, AnArray, InScalar, no_read, no_write, value_there}
+use Rattle.tcl_frame.specs.Meaning.{Found, Nothing, Value, AnArray, InScalar, no_read, no_write}
 use Rattle.tcl_frame.specs.Stack.{Stack}
 use Rattle.tcl_frame.specs.Frames.{found_in, read_of, written}
 use Rattle.natives.specs.declared.fault.Fault.{Fault}
 use Rattle.natives.specs.declared.fault.Fault.TheVariants.{Error, NoMemory}
 use Rattle.natives.specs.Answers.{Reply}
 use Rattle.natives.specs.Answers as replies
-use Rattle.natives.specs.Checks.{integer_error, integer}
+use Rattle.natives.specs.Checks.{integer_error, integer, list_error, items}
 use Rattle.tcl_varcmd.specs.Answers.{Came, gives, fails, unless, Answers, IfNoMemory, Says}
 use Rattle.tcl_varcmd.specs.Errors.{refused, read_error, write_error, sum_error, long_error}
-use Rattle.tcl_varcmd.specs.Scalars.{stored, step_error, step_of, added, incr_by}
+use Rattle.tcl_varcmd.specs.Scalars.{stored, step_error, step_of, added, incr_by, lappend_to}
 use Rattle.tcl_varcmd.specs.Growing.{grown}
-use Rattle.tcl_varcmd.specs.InPlace.{Replies, storing, adding, Leaves}
+use Rattle.tcl_varcmd.proofs.Values.{appended}
+use Rattle.tcl_varcmd.specs.InPlace.{Replies, storing, adding, lappending, Leaves}
 
 -- a reply that says its error
 pub reply_said : (error message : Option (List ℕ)) (reply : Reply) (x : Fault) → error ≡ message → Says message x → Replies (replies.unless error reply) (Err x)
@@ -100,3 +103,25 @@ pub grown_in_place : (stack : Stack) (name more : List ℕ) → write_error stac
 grown_in_place stack name more none =
     stored_in_place stack name (read_of stack name ++ more) none
     ∙ ap (λ e. unless e stack (stored stack name (read_of stack name ++ more))) (sym none)
+
+pub lappended_in_place : (stack : Stack) (name : List ℕ) (values : List (List ℕ)) → write_error stack name ≡ None
+    → came_of stack name (lappending (read_of stack name) values) ≡ lappend_to stack name values
+lappended_in_place stack name values none =
+    let old = read_of stack name in
+    let whole = quoting (items old ++ values) in
+    came_unless stack name (list_error old) (storing whole)
+    ∙ ap (unless (list_error old) stack) (stored_in_place stack name whole none)
+    ∙ ap (λ e. unless e stack (unless (list_error old) stack (stored stack name whole))) (sym none)
+
+-- what stands behind a list with elements at its end is put behind it
+pub lappending_behind : (old more : List ℕ) (values : List (List ℕ)) (r : Result (List ℕ) Fault) → AppendsTo old values (Ok (old ++ more))
+    → Replies (storing (old ++ more)) r → Replies (lappending old values) r
+lappending_behind old more values r appends h =
+    let is = appended old values (old ++ more) appends in
+    reply_on (list_error old) (storing (quoting (items old ++ values))) r is.0 (subst (λ t. Replies (storing t) r) is.1 h)
+
+-- a list that is written anew
+pub lappending_anew : (old whole : List ℕ) (values : List (List ℕ)) (r : Result (List ℕ) Fault) → list_error old ≡ None → whole ≡ quoting (items old ++ values)
+    → Replies (storing whole) r → Replies (lappending old values) r
+lappending_anew old whole values r none is h =
+    reply_on (list_error old) (storing (quoting (items old ++ values))) r none (subst (λ t. Replies (storing t) r) is h)

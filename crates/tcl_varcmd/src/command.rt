@@ -21,6 +21,7 @@ pub enum Command {
 }
 
 /// The command of a name; `None` exactly where there is none.
+#[inline(always)]
 pub(crate) fn command_of(name: &[u8]) -> Option<Command>
     ensures { result ≡ command_named name.now }
 {
@@ -46,6 +47,7 @@ pub(crate) fn command_of(name: &[u8]) -> Option<Command>
 }
 
 /// The command that words begin with; `None` exactly where there is none.
+#[inline(always)]
 pub(crate) fn command_in(words: &Words) -> Option<Command>
     ensures { result ≡ command_named (arg words.now 0) }
 {

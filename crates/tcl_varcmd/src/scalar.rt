@@ -2,12 +2,12 @@
 
 ghost use Rattle.std.specs.Prelude.{◌≡◌, ◌++◌, [], length, IfOk};
 ghost use Rattle.std.specs.Option.{option_copied};
-ghost use Rattle.txt_core.specs.Knowing.{Holds};
+ghost use Rattle.txt_core.specs.Knowing.{Holds, IsWrittenList};
 ghost use Rattle.tcl_frame.specs.Frames.{read_of};
 ghost use Rattle.natives.specs.Answers.{Tried};
 ghost use Rattle.tcl_varcmd.specs.Answers.{Answers, IfNoMemory};
 ghost use Rattle.tcl_varcmd.specs.Growing.{grown};
-ghost use Rattle.tcl_varcmd.specs.InPlace.{Replies, storing, adding, Leaves};
+ghost use Rattle.tcl_varcmd.specs.InPlace.{Replies, storing, adding, lappending, Leaves};
 ghost use Rattle.tcl_varcmd.specs.Scalars.{stored, set_to, set_came, step_error, step_of, incr_by, incr_came, append_to, append_came, lappend_to, lappend_came};
 
 use crate::message::{check_count, check_least};
@@ -75,17 +75,28 @@ fn step(alloc: Global, n: Option<&Text>) -> Result<i64, Fault>
     }
 }
 
-/// Writes a value of a few bytes, which a copy shares with none, in the place of another. The value is
-/// the result.
-fn store_at(alloc: Global, place: &mut Text, value: Text) -> Result<Text, Fault>
+/// Writes a value in the place of another. The value is the result.
+fn store_at(alloc: Global, place: &mut Text, mut value: Text) -> Result<Text, Fault>
     ensures came { Replies (storing value) result }
     ensures left { Leaves place.old result place.new }
 {
     if is_too_long(&value) {
         return Err(Fault::too_long(alloc));
     }
-    *place = value.copy(alloc)?;
+    *place = value.share(alloc)?;
     Ok(value)
+}
+
+/// Writes a number in the place of a value: a copy of its few bytes. The number is the result.
+fn store_number_at(alloc: Global, place: &mut Text, number: Text) -> Result<Text, Fault>
+    ensures came { Replies (storing number) result }
+    ensures left { Leaves place.old result place.new }
+{
+    if is_too_long(&number) {
+        return Err(Fault::too_long(alloc));
+    }
+    *place = number.copy(alloc)?;
+    Ok(number)
 }
 
 /// Adds to a value in its place.
@@ -97,7 +108,7 @@ fn add_at(alloc: Global, place: &mut Text, n: Option<&Text>) -> Result<Text, Fau
     let by = step(alloc, n)?;
     let total = sum(alloc, number, by)?;
     let value = write_int(alloc, total)?;
-    store_at(alloc, place, value)
+    store_number_at(alloc, place, value)
 }
 
 /// Adds to a variable whose value isn't changed in its place.
@@ -220,8 +231,40 @@ pub(crate) fn append(alloc: Global, frames: &mut Frames, words: &Words) -> Resul
     append_values(alloc, frames, word_at(words, 1), &words.as_slice()[2..])
 }
 
-/// Puts values at the end of a variable's list.
-fn lappend_values(
+/// Puts values behind a list in its place, which stands as a list is written.
+fn lappend_behind(alloc: Global, place: &mut Text, values: &[Text]) -> Result<Text, Fault>
+    requires { IsWrittenList place.old }
+    ensures came { Replies (lappending place.old values.now) result }
+    ensures left { Leaves place.old result place.new }
+{
+    let more = elements_behind(alloc, place, values)?;
+    grow_at(alloc, place, &more, Known::WrittenList)
+}
+
+/// Puts values at the end of a list in its place, which is read and written anew.
+fn lappend_anew(alloc: Global, place: &mut Text, values: &[Text]) -> Result<Text, Fault>
+    ensures came { Replies (lappending place.old values.now) result }
+    ensures left { Leaves place.old result place.new }
+{
+    let old = place.copy(alloc)?;
+    let whole = with_elements(alloc, old, values)?;
+    store_at(alloc, place, whole)
+}
+
+/// Puts values at the end of a list in its place.
+fn lappend_at(alloc: Global, place: &mut Text, values: &[Text]) -> Result<Text, Fault>
+    ensures came { Replies (lappending place.old values.now) result }
+    ensures left { Leaves place.old result place.new }
+{
+    match place.known() {
+        Known::WrittenList => lappend_behind(alloc, place, values),
+        Known::Number(_) | Known::Nothing => lappend_anew(alloc, place, values),
+    }
+}
+
+/// Puts values at the end of the list of a variable whose value isn't changed in its place.
+#[inline(never)]
+fn lappend_apart(
     alloc: Global,
     frames: &mut Frames,
     name: &Text,
@@ -238,6 +281,23 @@ fn lappend_values(
     let old = read_or_empty(alloc, frames, name)?;
     let value = with_elements(alloc, old, values)?;
     store(alloc, frames, name, value)
+}
+
+/// Puts values at the end of a variable's list.
+fn lappend_values(
+    alloc: Global,
+    frames: &mut Frames,
+    name: &Text,
+    values: &[Text],
+) -> Result<Text, Fault>
+    ensures came { Answers (lappend_to frames.old name.now values.now) result frames.new }
+    ensures kept { IfNoMemory result (frames.new ≡ frames.old) }
+    ensures depth { length frames.new.above ≡ length frames.old.above }
+{
+    match frames.scalar_mut(name) {
+        Some(place) => lappend_at(alloc, place, values),
+        None => lappend_apart(alloc, frames, name, values),
+    }
 }
 
 /// `lappend name value*`.

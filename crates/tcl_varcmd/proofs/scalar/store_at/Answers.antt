@@ -1,4 +1,4 @@
-use Rattle.std.proofs.Common.{◌∙◌, refl, sym, Some, Ok}
+use Rattle.std.proofs.Common.{◌∙◌, sym, Some, Ok}
 use Rattle.txt_core.specs.ErrorTexts.{too_long}
 use Rattle.tcl_varcmd.specs.Errors.{long_error}
 use Rattle.tcl_varcmd.proofs.Exits.{said}
@@ -13,5 +13,5 @@ returns-then-is_too_long-clause-came c =
 
 pub returns-clause-came : goal.returns-clause-came
 returns-clause-came c =
-    reply_on (long_error c.args.value) (Ok c.args.value) (Ok c.args.value)
-    (is_short c.args.value (sym c.is_too_long.ensures ∙ c.if-is_too_long.false)) refl
+    reply_on (long_error c.args.value) (Ok c.args.value) (Ok c.share.new.self)
+    (is_short c.args.value (sym c.is_too_long.ensures ∙ c.if-is_too_long.false)) c.share.ensures.kept
