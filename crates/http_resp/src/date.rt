@@ -14,3 +14,40 @@ pub fn fixdate(moment: u64) -> [u8; 29]
         .unwrap()
         .to_bytes()
 }
+
+/// A moment, with its date as a Date field shows it.
+#[derive(Drop)]
+pub(crate) struct Dated {
+    pub(crate) moment: u64,
+    pub(crate) text: [u8; 29],
+    ghost shown: { text ≡ fixdate moment },
+}
+
+impl Dated {
+    /// This moment, with its date.
+    pub(crate) fn at(moment: u64) -> Dated
+        ensures { result.moment ≡ moment }
+    {
+        Dated {
+            moment,
+            text: fixdate(moment),
+        }
+    }
+
+    /// Makes it this moment. The date isn't made anew where it was this moment before.
+    pub(crate) fn turn(&mut self, moment: u64)
+        ensures { self.new.moment ≡ moment }
+    {
+        if self.moment == moment {
+            return;
+        }
+        *self = Dated::at(moment);
+    }
+
+    /// The date.
+    pub(crate) fn bytes(&self) -> &[u8; 29]
+        ensures { result.now ≡ fixdate self.now.moment }
+    {
+        &self.text
+    }
+}

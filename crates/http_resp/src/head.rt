@@ -2,12 +2,13 @@
 
 ghost use Rattle.std.specs.Prelude.{◌≡◌, ◌++◌, IfOk, OnOk, MatchOption, codes};
 ghost use Rattle.http_resp.specs.OutputFields.{field_line, field_lines};
-ghost use Rattle.http_resp.specs.ResponseBytes.{response_bytes, head_bytes, content_fields, connection_field, server_name, has_content};
+ghost use Rattle.http_resp.specs.ResponseBytes.{response_bytes, head_bytes, first_lines, content_fields, last_lines, server_name, has_content};
 ghost use Rattle.http_resp.specs.StatusLine.{reason, status_text, status_line};
 
-use crate::date::fixdate;
+use crate::date::Dated;
 use crate::fields::{push_line, push_output_fields};
 use crate::response::Response;
+use crate::status::OK;
 use itoa::Buffer;
 use std::alloc::{AllocError, Global};
 use txt_core::{NoMemory, Text};
@@ -21,6 +22,17 @@ const NOT_MODIFIED: u16 = 304;
 /// A head's room for its status line and the fields that the server writes itself. More is taken where
 /// it is missing.
 const HEAD_ROOM: usize = 256;
+
+/// What stands before the output fields of a response of status 200, but for its date.
+const OK_START: [u8; 83] = *b"HTTP/1.1 200 OK\r\n\
+    Date: Thu, 01 Jan 1970 00:00:00 GMT\r\n\
+    Server: AOLserver-profile/1\r\n";
+
+/// Where the date begins in it.
+const DATE_START: usize = 23;
+
+/// Where it ends.
+const DATE_END: usize = 52;
 
 /// The code and the reason phrase of a status that has a phrase of its own.
 #[tactic(auto, unfolding(crate::specs::StatusLine::reason))]
@@ -85,33 +97,54 @@ fn has_content(status: u16) -> bool
     status != NO_CONTENT && status != NOT_MODIFIED
 }
 
-/// Appends the fields that say what the content is, where there may be any.
-fn push_content_fields(text: &mut Vec<u8>, response: &Response) -> Result<(), AllocError>
-    ensures { OnOk result
-        (text.new.items ≡ text.old.items ++ field_lines (content_fields response.now)) }
-{
-    if !has_content(response.status) {
-        return Ok(());
-    }
-    push_line(text, b"Content-Type: ", response.kind.bytes())?;
-    let mut digits = Buffer::new();
-    push_line(
-        text,
-        b"Content-Length: ",
-        digits.format(response.body.len()).as_bytes(),
-    )?;
-    Ok(())
-}
-
-/// The field that says whether the connection stays open.
+/// The last lines of a head: the field that says whether the connection stays open, and the empty
+/// line.
 #[tactic(auto, unfolding(crate::specs::OutputFields::field_line))]
-fn connection_line(close: bool) -> &'static [u8]
-    ensures { result.now ≡ field_line (connection_field close).0 (connection_field close).1 }
+fn last_lines(close: bool) -> &'static [u8]
+    ensures { result.now ≡ last_lines close }
 {
     if close {
-        return b"Connection: close\r\n";
+        return b"Connection: close\r\n\r\n";
     }
-    b"Connection: keep-alive\r\n"
+    b"Connection: keep-alive\r\n\r\n"
+}
+
+/// The end of a head behind the digits of its Content-Length field: the end of that line, and the last
+/// lines.
+#[tactic(auto, unfolding(crate::specs::OutputFields::field_line))]
+fn behind_length(close: bool) -> &'static [u8]
+    ensures { result.now ≡ codes "\r\n" ++ last_lines close }
+{
+    if close {
+        return b"\r\nConnection: close\r\n\r\n";
+    }
+    b"\r\nConnection: keep-alive\r\n\r\n"
+}
+
+/// Appends the last lines.
+fn push_last_lines(text: &mut Vec<u8>, close: bool) -> Result<(), AllocError>
+    ensures { OnOk result (text.new.items ≡ text.old.items ++ last_lines close) }
+{
+    text.extend_from_slice(last_lines(close))
+}
+
+/// Appends what stands behind the output fields: the fields that say what the content is, where there
+/// may be any, and the last lines.
+fn push_end(text: &mut Vec<u8>, response: &Response, close: bool) -> Result<(), AllocError>
+    ensures { OnOk result
+        (text.new.items
+        ≡ text.old.items ++ (field_lines (content_fields response.now) ++ last_lines close)) }
+{
+    if !has_content(response.status) {
+        return push_last_lines(text, close);
+    }
+    text.extend_from_slice(b"Content-Type: ")?;
+    text.extend_from_slice(response.kind.bytes())?;
+    text.extend_from_slice(b"\r\nContent-Length: ")?;
+    let mut digits = Buffer::new();
+    text.extend_from_slice(digits.format(response.body.len()).as_bytes())?;
+    text.extend_from_slice(behind_length(close))?;
+    Ok(())
 }
 
 /// Appends the field that names the server.
@@ -123,20 +156,79 @@ fn push_server_field(text: &mut Vec<u8>) -> Result<(), AllocError>
     text.extend_from_slice(b"Server: AOLserver-profile/1\r\n")
 }
 
-/// The head of a response, with its empty line. There is room behind it for the body.
-fn head(alloc: Global, response: &Response, moment: u64, close: bool) -> Result<Vec<u8>, NoMemory>
-    ensures { IfOk result (λ text. text.items ≡ head_bytes response.now moment close) }
+/// Appends what stands before the output fields of a response of any status.
+#[inline(never)]
+fn push_any_start(text: &mut Vec<u8>, status: u16, date: &Dated) -> Result<(), AllocError>
+    ensures { OnOk result (text.new.items ≡ text.old.items ++ first_lines status date.now.moment) }
 {
-    let room = HEAD_ROOM.saturating_add(response.body.len());
-    let mut text = Vec::with_capacity(alloc, room)?;
-    push_status_line(&mut text, response.status)?;
-    push_line(&mut text, b"Date: ", &fixdate(moment))?;
-    push_server_field(&mut text)?;
-    push_output_fields(alloc, &mut text, &response.fields)?;
-    push_content_fields(&mut text, response)?;
-    text.extend_from_slice(connection_line(close))?;
-    text.extend_from_slice(b"\r\n")?;
-    Ok(text)
+    push_status_line(text, status)?;
+    push_line(text, b"Date: ", date.bytes())?;
+    push_server_field(text)?;
+    Ok(())
+}
+
+/// Appends what stands before the output fields of a response of status 200, in one piece.
+fn push_ok_start(text: &mut Vec<u8>, date: &Dated) -> Result<(), AllocError>
+    ensures { OnOk result (text.new.items ≡ text.old.items ++ first_lines 200 date.now.moment) }
+{
+    let mut start = OK_START;
+    start[DATE_START..DATE_END].copy_from_slice(date.bytes());
+    text.extend_from_slice(&start)?;
+    Ok(())
+}
+
+/// Appends what stands before the output fields: the status line, and the fields that say when and by
+/// whom it was made.
+fn push_start(text: &mut Vec<u8>, status: u16, date: &Dated) -> Result<(), AllocError>
+    ensures { OnOk result (text.new.items ≡ text.old.items ++ first_lines status date.now.moment) }
+{
+    if status == OK {
+        return push_ok_start(text, date);
+    }
+    push_any_start(text, status, date)
+}
+
+/// Appends the head of a response, with its empty line.
+fn push_head(
+    alloc: Global,
+    text: &mut Vec<u8>,
+    response: &Response,
+    date: &Dated,
+    close: bool,
+) -> Result<(), NoMemory>
+    ensures { OnOk result
+        (text.new.items ≡ text.old.items ++ head_bytes response.now date.now.moment close) }
+{
+    push_start(text, response.status, date)?;
+    push_output_fields(alloc, text, &response.fields)?;
+    push_end(text, response, close)?;
+    Ok(())
+}
+
+/// How much room the bytes of a response mostly take. More is taken where it is missing.
+pub(crate) fn room_for(response: &Response) -> usize {
+    HEAD_ROOM.saturating_add(response.body.len())
+}
+
+/// Appends the bytes of a response, as `response_bytes` tells them. Its only error is want of memory.
+pub(crate) fn push_response(
+    alloc: Global,
+    text: &mut Vec<u8>,
+    response: &Response,
+    date: &Dated,
+    head_only: bool,
+    close: bool,
+) -> Result<(), NoMemory>
+    ensures { OnOk result
+        (text.new.items
+        ≡ text.old.items ++ response_bytes response.now date.now.moment head_only close) }
+{
+    push_head(alloc, text, response, date, close)?;
+    if head_only || !has_content(response.status) {
+        return Ok(());
+    }
+    text.extend_from_slice(response.body.bytes())?;
+    Ok(())
 }
 
 /// The bytes of a response: its head, and its body unless the request asks for the head alone
@@ -154,10 +246,8 @@ pub fn response_bytes(
 ) -> Result<Text, NoMemory>
     ensures { IfOk result (λ text. text ≡ response_bytes response.now moment head_only close) }
 {
-    let mut text = head(alloc, response, moment, close)?;
-    if head_only || !has_content(response.status) {
-        return Ok(Text::from_vec(text));
-    }
-    text.extend_from_slice(response.body.bytes())?;
-    Ok(Text::from_vec(text))
+    let mut bytes = Vec::with_capacity(alloc, room_for(response))?;
+    let date = Dated::at(moment);
+    push_response(alloc, &mut bytes, response, &date, head_only, close)?;
+    Ok(Text::from_vec(bytes))
 }

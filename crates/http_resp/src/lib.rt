@@ -14,7 +14,7 @@ mod response;
 pub mod status;
 
 pub use date::fixdate;
-pub use delivery::{Wrote, write_response};
+pub use delivery::{Writer, Wrote, write_response};
 pub use head::response_bytes;
 pub use lines::head_is_in_lines;
 pub use outside::Sent;
