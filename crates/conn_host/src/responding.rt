@@ -1,6 +1,6 @@
 //! The commands that give the response.
 
-ghost use Rattle.std.specs.Prelude.{◌≡◌, ◌∷◌, IfOk, codes, is_some};
+ghost use Rattle.std.specs.Prelude.{◌≡◌, ◌<◌, ◌∷◌, IfOk, codes, is_some, length};
 ghost use Rattle.std.specs.List.{list_all, list_any};
 ghost use Rattle.txt_core.specs.ErrorTexts.{no_connection};
 ghost use Rattle.natives.specs.Words.{arg};
@@ -13,6 +13,7 @@ use crate::checks::{integer, require_count};
 use crate::host::ConnHost;
 use http_resp::status::{FOUND, NOT_FOUND};
 use http_resp::{Response, plain};
+use natives::word_at;
 use std::alloc::Global;
 use tcl_host::{Refusal, refuse, require_fit};
 use txt_core::{NoMemory, Pairs, Text, Words, error_text};
@@ -99,14 +100,15 @@ fn respond(host: &mut ConnHost, response: Response) -> Result<Text, Refusal>
 
 /// The response of this status with the type and the body that the words say.
 fn typed(host: &ConnHost, status: u16, words: &Words) -> Result<Response, NoMemory>
+    requires { 3 < length words.now }
     ensures { IfOk result (λ response.
         response ≡ typed status (arg words.now 2) words.now host.now) }
 {
     Ok(Response {
         status,
         fields: host.output_fields()?,
-        kind: Text::new(host.alloc, words.bytes_at(2))?,
-        body: Text::new(host.alloc, words.bytes_at(3))?,
+        kind: word_at(words, 2).copy(host.alloc)?,
+        body: word_at(words, 3).copy(host.alloc)?,
     })
 }
 
