@@ -3,6 +3,8 @@
 ghost use Rattle.std.specs.Prelude.{◌≡◌};
 ghost use Rattle.conn_host.specs.RequestCommands.{conn_verb_of, conn_takes};
 
+use crate::name::is_name;
+
 /// A subcommand of `ns_conn`.
 #[derive(Clone, Copy, Debug, PartialEq, Eq)]
 pub enum ConnVerb {
@@ -27,35 +29,35 @@ pub enum ConnVerb {
 pub fn find_conn_verb(name: &[u8]) -> Option<ConnVerb>
     ensures { result ≡ conn_verb_of name.now }
 {
-    if name == b"method".as_slice() {
+    if is_name(name, b"method") {
         Some(ConnVerb::Method)
-    } else if name == b"url".as_slice() {
+    } else if is_name(name, b"url") {
         Some(ConnVerb::Url)
-    } else if name == b"query".as_slice() {
+    } else if is_name(name, b"query") {
         Some(ConnVerb::Query)
-    } else if name == b"content".as_slice() {
+    } else if is_name(name, b"content") {
         Some(ConnVerb::Content)
-    } else if name == b"peeraddr".as_slice() {
+    } else if is_name(name, b"peeraddr") {
         Some(ConnVerb::Peeraddr)
-    } else if name == b"headers".as_slice() {
+    } else if is_name(name, b"headers") {
         Some(ConnVerb::Headers)
-    } else if name == b"outputheaders".as_slice() {
+    } else if is_name(name, b"outputheaders") {
         Some(ConnVerb::Outputheaders)
-    } else if name == b"form".as_slice() {
+    } else if is_name(name, b"form") {
         Some(ConnVerb::Form)
-    } else if name == b"contentlength".as_slice() {
+    } else if is_name(name, b"contentlength") {
         Some(ConnVerb::Contentlength)
-    } else if name == b"urlv".as_slice() {
+    } else if is_name(name, b"urlv") {
         Some(ConnVerb::Urlv)
-    } else if name == b"urlc".as_slice() {
+    } else if is_name(name, b"urlc") {
         Some(ConnVerb::Urlc)
-    } else if name == b"version".as_slice() {
+    } else if is_name(name, b"version") {
         Some(ConnVerb::Version)
-    } else if name == b"request".as_slice() {
+    } else if is_name(name, b"request") {
         Some(ConnVerb::Request)
-    } else if name == b"authuser".as_slice() {
+    } else if is_name(name, b"authuser") {
         Some(ConnVerb::Authuser)
-    } else if name == b"authpassword".as_slice() {
+    } else if is_name(name, b"authpassword") {
         Some(ConnVerb::Authpassword)
     } else {
         None

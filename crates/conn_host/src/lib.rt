@@ -12,6 +12,7 @@ mod error;
 mod form;
 mod host;
 mod id;
+mod name;
 mod requested;
 mod responding;
 mod set_field;
@@ -21,4 +22,5 @@ mod verb;
 
 pub use authorization::{Credentials, credentials_of};
 pub use host::ConnHost;
+pub use name::is_name;
 pub use requested::path;

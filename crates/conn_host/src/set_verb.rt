@@ -3,6 +3,8 @@
 ghost use Rattle.std.specs.Prelude.{◌≡◌};
 ghost use Rattle.conn_host.specs.SetCommands.{place_verb_of, set_verb_of, set_takes};
 
+use crate::name::is_name;
+
 /// A subcommand of `ns_set`.
 #[derive(Clone, Copy, Debug, PartialEq, Eq)]
 pub enum SetVerb {
@@ -32,25 +34,25 @@ pub enum SetVerb {
 fn find_place_verb(name: &[u8]) -> Option<SetVerb>
     ensures { result ≡ place_verb_of name.now }
 {
-    if name == b"create".as_slice() {
+    if is_name(name, b"create") {
         Some(SetVerb::Create)
-    } else if name == b"delete".as_slice() {
+    } else if is_name(name, b"delete") {
         Some(SetVerb::Delete)
-    } else if name == b"truncate".as_slice() {
+    } else if is_name(name, b"truncate") {
         Some(SetVerb::Truncate)
-    } else if name == b"merge".as_slice() {
+    } else if is_name(name, b"merge") {
         Some(SetVerb::Merge)
-    } else if name == b"copy".as_slice() {
+    } else if is_name(name, b"copy") {
         Some(SetVerb::Copy)
-    } else if name == b"free".as_slice() {
+    } else if is_name(name, b"free") {
         Some(SetVerb::Free)
-    } else if name == b"size".as_slice() {
+    } else if is_name(name, b"size") {
         Some(SetVerb::Size)
-    } else if name == b"name".as_slice() {
+    } else if is_name(name, b"name") {
         Some(SetVerb::Name)
-    } else if name == b"key".as_slice() {
+    } else if is_name(name, b"key") {
         Some(SetVerb::Key)
-    } else if name == b"value".as_slice() {
+    } else if is_name(name, b"value") {
         Some(SetVerb::Value)
     } else {
         None
@@ -62,25 +64,25 @@ fn find_place_verb(name: &[u8]) -> Option<SetVerb>
 pub fn find_set_verb(name: &[u8]) -> Option<SetVerb>
     ensures { result ≡ set_verb_of name.now }
 {
-    if name == b"put".as_slice() {
+    if is_name(name, b"put") {
         Some(SetVerb::Put)
-    } else if name == b"get".as_slice() {
+    } else if is_name(name, b"get") {
         Some(SetVerb::Get)
-    } else if name == b"iget".as_slice() {
+    } else if is_name(name, b"iget") {
         Some(SetVerb::Iget)
-    } else if name == b"find".as_slice() {
+    } else if is_name(name, b"find") {
         Some(SetVerb::Find)
-    } else if name == b"ifind".as_slice() {
+    } else if is_name(name, b"ifind") {
         Some(SetVerb::Ifind)
-    } else if name == b"cput".as_slice() {
+    } else if is_name(name, b"cput") {
         Some(SetVerb::Cput)
-    } else if name == b"icput".as_slice() {
+    } else if is_name(name, b"icput") {
         Some(SetVerb::Icput)
-    } else if name == b"update".as_slice() {
+    } else if is_name(name, b"update") {
         Some(SetVerb::Update)
-    } else if name == b"delkey".as_slice() {
+    } else if is_name(name, b"delkey") {
         Some(SetVerb::Delkey)
-    } else if name == b"idelkey".as_slice() {
+    } else if is_name(name, b"idelkey") {
         Some(SetVerb::Idelkey)
     } else {
         find_place_verb(name)

@@ -3,6 +3,8 @@
 ghost use Rattle.std.specs.Prelude.{◌≡◌};
 ghost use Rattle.conn_host.specs.Leaf.{verb_of};
 
+use crate::name::is_name;
+
 /// A command of a connection's host.
 #[derive(Clone, Copy, Debug, PartialEq, Eq)]
 pub enum Verb {
@@ -27,35 +29,35 @@ pub enum Verb {
 pub fn find_verb(name: &[u8]) -> Option<Verb>
     ensures { result ≡ verb_of name.now }
 {
-    if name == b"ns_set".as_slice() {
+    if is_name(name, b"ns_set") {
         Some(Verb::NsSet)
-    } else if name == b"open".as_slice() {
+    } else if is_name(name, b"open") {
         Some(Verb::Open)
-    } else if name == b"gets".as_slice() {
+    } else if is_name(name, b"gets") {
         Some(Verb::Gets)
-    } else if name == b"read".as_slice() {
+    } else if is_name(name, b"read") {
         Some(Verb::Read)
-    } else if name == b"eof".as_slice() {
+    } else if is_name(name, b"eof") {
         Some(Verb::Eof)
-    } else if name == b"close".as_slice() {
+    } else if is_name(name, b"close") {
         Some(Verb::Close)
-    } else if name == b"ns_conn".as_slice() {
+    } else if is_name(name, b"ns_conn") {
         Some(Verb::NsConn)
-    } else if name == b"ns_queryget".as_slice() {
+    } else if is_name(name, b"ns_queryget") {
         Some(Verb::NsQueryget)
-    } else if name == b"ns_return".as_slice() {
+    } else if is_name(name, b"ns_return") {
         Some(Verb::NsReturn)
-    } else if name == b"ns_returnredirect".as_slice() {
+    } else if is_name(name, b"ns_returnredirect") {
         Some(Verb::NsReturnredirect)
-    } else if name == b"ns_returnnotfound".as_slice() {
+    } else if is_name(name, b"ns_returnnotfound") {
         Some(Verb::NsReturnnotfound)
-    } else if name == b"ns_urlencode".as_slice() {
+    } else if is_name(name, b"ns_urlencode") {
         Some(Verb::NsUrlencode)
-    } else if name == b"ns_urldecode".as_slice() {
+    } else if is_name(name, b"ns_urldecode") {
         Some(Verb::NsUrldecode)
-    } else if name == b"ns_time".as_slice() {
+    } else if is_name(name, b"ns_time") {
         Some(Verb::NsTime)
-    } else if name == b"ns_httptime".as_slice() {
+    } else if is_name(name, b"ns_httptime") {
         Some(Verb::NsHttptime)
     } else {
         None

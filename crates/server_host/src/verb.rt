@@ -3,6 +3,8 @@
 ghost use Rattle.std.specs.Prelude.{◌≡◌};
 ghost use Rattle.server_host.specs.Leaf.{verb_of};
 
+use conn_host::is_name;
+
 /// A command that is neither of the connection nor of pages.
 #[derive(Clone, Copy, Debug, PartialEq, Eq)]
 pub enum Verb {
@@ -21,35 +23,35 @@ pub enum Verb {
 pub fn find_verb(name: &[u8]) -> Option<Verb>
     ensures { result ≡ verb_of name.now }
 {
-    if name == b"ns_register_proc".as_slice() {
+    if is_name(name, b"ns_register_proc") {
         Some(Verb::RegisterProc)
-    } else if name == b"ns_register_filter".as_slice() {
+    } else if is_name(name, b"ns_register_filter") {
         Some(Verb::RegisterFilter)
-    } else if name == b"ns_ictl".as_slice() {
+    } else if is_name(name, b"ns_ictl") {
         Some(Verb::NsIctl)
-    } else if name == b"ns_eval".as_slice() {
+    } else if is_name(name, b"ns_eval") {
         Some(Verb::NsEval)
-    } else if name == b"ns_schedule_proc".as_slice() {
+    } else if is_name(name, b"ns_schedule_proc") {
         Some(Verb::ScheduleProc)
-    } else if name == b"ns_unschedule_proc".as_slice() {
+    } else if is_name(name, b"ns_unschedule_proc") {
         Some(Verb::UnscheduleProc)
-    } else if name == b"nsv_names".as_slice() {
+    } else if is_name(name, b"nsv_names") {
         Some(Verb::NsvNames)
-    } else if name == b"nsv_set".as_slice() {
+    } else if is_name(name, b"nsv_set") {
         Some(Verb::Nsv)
-    } else if name == b"nsv_get".as_slice() {
+    } else if is_name(name, b"nsv_get") {
         Some(Verb::Nsv)
-    } else if name == b"nsv_exists".as_slice() {
+    } else if is_name(name, b"nsv_exists") {
         Some(Verb::Nsv)
-    } else if name == b"nsv_incr".as_slice() {
+    } else if is_name(name, b"nsv_incr") {
         Some(Verb::Nsv)
-    } else if name == b"nsv_append".as_slice() {
+    } else if is_name(name, b"nsv_append") {
         Some(Verb::Nsv)
-    } else if name == b"nsv_lappend".as_slice() {
+    } else if is_name(name, b"nsv_lappend") {
         Some(Verb::Nsv)
-    } else if name == b"nsv_unset".as_slice() {
+    } else if is_name(name, b"nsv_unset") {
         Some(Verb::Nsv)
-    } else if name == b"nsv_array".as_slice() {
+    } else if is_name(name, b"nsv_array") {
         Some(Verb::Nsv)
     } else {
         None
