@@ -168,7 +168,7 @@ fn pairs(alloc: Global, bytes: &[u8], spans: &[HeaderSpan]) -> Result<Pairs, NoM
     requires { All (IsHeaderWithin (length bytes.now)) spans.now }
     ensures { IfOk result (λ pairs. pairs ≡ map (header_bytes bytes.now) spans.now) }
 {
-    let mut pairs = Pairs::new(alloc);
+    let mut pairs = Pairs::from_vec(Vec::with_capacity(alloc, spans.len())?);
     for span in spans {
         pairs.add(pair(alloc, bytes, span)?)?;
     }
