@@ -14,6 +14,7 @@ use ns_sets::{SetFault, Sets};
 use outside::Answer;
 use std::alloc::Global;
 use std::marker::Model;
+use std::mem;
 use tcl_host::{HostReply, reply_of};
 use txt_core::{NoMemory, Pairs, Text, Words};
 
@@ -32,6 +33,8 @@ pub struct ConnHost {
     pub(crate) alloc: Global,
     pub(crate) request: Option<Request>,
     pub(crate) sets: Sets,
+    /// Room for the sets of the next run, which is kept from the run before the last.
+    spare: Sets,
     pub(crate) channels: Chans,
     pub(crate) response: Option<Response>,
     pub(crate) moment: u64,
@@ -79,17 +82,17 @@ fn add_freed(alloc: Global, sets: &mut Sets) -> Result<(), NoMemory>
     Ok(())
 }
 
-/// The sets with which a run on a request begins.
-fn sets_of(alloc: Global, request: &Request) -> Result<Sets, NoMemory>
-    ensures { IfOk result (λ sets.
-        sets
+/// Makes the sets those with which a run on a request begins.
+fn fill(alloc: Global, sets: &mut Sets, request: &Request) -> Result<(), NoMemory>
+    ensures { OnOk result
+        (sets.new
         ≡ unnamed request.now.fields ∷ unnamed [] ∷ unnamed (form_of request.now) ∷ []) }
 {
-    let mut sets = Sets::new(alloc);
-    add_set(alloc, &mut sets, &request.fields)?;
+    sets.clear();
+    add_set(alloc, sets, &request.fields)?;
     sets.create(Text::empty(alloc))?;
-    add_set(alloc, &mut sets, &form_of(alloc, request)?)?;
-    Ok(sets)
+    add_set(alloc, sets, &form_of(alloc, request)?)?;
+    Ok(())
 }
 
 /// Puts copies of the fields of a set at the end of a list; none where no such set stands.
@@ -117,11 +120,13 @@ impl ConnHost {
     pub fn new(alloc: Global, request: Request, moment: u64) -> Result<ConnHost, NoMemory>
         ensures { IfOk result (λ host. host ≡ serving request moment) }
     {
-        let sets = sets_of(alloc, &request)?;
+        let mut sets = Sets::new(alloc);
+        fill(alloc, &mut sets, &request)?;
         Ok(ConnHost {
             alloc,
             request: Some(request),
             sets,
+            spare: Sets::new(alloc),
             channels: Chans::new(alloc),
             response: None,
             moment,
@@ -134,9 +139,11 @@ impl ConnHost {
         ensures ok { OnOk result (self.new ≡ serving request moment) }
         ensures err { OnErr result (self.new ≡ self.old) }
     {
-        let sets = sets_of(self.alloc, &request)?;
+        let mut sets = mem::replace(&mut self.spare, Sets::new(self.alloc));
+        fill(self.alloc, &mut sets, &request)?;
         self.request = Some(request);
-        self.sets = sets;
+        self.spare = mem::replace(&mut self.sets, sets);
+        self.spare.clear();
         self.let_go();
         self.moment = moment;
         Ok(())
@@ -155,6 +162,7 @@ impl ConnHost {
             alloc,
             request: None,
             sets,
+            spare: Sets::new(alloc),
             channels: Chans::new(alloc),
             response: None,
             moment,
