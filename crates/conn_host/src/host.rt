@@ -174,7 +174,7 @@ impl ConnHost {
     pub fn call(&mut self, words: &Words) -> HostReply
         ensures { Replies result self.new (conn_call words.now self.old) }
     {
-        reply_of(dispatch(self, words))
+        dispatch(self, words)
     }
 
     /// Goes on with an `open` whose question was answered. `NotMine` comes exactly where the first word
