@@ -9,7 +9,7 @@ ghost use Rattle.http_req.specs.Fetching.{Moves};
 ghost use Rattle.http_req.specs.Fronts.{HeadStands};
 ghost use Rattle.http_req.specs.Heads.{front};
 ghost use Rattle.http_req.specs.Outcomes.{Gets, ended};
-ghost use Rattle.http_req.specs.Readings.{left_of, Answers, Consumes, OnReadFault, Passes, Fails, Stops, Received};
+ghost use Rattle.http_req.specs.Readings.{left_of, Answers, Consumes, OnReadFault, Stops, Received};
 ghost use Rattle.http_req.specs.Requests.{shown};
 
 use crate::body::{cut_off, read_body};
@@ -75,32 +75,31 @@ fn receive_with<S: Source>(
         (S.rest source.new) (S.faults source.new) }
 {
     let head = read_head(source, carry, spans)?;
-    let request = check(alloc, carry.bytes(), &head, spans, peer)?;
-    read_body(alloc, source, carry, request, head.len)
+    read_headed(alloc, source, carry, &head, spans, peer)
 }
 
-/// The request that a head at the front of the input shows, without its body, if it passes the checks.
-fn check(
+/// Receives the request whose head stands at the front of the carry, if it passes the checks.
+fn read_headed<S: Source>(
     alloc: Global,
-    input: &[u8],
+    source: &mut S,
+    carry: &mut Carry,
     head: &RequestSpans,
     spans: &[HeaderSpan],
     peer: &Text,
 ) -> Result<Request, Got>
-    requires { HeadStands (front input.now) spans.now head.now }
-    ensures passes { IfOk result (λ request. Passes input.now peer.now head.now.len request) }
-    ensures fails { IfErr result (λ answer. Fails input.now peer.now answer) }
+    requires { HeadStands (front carry.old) spans.now head.now }
+    ensures { Received carry.old (S.rest source.old) (S.faults source.old) peer.now result carry.new
+        (S.rest source.new) (S.faults source.new) }
 {
     if head.headers > FIELD_LIMIT {
         return Err(Got::Refused {
             status: FIELDS_TOO_LARGE,
         });
     }
-    let front = &input[..input.len().min(HEAD_LIMIT)];
-    let request = show(alloc, front, head, spans, peer)?;
+    let request = show_front(alloc, carry.bytes(), head, spans, peer)?;
     match refusal(&request) {
         Some(status) => Err(Got::Refused { status }),
-        None => Ok(request),
+        None => read_body(alloc, source, carry, request, head.len),
     }
 }
 
@@ -135,6 +134,23 @@ fn read_head<S: Source>(
             Err(stop) => return Err(cut_off(carry, stop)),
         }
     }
+}
+
+/// The request that a head at the front of an input shows, without its body.
+fn show_front(
+    alloc: Global,
+    input: &[u8],
+    head: &RequestSpans,
+    spans: &[HeaderSpan],
+    peer: &Text,
+) -> Result<Request, NoMemory>
+    requires { HeadStands (front input.now) spans.now head.now }
+    ensures { IfOk result (λ request.
+        (tree : RequestHead) → IsRequestAt (front input.now) spans.now head.now tree
+        → request ≡ shown tree [] peer.now) }
+{
+    let front = &input[..input.len().min(HEAD_LIMIT)];
+    show(alloc, front, head, spans, peer)
 }
 
 /// The request that a head shows, without its body.

@@ -1,7 +1,7 @@
 use Rattle.std.proofs.Common.{sym, subst}
 use Rattle.std.proofs.lemmas.Result.{err_from_is_err_and}
-use Rattle.http_req.specs.Readings.{Stops, Fails}
-use Rattle.http_req.proofs.Receiving.{received_no_request, received_refusal, received_body}
+use Rattle.http_req.specs.Readings.{Stops}
+use Rattle.http_req.proofs.Receiving.{received_no_request, received_then}
 use Rattle.http_req.proofs.reading.receive_with.Goals as goal
 
 pub returns-in_err-head : goal.returns-in_err-head
@@ -11,12 +11,5 @@ returns-in_err-head g c =
     (subst (λ answer. Stops c.read_head.new.carry c.args.peer.now (g.S.Source.rest c.args.source.now) (g.S.Source.faults c.args.source.now) (g.S.Source.rest c.read_head.new.source) (g.S.Source.faults c.read_head.new.source) answer)
     (sym p.2) (c.in_err-head.ensures.stops c.args.peer.now)))
 
-pub returns-in_err-request : goal.returns-in_err-request
-returns-in_err-request g c =
-    let p = err_from_is_err_and c.from_residual-in_err-request.result c.from_residual-in_err-request.ensures.1 in
-    rw p.1 (received_refusal _ _ _ _ _ _ c.bytes.result.now c.args.peer.now p.0 c.read_head.ensures.moves c.bytes.ensures
-    (subst (λ answer. Fails c.bytes.result.now c.args.peer.now answer) (sym p.2) c.in_err-request.ensures.fails))
-
 pub returns : goal.returns
-returns g c =
-    received_body _ _ _ _ _ _ c.bytes.result.now c.args.peer.now c.in_ok-head.head.len c.in_ok-request.request _ _ _ _ c.read_head.ensures.moves c.in_ok-request.ensures.passes c.read_body.ensures
+returns g c = received_then _ _ _ _ _ _ _ _ _ _ _ c.read_head.ensures.moves c.read_headed.ensures

@@ -1,0 +1,36 @@
+use Rattle.std.proofs.Common.{ℕ, List, refl, sym, ◌∙◌, subst, arith}
+use Rattle.http_req.specs.Fronts.{HeadStands}
+use Rattle.http_req.specs.Heads.{front}
+use Rattle.http_req.specs.Readings.{Passes}
+use Rattle.http_req.proofs.Fetches.{moves_none}
+use Rattle.http_req.proofs.Receiving.{crowded, few_shown, passes_head, passes_own_peer, fails_head, received_refusal, received_body}
+use Rattle.http_req.proofs.reading.read_headed.Goals as goal
+
+pub returns-then-head-gt-FIELD_LIMIT : goal.returns-then-head-gt-FIELD_LIMIT
+returns-then-head-gt-FIELD_LIMIT g c =
+    received_refusal _ _ _ _ _ _ c.args.carry.now c.args.peer.now _ (moves_none _ _ _) refl
+    (crowded c.args.carry.now c.args.spans.now c.args.head.now c.requires c.if-head-gt-FIELD_LIMIT.true c.args.peer.now)
+
+pub refusal-requires : goal.refusal-requires
+refusal-requires g c =
+    let stands : HeadStands (front c.bytes.result.now) c.args.spans.now c.args.head.now = subst (λ (input : List ℕ). HeadStands (front input) c.args.spans.now c.args.head.now) (sym c.bytes.ensures) c.requires in
+    record { few = few_shown c.bytes.result.now c.args.spans.now c.args.head.now c.args.peer.now c.in_ok-request.request stands c.in_ok-request.ensures (omega (arith, c.if-head-gt-FIELD_LIMIT.false)) }
+
+pub returns-in-Some : goal.returns-in-Some
+returns-in-Some g c =
+    let stands : HeadStands (front c.bytes.result.now) c.args.spans.now c.args.head.now = subst (λ (input : List ℕ). HeadStands (front input) c.args.spans.now c.args.head.now) (sym c.bytes.ensures) c.requires in
+    received_refusal _ _ _ _ _ _ c.bytes.result.now c.args.peer.now _ (moves_none _ _ _) c.bytes.ensures
+    (fails_head c.bytes.result.now c.args.spans.now c.args.head.now c.args.peer.now c.in_ok-request.request c.in-Some.status stands c.in_ok-request.ensures (sym c.in-Some.is ∙ c.refusal.ensures))
+
+pub read_body-requires : goal.read_body-requires
+read_body-requires g c =
+    let stands : HeadStands (front c.bytes.result.now) c.args.spans.now c.args.head.now = subst (λ (input : List ℕ). HeadStands (front input) c.args.spans.now c.args.head.now) (sym c.bytes.ensures) c.requires in
+    let passes = passes_head c.bytes.result.now c.args.spans.now c.args.head.now c.args.peer.now c.in_ok-request.request stands c.in_ok-request.ensures (sym c.in-None.is ∙ c.refusal.ensures) in
+    subst (λ (input : List ℕ). Passes input c.in_ok-request.request.peer c.args.head.now.len c.in_ok-request.request) c.bytes.ensures
+    (passes_own_peer c.bytes.result.now c.args.peer.now c.args.head.now.len c.in_ok-request.request passes)
+
+pub returns-in-None : goal.returns-in-None
+returns-in-None g c =
+    let stands : HeadStands (front c.bytes.result.now) c.args.spans.now c.args.head.now = subst (λ (input : List ℕ). HeadStands (front input) c.args.spans.now c.args.head.now) (sym c.bytes.ensures) c.requires in
+    let passes = passes_head c.bytes.result.now c.args.spans.now c.args.head.now c.args.peer.now c.in_ok-request.request stands c.in_ok-request.ensures (sym c.in-None.is ∙ c.refusal.ensures) in
+    received_body _ _ _ _ _ _ c.bytes.result.now c.args.peer.now c.args.head.now.len c.in_ok-request.request _ _ _ _ (moves_none _ _ _) passes c.read_body.ensures
