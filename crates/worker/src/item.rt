@@ -33,7 +33,7 @@ use crate::served::{End, Served, ServedList};
 use crate::worker::Worker;
 use cmd_table::Steps;
 use http_req::Request;
-use http_resp::{Sent, Wrote};
+use http_resp::{Sent, Writer, Wrote};
 use ictl::{BoxedInterp, Next, Run};
 use natives::Natives;
 use outside::{Clock, Gate, Pages, Sink};
@@ -63,6 +63,7 @@ fn begin<L: Ledger>(
 /// at none.
 fn write_next<K: Sink>(
     alloc: Global,
+    writer: &mut Writer,
     run: &Run,
     moment: u64,
     manner: Manner,
@@ -81,7 +82,9 @@ fn write_next<K: Sink>(
     ensures stands { StandsAt run.now.next run.now.interp }
 {
     match run.next() {
-        Next::Write(response) => Some(write(alloc, response, moment, manner, answers, sink)),
+        Next::Write(response) => Some(write(
+            alloc, writer, response, moment, manner, answers, sink,
+        )),
         _ => None,
     }
 }
@@ -96,6 +99,7 @@ fn run_request<R: Wait, K: Sink, P: Pages, L: Ledger>(
     shared: &Shared,
     passes: &mut Passes,
     run: &mut Run,
+    writer: &mut Writer,
     moment: u64,
     manner: Manner,
     heard: &mut Heard,
@@ -122,7 +126,7 @@ fn run_request<R: Wait, K: Sink, P: Pages, L: Ledger>(
     answer_all(
         rt, alloc, natives, shared, passes, pages, run, moment, heard, steps,
     );
-    let Some(wrote) = write_next(alloc, run, moment, manner, &heard.answers, sink) else {
+    let Some(wrote) = write_next(alloc, writer, run, moment, manner, &heard.answers, sink) else {
         return tell_want(moment, sink);
     };
     match wrote {
@@ -200,7 +204,18 @@ fn run_item<R: Wait, K: Sink, P: Pages, C: Clock, L: Ledger>(
     let mut heard = Heard::new(alloc);
     let mut run = begin(interp, natives, request, moment, steps);
     let done = run_request(
-        rt, alloc, natives, shared, passes, &mut run, moment, manner, &mut heard, sink, pages,
+        rt,
+        alloc,
+        natives,
+        shared,
+        passes,
+        &mut run,
+        &mut worker.writer,
+        moment,
+        manner,
+        &mut heard,
+        sink,
+        pages,
         steps,
     );
     let (_, interp) = end_run(run, steps);

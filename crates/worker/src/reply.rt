@@ -11,7 +11,7 @@ ghost use Rattle.worker.specs.Working.{bytes_sent, way_of, end_behind, SendsRepl
 
 use crate::heard::AnswerList;
 use crate::served::{End, ServedOutcome};
-use http_resp::{Response, Sent, Wrote, reply_no_memory, write_response};
+use http_resp::{Response, Sent, Writer, Wrote, reply_no_memory};
 use ictl::Next;
 use outside::Sink;
 use serving::{Behind, after_request, closes, counted};
@@ -82,6 +82,7 @@ pub(crate) fn tell_want<K: Sink>(moment: u64, sink: &mut K) -> Done
 #[tactic(auto, using(crate::proofs::Counted::closes_capped))]
 pub(crate) fn write<K: Sink>(
     alloc: Global,
+    writer: &mut Writer,
     response: &Response,
     moment: u64,
     manner: Manner,
@@ -96,7 +97,7 @@ pub(crate) fn write<K: Sink>(
 {
     let answered = count_all(manner.answered, answers);
     let close = closes(manner.asks, manner.requests, answered);
-    write_response(alloc, response, moment, manner.head_only, close, sink)
+    writer.write(alloc, response, moment, manner.head_only, close, sink)
 }
 
 /// Writes the named reply where no run was begun, and ends the session.

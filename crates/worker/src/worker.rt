@@ -2,19 +2,27 @@
 
 ghost use Rattle.std.specs.Prelude.{◌≡◌, None};
 
+use http_resp::Writer;
 use ictl::BoxedInterp;
 
-/// A worker: its number, and the interpreter that it uses again and again, once there is one.
+/// A worker: its number, the interpreter that it uses again and again, once there is one, and the
+/// writer of its responses.
 pub struct Worker {
     pub(crate) number: u16,
     pub(crate) interp: Option<BoxedInterp>,
+    pub(crate) writer: Writer,
 }
 
 /// Written out, so that proofs of other crates see one call where a worker is dropped.
 impl Drop for Worker {
     fn drop(self) {
-        let Worker { number: _, interp } = self;
+        let Worker {
+            number: _,
+            interp,
+            writer,
+        } = self;
         drop(interp);
+        drop(writer);
     }
 }
 
@@ -27,6 +35,7 @@ impl Worker {
         Worker {
             number,
             interp: None,
+            writer: Writer::new(),
         }
     }
 }
