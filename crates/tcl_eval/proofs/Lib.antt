@@ -20,6 +20,7 @@ pub mod Sizes
 pub mod Stacks
 pub mod Steps
 pub mod Commands
+pub mod OneBracket
 pub mod Values
 pub mod Tails
 pub mod Looping

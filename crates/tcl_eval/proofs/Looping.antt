@@ -1,5 +1,5 @@
 -- Turns of loops for which nothing is put on the stack.
-use Rattle.std.proofs.Common.{◌≡◌, ◌≢◌, ◌≤◌, ◌<◌, ℕ, zero, suc, ◌+◌, ◌-◌, List, [], ◌∷◌, ◌++◌, Bool, true, false, cond, nat_lt, Option, Some, None, refl, sym, ap, ◌∙◌, arith}
+use Rattle.std.proofs.Common.{◌≡◌, ◌≢◌, ◌≤◌, ◌<◌, ℕ, zero, suc, ◌+◌, ◌-◌, List, [], ◌∷◌, ◌++◌, length, drop, Bool, true, false, cond, nat_lt, Option, Some, None, refl, sym, ap, ◌∙◌, arith}
 use Rattle.std.proofs.lemmas.Bool.{le-ltb}
 use Rattle.txt_core.specs.Names.{Names}
 use Rattle.txt_core.specs.Truth.{truth}
@@ -14,17 +14,20 @@ use Rattle.tcl_expr.specs.Outcome.{Answer}
 use Rattle.tcl_expr.specs.Reading.{expression_is, expression_of}
 use Rattle.tcl_expr.specs.Trees.{Tree}
 use Rattle.tcl_eval.specs.State.{State, LeafTable, Given, Out, Rest, Next, spent}
-use Rattle.tcl_eval.specs.Eval.{Inner, unread, by_truth, give, nested, on_ok, pay, run_commands, run_reading, run_script}
+use Rattle.tcl_eval.specs.Eval.{Inner, unread, by_truth, give, nested, on_ok, pay, run_commands, run_reading, run_script, write_all}
 use Rattle.tcl_eval.specs.Expressions.{evaluate, run_answer, test}
 use Rattle.tcl_eval.specs.Places.{tree_of}
 use Rattle.tcl_eval.specs.AtOnce.{at_once}
 use Rattle.tcl_eval.specs.Engine.{state_of}
 use Rattle.std.specs.Prelude.{IfSome}
-use Rattle.tcl_eval.specs.Loops.{turns, turn_body}
+use Rattle.tcl_eval.specs.Loops.{assigned, in_loop, turns, turn_body, walk_on}
 use Rattle.tcl_eval.specs.Stack.{frame_next, stack_next, stack_free}
 use Rattle.tcl_eval.specs.Engine.{Enters, Nears, Opens, acted_next, credit, gone_next, gone_of}
-use Rattle.tcl_eval.specs.Turns.{IsBehind, TurnPays, TestPays, option_free, ran_next, turn_free}
+use Rattle.tcl_eval.specs.Turns.{EachPays, IsBehind, TurnPays, TestPays, each_free, option_free, ran_next, turn_free}
 use Rattle.tcl_eval.specs.declared.branch.Turning.{Turning}
+use Rattle.tcl_eval.specs.declared.branch.Walk.{Walk}
+use Rattle.tcl_eval.specs.declared.walk_turns.Each.{Each}
+use Rattle.tcl_eval.specs.declared.walk_turns.Each.TheVariants as each
 use Rattle.tcl_eval.specs.declared.branch.Branch.TheVariants as branch
 use Rattle.tcl_eval.specs.declared.engine.OpenQuestion.{OpenQuestion}
 use Rattle.tcl_eval.specs.declared.loop_turns.Ran.{Ran}
@@ -180,3 +183,30 @@ module _ {H : Type 0} where
   body_room (Some turn.Whole) new old h same = omega (arith, h, ap (λ st. stack_free st.items) same)
   body_room (Some (turn.Body text)) new old h same = omega (arith, h, ap (λ st. stack_free st.items) same)
   body_room (Some (turn.Next text)) new old h same = omega (arith, h, ap (λ st. stack_free st.items) same)
+
+  pub each_room : (what : Each) (new old : Engine H) → EachPays new old what → new.stack ≡ old.stack → credit new + each_free what < credit old + 1
+  each_room (each.Ends value) new old h same = omega (arith, h, ap (λ st. stack_free st.items) same)
+  each_room each.Spent new old h same = omega (arith, h, ap (λ st. stack_free st.items) same)
+  each_room (each.Body text) new old h same = omega (arith, h, ap (λ st. stack_free st.items) same)
+
+  -- 1 was paid before
+  pub each_paid : (what : Option Each) (new paid old : Engine H) → new.budget ≤ paid.budget → paid.budget + 1 ≤ old.budget → IfSome what (EachPays new old)
+  each_paid None new paid old le less = tt
+  each_paid (Some (each.Ends value)) new paid old le less = omega (arith, le, less)
+  each_paid (Some each.Spent) new paid old le less = omega (arith, le, less)
+  each_paid (Some (each.Body text)) new paid old le less = omega (arith, le, less)
+
+module _ {H : Type 0} (ns : Names) (t : LeafTable H) where
+  -- a loop over values stands on the stack whose turns come next
+  pub walk_pushed : (fs fs1 : List Frame) (shared : _) (walk : Walk) (at left levels : ℕ) (value : Ended) (s : State H) (b : ℕ) (g : Given) → fs1 ≡ fs ++ Branching (branch.Each shared at left levels) ∷ [] → shared.value ≡ walk → value ≡ ended 0 [] → give value (stack_next ns t fs1) s b g ≡ walk_on (nested ns t levels) walk.names walk.body left (drop at walk.values) (stack_next ns t fs) s b g
+  walk_pushed fs fs1 shared walk at left levels value s b g push same is =
+      ap (λ (v : Ended). give v (stack_next ns t fs1) s b g) is
+      ∙ ap (λ (x : Next H). x 0 [] s b g) (pushed ns t fs fs1 (Branching (branch.Each shared at left levels)) push)
+      ∙ ap (λ (v : Walk). walk_on (nested ns t levels) v.names v.body left (drop at v.values) (stack_next ns t fs) s b g) same
+
+  -- a turn over values is the next one
+  pub walk_turn : (walk : Walk) (at next left less levels : ℕ) (k : Next H) (s : State H) (b : ℕ) (g : Given) → left ≡ suc less → drop next walk.values ≡ drop (length walk.names) (drop at walk.values) → pay 1 (write_all (assigned walk.names (drop at walk.values)) (run_script ns t levels (unread walk.body) (in_loop (walk_on (nested ns t levels) walk.names walk.body less (drop next walk.values) k) k)) k) s b g ≡ walk_on (nested ns t levels) walk.names walk.body left (drop at walk.values) k s b g
+  walk_turn walk at next left less levels k s b g l behind =
+      let inner = nested ns t levels in
+      ap (λ (vs : List (List ℕ)). pay 1 (write_all (assigned walk.names (drop at walk.values)) (run_script ns t levels (unread walk.body) (in_loop (walk_on inner walk.names walk.body less vs k) k)) k) s b g) behind
+      ∙ sym (ap (λ (n : ℕ). walk_on inner walk.names walk.body n (drop at walk.values) k s b g) l)

@@ -31,6 +31,7 @@ pub mod Short
 pub mod Simple
 pub mod Stack
 pub mod Straight
+pub mod Brackets
 pub mod Chosen
 pub mod Turns
 pub mod AtOnce

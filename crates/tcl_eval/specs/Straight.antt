@@ -40,6 +40,13 @@ module _ {H : Type 0} where
   paid_next None k = λ state budget given. spent state
   paid_next (Some value) k = give value k
 
+  -- where a command is left, the engine is as it was
+  abbrev pub LeftAlone : Tried → Engine H → Engine H → Type 0
+  LeftAlone (tried.Gives value) new old = Unit {0}
+  LeftAlone tried.Spent new old = Unit {0}
+  LeftAlone (tried.Left values) new old = new ≡ old
+  LeftAlone (tried.Costly count) new old = new ≡ old
+
 module _ {H : Type 0} (names : Names) (table : LeafTable H) where
   -- how a command of these words goes on from what was done of it
   abbrev pub tried_next : Inner H → TreeWords → Tried → Next H → Rest H
@@ -60,6 +67,13 @@ module _ {H : Type 0} (names : Names) (table : LeafTable H) where
       run_words names table inner (words_from (length values) (command_at at script)) values (behind_command inner script at k)
   stand_next inner script (stand.Costly at word) k =
       run_costly inner (words_from word (command_at at script)) (behind_command inner script at k)
+
+-- a command was done
+abbrev pub IsDone : Tried → Type 0
+IsDone (tried.Gives value) = Unit {0}
+IsDone tried.Spent = Unit {0}
+IsDone (tried.Left values) = ⊥
+IsDone (tried.Costly count) = ⊥
 
 -- how much of a command of these words there is to go over
 abbrev pub tried_size : TreeWords → Tried → ℕ

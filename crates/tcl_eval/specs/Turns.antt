@@ -19,6 +19,8 @@ use Rattle.tcl_eval.specs.declared.loop_turns.Tested.{Tested}
 use Rattle.tcl_eval.specs.declared.loop_turns.Tested.TheVariants as tested
 use Rattle.tcl_eval.specs.declared.loop_turns.Turn.{Turn}
 use Rattle.tcl_eval.specs.declared.loop_turns.Turn.TheVariants as turn
+use Rattle.tcl_eval.specs.declared.walk_turns.Each.{Each}
+use Rattle.tcl_eval.specs.declared.walk_turns.Each.TheVariants as each
 
 -- the place of the command at which a script stands is one behind which another may follow
 abbrev pub IsSet : Ran → Type 0
@@ -41,6 +43,12 @@ IsBehind turn.Spent = Unit {0}
 IsBehind turn.Whole = Unit {0}
 IsBehind (turn.Body text) = ⊥
 IsBehind (turn.Next text) = Unit {0}
+
+-- the same of what is left of a turn over values
+abbrev pub IsEachSet : Each → Type 0
+IsEachSet (each.Ends value) = Unit {0}
+IsEachSet each.Spent = Unit {0}
+IsEachSet (each.Body text) = IsSet text
 
 -- a condition was evaluated
 abbrev pub IsTruth : Tested → Type 0
@@ -82,6 +90,12 @@ module _ {H : Type 0} where
   TurnPays ends goes (Some (turn.Body text)) new old = new.budget + goes ≤ old.budget
   TurnPays ends goes (Some (turn.Next text)) new old = new.budget + goes ≤ old.budget
 
+  -- a turn over values whose body stands was paid for
+  abbrev pub EachPays : Engine H → Engine H → Each → Type 0
+  EachPays new old (each.Ends value) = new.budget ≤ old.budget
+  EachPays new old each.Spent = new.budget ≤ old.budget
+  EachPays new old (each.Body text) = new.budget + 1 ≤ old.budget
+
   -- One way to go on from the new engine comes to the same as another one from the old engine, whatever comes behind this turn and
   -- behind the loop.
   abbrev pub Leads : Engine H → Engine H → (Rest H → Next H → Rest H) → (Rest H → Next H → Rest H) → Type 0
@@ -103,6 +117,13 @@ module _ {H : Type 0} (names : Names) (table : LeafTable H) where
   turn_next inner turning (Some (turn.Body text)) go k = ran_next text (in_loop (between inner turning.next go k) k)
   turn_next inner turning (Some (turn.Next text)) go k = ran_next text (in_loop go k)
 
+  -- how a loop over values goes on with what is left of a turn, and then with the next turn
+  abbrev pub each_next : Option Each → Rest H → Next H → Rest H
+  each_next None go k = go
+  each_next (Some (each.Ends value)) go k = give value k
+  each_next (Some each.Spent) go k = λ state budget given. spent state
+  each_next (Some (each.Body text)) go k = ran_next text (in_loop go k)
+
 -- how many texts may be run for nothing once what is left of a turn stands on the stack
 abbrev pub turn_free : Turn → ℕ
 turn_free (turn.Ends value) = 0
@@ -115,3 +136,8 @@ turn_free (turn.Next text) = 1
 abbrev pub option_free : Option Turn → ℕ
 option_free None = 1
 option_free (Some what) = turn_free what
+
+abbrev pub each_free : Each → ℕ
+each_free (each.Ends value) = 0
+each_free each.Spent = 0
+each_free (each.Body text) = 1

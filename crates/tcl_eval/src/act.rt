@@ -9,6 +9,7 @@ ghost use Rattle.natives.specs.Names.{name_of, names_of};
 ghost use Rattle.tcl_varcmd.specs.Commands.{begins_var_command, var_came};
 ghost use Rattle.tcl_eval.specs.State.{Onward, Next, Rest};
 ghost use Rattle.tcl_eval.specs.Eval.{Inner, addressed, nested, write_all, call_proc, call_native, do_proc, do_rename, do_eval, do_catch, catch_end, came_next, arg, define, make, set_global, is_for_host, leaf, onward, built_in, built, act, run_script, unread, stored, stored_of, proc_of, give, error_of};
+ghost use Rattle.tcl_eval.specs.Straight.{Alike, Straightly};
 ghost use Rattle.tcl_eval.specs.Engine.{Same, Keeps, Holds, HoldsTable, Counts, IsNoPage, Opens, Enters, Lower, credit, acted_next, AskedBy, after_writes};
 ghost use Rattle.tcl_eval.specs.Verbs.{IsRunning, ValueOf, made_by};
 ghost use Rattle.tcl_host.specs.Answers.{RepliesTo};
@@ -609,10 +610,10 @@ impl<H: Host> Engine<H> {
     /// Writes the values of parameters; where one is refused, that is the error.
     pub(crate) fn write_all(&mut self, values: Pairs) -> Result<Option<Ended>, NoMemory>
         ensures means { IfOk result (λ refused.
-            (names : Names) (go : Next H → Rest H)
-            → Same names H.table self.new self.old (after_writes refused go) (λ k.
+            (go : Next H → Rest H)
+            → Alike self.new self.old (after_writes refused go) (λ k.
             write_all values (go k) k)) }
-        ensures keeps { OnOk result (Keeps self.new self.old) }
+        ensures straight { OnOk result (Straightly self.new self.old) }
         ensures holds { Holds self.new self.old }
     {
         'values: for pair in values.as_slice() {

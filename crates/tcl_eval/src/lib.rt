@@ -2,6 +2,7 @@
 #![tactic(auto)]
 
 mod act;
+mod bracket;
 mod branch;
 mod condition;
 mod cost;
@@ -33,6 +34,7 @@ mod straight;
 mod switch;
 mod value;
 mod verb;
+mod walk_turns;
 mod words;
 
 pub use engine::Engine;

@@ -128,7 +128,7 @@ impl<H: Host> Engine<H> {
         ensures straight { OnOk result (Straightly self.new self.old) }
         ensures holds { Holds self.new self.old }
     {
-        match self.run_straight(natives, &script, 0, done(self.alloc))? {
+        match self.run_straight(natives, &script, 0, done(self.alloc), levels)? {
             Stand::Ends(value) => Ok(Ran::Ends(value)),
             stand => Ok(Ran::Stands {
                 script,
@@ -139,7 +139,7 @@ impl<H: Host> Engine<H> {
     }
 
     /// Runs a text that was read, as far as nothing is put on the stack for it.
-    fn run_read(
+    pub(crate) fn run_read(
         &mut self,
         natives: &Natives,
         text: &ReadScript,

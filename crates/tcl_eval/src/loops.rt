@@ -4,23 +4,23 @@ ghost use Rattle.std.specs.Prelude.{◌≡◌, ◌<◌, ◌≤◌, ◌+◌, ℕ,
 ghost use Rattle.natives.specs.Names.{names_of};
 ghost use Rattle.txt_core.specs.Names.{Names};
 ghost use Rattle.tcl_eval.specs.State.{Next};
-ghost use Rattle.tcl_eval.specs.Eval.{nested, unread, do_while, do_for, do_foreach};
-ghost use Rattle.tcl_eval.specs.Loops.{assigned, in_loop, turns, turn_on, walk_on, walk_all};
+ghost use Rattle.tcl_eval.specs.Eval.{nested, do_while, do_for, do_foreach};
+ghost use Rattle.tcl_eval.specs.Loops.{assigned, turns, turn_on, walk_on, walk_all};
 ghost use Rattle.tcl_eval.specs.LoopsSeen.{flow_of};
 ghost use Rattle.tcl_eval.specs.Stack.{branch_next, branch_free};
-ghost use Rattle.tcl_eval.specs.Turns.{IsTurnSet, option_free, turn_free, turn_next};
-ghost use Rattle.tcl_eval.specs.Engine.{Holds, Nears, Same, Opens, Enters, Lower, Remains, acted_next, credit, gone_next};
+ghost use Rattle.tcl_eval.specs.Turns.{IsEachSet, IsTurnSet, each_free, each_next, option_free, turn_free, turn_next};
+ghost use Rattle.tcl_eval.specs.Engine.{Holds, Nears, Same, Opens, Lower, Remains, acted_next, credit, gone_next};
 ghost use Rattle.tcl_eval.specs.declared.branch.Branch.{Branch};
 ghost use Rattle.tcl_eval.specs.declared.loop_turns.Turn.TheVariants.{Whole};
 ghost use Rattle.tcl_eval.specs.declared.engine.OpenQuestion.{OpenQuestion};
 
-use crate::branch::{Branch, Turning, Walk, place_behind};
-use crate::cost::TURN_COST;
+use crate::branch::{Branch, Turning, Walk};
 use crate::engine::Engine;
 use crate::loop_turns::{Tested, Turn};
 use crate::read_expr::read_word;
 use crate::stack::{Acted, Ended, Frame, Gone, Step, gone_from};
 use crate::value::{done, wrong_words};
+use crate::walk_turns::Each;
 use crate::words::copy_word;
 use natives::Natives;
 use std::alloc::Global;
@@ -50,7 +50,7 @@ pub(crate) fn flow_from(alloc: Global, value: Ended) -> Flow
 }
 
 /// In turn the names with the values; where no value is left, the empty text.
-fn assigned(alloc: Global, names: &[Text], values: &[Text]) -> Result<Pairs, NoMemory>
+pub(crate) fn assigned(alloc: Global, names: &[Text], values: &[Text]) -> Result<Pairs, NoMemory>
     ensures { IfOk result (λ pairs. pairs ≡ assigned names.now values.now) }
 {
     let mut pairs = Pairs::new(alloc);
@@ -70,7 +70,7 @@ fn assigned(alloc: Global, names: &[Text], values: &[Text]) -> Result<Pairs, NoM
 }
 
 /// The items from a place on; none where the list ends before it.
-fn from_place(items: &[Text], at: usize) -> &[Text]
+pub(crate) fn from_place(items: &[Text], at: usize) -> &[Text]
     ensures { result.now ≡ drop at items.now }
 {
     match items.get(at..) {
@@ -395,78 +395,71 @@ impl<H: Host> Engine<H> {
         }
     }
 
-    /// Pays for a turn over values, where one is left, writes its variables and runs its body.
-    fn next_values(
+    /// Goes on with what is left of a turn over values, behind which so many turns may come, from the value
+    /// at this place on.
+    fn enter_each(
         &mut self,
         walk: Rc<Walk>,
+        each: Each,
         at: usize,
         left: usize,
         levels: u32,
-    ) -> Result<Acted, NoMemory>
-        ensures means { IfOk result (λ acted.
-            (names : Names) (opened : Option OpenQuestion)
-            → Same names H.table self.new self.old (acted_next names H.table acted opened)
+    ) -> Result<Gone, NoMemory>
+        requires { IsEachSet each }
+        ensures means { IfOk result (λ gone.
+            (names : Names)
+            → Same names H.table self.new self.old (gone_next names H.table gone) (λ k.
+            each_next names H.table (Some each)
             (walk_on (nested names H.table levels) walk.value.names walk.value.body left
-            (drop at walk.value.values))) }
-        ensures lower { OnOk result (Lower self.new self.old 1) }
-        ensures opens { IfOk result (λ acted. Opens acted self.new self.old) }
-        ensures enters { IfOk result (λ acted. Enters acted (credit self.new ≤ credit self.old)) }
+            (drop at walk.value.values) k) k)) }
+        ensures nears { IfOk result (λ gone.
+            (most : ℕ) → credit self.old + each_free each < most → Nears gone self.new most) }
+        ensures remains { OnOk result (Remains self.new self.old) }
         ensures holds { Holds self.new self.old }
     {
-        if left == 0 {
-            return Ok(Acted::Gives(done(self.alloc)));
-        }
-        if !self.pay(TURN_COST) {
-            return Ok(Acted::Spent);
-        }
-        let values = from_place(walk.values.as_slice(), at);
-        let pairs = assigned(self.alloc, walk.names.as_slice(), values)?;
-        match self.write_all(pairs)? {
-            Some(refused) => Ok(Acted::Gives(refused)),
-            None => {
-                let acted = self.enter_each(walk, at, left - 1, levels)?;
-                Ok(acted)
+        match each {
+            Each::Ends(value) => Ok(Gone::Goes(Step::Value(value))),
+            Each::Spent => Ok(Gone::Spent),
+            Each::Body(ran) => {
+                self.stack.push(Frame::Branch(Branch::Each {
+                    walk,
+                    at,
+                    turns: left,
+                    levels,
+                }))?;
+                let step = self.enter_ran(ran)?;
+                Ok(Gone::Goes(step))
             }
         }
     }
 
-    /// Runs the body of a turn over values.
-    fn enter_each(
+    /// Goes on with the turns over values, of which so many are left.
+    fn next_values(
         &mut self,
+        natives: &Natives,
         walk: Rc<Walk>,
         at: usize,
         left: usize,
         levels: u32,
-    ) -> Result<Acted, NoMemory>
-        ensures means { IfOk result (λ acted.
-            (names : Names) (opened : Option OpenQuestion)
-            → Same names H.table self.new self.old (acted_next names H.table acted opened) (λ k.
-            (nested names H.table levels).run (unread walk.value.body)
-            (in_loop
-            (walk_on (nested names H.table levels) walk.value.names walk.value.body left
-            (drop (length walk.value.names) (drop at walk.value.values)) k)
-            k))) }
-        ensures lower { OnOk result (Lower self.new self.old 1) }
-        ensures opens { IfOk result (λ acted. Opens acted self.new self.old) }
-        ensures enters { IfOk result (λ acted.
-            Enters acted (credit self.new ≤ credit self.old + 1)) }
+    ) -> Result<Gone, NoMemory>
+        ensures means { IfOk result (λ gone.
+            Same (names_of natives.now) H.table self.new self.old
+            (gone_next (names_of natives.now) H.table gone)
+            (walk_on (nested (names_of natives.now) H.table levels) walk.value.names walk.value.body
+            left (drop at walk.value.values))) }
+        ensures nears { IfOk result (λ gone. Nears gone self.new (credit self.old + 1)) }
+        ensures remains { OnOk result (Remains self.new self.old) }
         ensures holds { Holds self.new self.old }
     {
-        let next = place_behind(at, walk.names.len(), walk.values.len());
-        let again = walk.clone()?;
-        self.stack.push(Frame::Branch(Branch::Each {
-            walk: again,
-            at: next,
-            turns: left,
-            levels,
-        }))?;
-        let acted = self.enter_read(&walk.body, levels)?;
-        Ok(acted)
+        let walked = self.walk_straight(natives, &walk, at, left, levels)?;
+        let gone = self.enter_each(walk, walked.each, walked.at, walked.left, levels)?;
+        Ok(gone)
     }
 
     /// Goes on behind the body of a turn over values.
     pub(crate) fn give_each(
         &mut self,
+        natives: &Natives,
         walk: Rc<Walk>,
         at: usize,
         left: usize,
@@ -474,10 +467,10 @@ impl<H: Host> Engine<H> {
         value: Ended,
     ) -> Result<Gone, NoMemory>
         ensures means { IfOk result (λ gone.
-            (names : Names)
-            → Same names H.table self.new self.old (gone_next names H.table gone) (λ k.
-            branch_next names H.table (Branch.Each walk at left levels) k value.code
-            value.result)) }
+            Same (names_of natives.now) H.table self.new self.old
+            (gone_next (names_of natives.now) H.table gone) (λ k.
+            branch_next (names_of natives.now) H.table (Branch.Each walk at left levels) k
+            value.code value.result)) }
         ensures nears { IfOk result (λ gone.
             Nears gone self.new
             (credit self.old + branch_free (Branch.Each walk at left levels))) }
@@ -487,13 +480,14 @@ impl<H: Host> Engine<H> {
         match flow_from(self.alloc, value) {
             Flow::Ends(value) => Ok(Gone::Goes(Step::Value(value))),
             Flow::On => {
-                let acted = self.next_values(walk, at, left, levels)?;
-                Ok(gone_from(acted))
+                let gone = self.next_values(natives, walk, at, left, levels)?;
+                Ok(gone)
             }
         }
     }
 
-    /// Begins the turns over values, of which there are as many as it takes for all of them.
+    /// Puts a loop over values on the stack whose turns come next, of which there are as many as it takes
+    /// for all of them.
     fn begin_walk(&mut self, walk: Walk, levels: u32) -> Result<Acted, NoMemory>
         requires { 0 < length walk.names }
         ensures means { IfOk result (λ acted.
@@ -506,8 +500,13 @@ impl<H: Host> Engine<H> {
     {
         let turns = walk.values.len().div_ceil(walk.names.len());
         let walk = Rc::new(self.alloc, walk)?;
-        let acted = self.next_values(walk, 0, turns, levels)?;
-        Ok(acted)
+        self.stack.push(Frame::Branch(Branch::Each {
+            walk,
+            at: 0,
+            turns,
+            levels,
+        }))?;
+        Ok(Acted::Gives(done(self.alloc)))
     }
 
     /// `foreach names list body`.
@@ -600,7 +599,7 @@ impl<H: Host> Engine<H> {
                 at,
                 turns,
                 levels,
-            } => self.give_each(walk, at, turns, levels, value),
+            } => self.give_each(natives, walk, at, turns, levels, value),
             Branch::Page {
                 pieces,
                 next,

@@ -412,7 +412,7 @@ impl<H: Host> Engine<H> {
         ensures keeps { IfOk result (λ step. Stays step self.new self.old) }
         ensures holds { Holds self.new self.old }
     {
-        let stand = self.run_straight(natives, &script, next, value)?;
+        let stand = self.run_straight(natives, &script, next, value, levels)?;
         let step = self.enter_stand(script, stand, levels)?;
         Ok(step)
     }

@@ -11,10 +11,11 @@ ghost use Rattle.txt_core.specs.Names.{Names};
 ghost use Rattle.tcl_eval.specs.State.{Given, Next};
 ghost use Rattle.tcl_eval.specs.Eval.{Inner, act, arg, built, built_in, came_next, joined, command_end, give, nested, on_ok, run_commands, run_words, verb_of};
 ghost use Rattle.tcl_eval.specs.Places.{tree_of, command_at, commands_from, commands_size, words_from, words_size};
-ghost use Rattle.tcl_eval.specs.Straight.{Alike, Does, IsOwn, IsWithin, Straightly, paid_next, tried_next, tried_size, stand_next, stand_size};
+ghost use Rattle.tcl_eval.specs.Straight.{Alike, Does, IsDone, IsOwn, IsWithin, LeftAlone, Straightly, paid_next, tried_next, tried_size, stand_next, stand_size};
 ghost use Rattle.tcl_eval.specs.Engine.{Holds, state_of};
 ghost use Rattle.tcl_eval.specs.Verbs.{ValueOf};
 
+use crate::bracket::Passed;
 use crate::cost::{EVALUATION_COST, result_cost};
 use crate::engine::Engine;
 use crate::expr_reading::ExprReading;
@@ -220,6 +221,7 @@ impl<H: Host> Engine<H> {
             ≡ command_end k value.code value.result (state_of self.old) (self.old.budget - cost)
             given) }
         ensures size { IfOk result (λ tried. (words : Words) → tried_size words tried ≡ 0) }
+        ensures done { IfOk result IsDone }
         ensures straight { OnOk result (Straightly self.new self.old) }
         ensures holds { Holds self.new self.old }
     {
@@ -285,6 +287,7 @@ impl<H: Host> Engine<H> {
         ensures size { IfOk result (λ tried.
             (words : Words)
             → tried_size words tried ≤ words_size (words_from (length values) words)) }
+        ensures alone { IfOk result (λ tried. LeftAlone tried self.new self.old) }
         ensures straight { OnOk result (Straightly self.new self.old) }
         ensures holds { Holds self.new self.old }
     {
@@ -321,6 +324,7 @@ impl<H: Host> Engine<H> {
         ensures size { IfOk result (λ tried.
             (words : Words)
             → tried_size words tried ≤ words_size (words_from (length values) words)) }
+        ensures alone { IfOk result (λ tried. LeftAlone tried self.new self.old) }
         ensures straight { OnOk result (Straightly self.new self.old) }
         ensures holds { Holds self.new self.old }
     {
@@ -343,8 +347,9 @@ impl<H: Host> Engine<H> {
         }
     }
 
-    /// Does the command at a place of a script, as far as nothing is put on the stack for it.
-    fn next_straight(
+    /// Does the command at a place of a script where nothing is run for its words, as far as nothing is
+    /// put on the stack for it.
+    pub(crate) fn try_simple(
         &mut self,
         natives: &Natives,
         script: &Script,
@@ -362,6 +367,7 @@ impl<H: Host> Engine<H> {
         ensures size { IfOk result (λ tried.
             tried_size (command_at at (tree_of script.now)) tried
             ≤ words_size (command_at at (tree_of script.now))) }
+        ensures alone { IfOk result (λ tried. LeftAlone tried self.new self.old) }
         ensures straight { OnOk result (Straightly self.new self.old) }
         ensures holds { Holds self.new self.old }
     {
@@ -379,18 +385,58 @@ impl<H: Host> Engine<H> {
         }
     }
 
+    /// Does the command at a place of a script, as far as nothing is put on the stack for it. So many levels
+    /// are left to its brackets.
+    fn next_straight(
+        &mut self,
+        natives: &Natives,
+        script: &Script,
+        at: usize,
+        levels: u32,
+    ) -> Result<Tried, NoMemory>
+        ensures means { IfOk result (λ tried.
+            Alike self.new self.old
+            (tried_next (names_of natives.now) H.table
+            (nested (names_of natives.now) H.table levels) (command_at at (tree_of script.now))
+            tried)
+            (run_words (names_of natives.now) H.table
+            (nested (names_of natives.now) H.table levels) (command_at at (tree_of script.now))
+            [])) }
+        ensures size { IfOk result (λ tried.
+            tried_size (command_at at (tree_of script.now)) tried
+            ≤ words_size (command_at at (tree_of script.now))) }
+        ensures straight { OnOk result (Straightly self.new self.old) }
+        ensures holds { Holds self.new self.old }
+    {
+        let all = words_of(script, at);
+        let mut values = Gathered::new(self.alloc);
+        'words: loop {
+            match self.pass_words(natives, all, &mut values, levels)? {
+                Passed::On => {}
+                Passed::All => {
+                    let tried = self.try_command(natives, values)?;
+                    return Ok(tried);
+                }
+                Passed::Ends(value) => return Ok(Tried::Gives(value)),
+                Passed::Spent => return Ok(Tried::Spent),
+                Passed::Costly => return Ok(Tried::Costly(values.len())),
+                Passed::Left => return Ok(Tried::Left(values)),
+            }
+        }
+    }
+
     /// Does the commands of a script from a place on, behind a command that came to this value, as far
-    /// as nothing is put on the stack for them.
+    /// as nothing is put on the stack for them. So many levels are left to their brackets.
     pub(crate) fn run_straight(
         &mut self,
         natives: &Natives,
         script: &Script,
         from: usize,
         value: Ended,
+        levels: u32,
     ) -> Result<Stand, NoMemory>
         ensures means { IfOk result (λ stand.
-            (levels : ℕ)
-            → Alike self.new self.old
+            Alike self.new self.old
             (stand_next (names_of natives.now) H.table
             (nested (names_of natives.now) H.table levels) (tree_of script.now) stand)
             (λ k.
@@ -413,7 +459,7 @@ impl<H: Host> Engine<H> {
             if !has_command(script, at) {
                 return Ok(Stand::Ends(value));
             }
-            match self.next_straight(natives, script, at)? {
+            match self.next_straight(natives, script, at, levels)? {
                 Tried::Gives(next) => value = next,
                 Tried::Spent => return Ok(Stand::Spent),
                 Tried::Left(values) => return Ok(Stand::Waits { at, values }),

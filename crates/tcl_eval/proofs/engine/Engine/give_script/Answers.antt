@@ -17,4 +17,4 @@ returns-clause-means g c = λ gv.
     ∙ alike_same ns t c.run_straight.new.self c.args.self.now
     (λ k. stand_next ns t inner tree c.in_ok-stand.stand k)
     (λ k. on_ok (λ result. run_commands ns t inner (commands_from c.args.next tree) result k) k c.args.value.code c.args.value.result)
-    (did c.args.levels) c.in_ok-stand.ensures.straight.2 gv
+    did c.in_ok-stand.ensures.straight.2 gv

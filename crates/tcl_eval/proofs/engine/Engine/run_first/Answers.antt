@@ -13,7 +13,7 @@ returns-in-Ends-clause-means g c = λ k gv.
     let e = c.args.self.now in
     let inner = nested ns t c.args.levels in
     let did = rw (c.in-Ends.is, c.deref.ensures) at c.in_ok-stand.ensures.means in
-    did c.args.levels k gv
+    did k gv
     ∙ ap (λ (v : Ended). on_ok (λ result. run_commands ns t inner (tree_of c.args.script.value) result k) k v.code v.result (state_of e) e.budget gv) c.done.ensures
 
 pub returns-in_default : goal.returns-in_default
@@ -24,7 +24,7 @@ returns-in_default g c =
     let inner = nested ns t c.args.levels in
     let did = rw c.deref.ensures at c.in_ok-stand.ensures.means in
     record {
-      means = λ k gv. did c.args.levels k gv
+      means = λ k gv. did k gv
           ∙ ap (λ (v : Ended). on_ok (λ result. run_commands ns t inner (tree_of c.args.script.value) result k) k v.code v.result (state_of e) e.budget gv) c.done.ensures;
       set = c.in_ok-stand.ensures.within;
       straight = c.in_ok-stand.ensures.straight;

@@ -1,4 +1,4 @@
-use Rattle.std.proofs.Common.{◌≤◌, ℕ}
+use Rattle.std.proofs.Common.{◌≤◌}
 use Rattle.natives.specs.Names.{names_of}
 use Rattle.tcl_eval.specs.Eval.{nested, on_ok, run_commands}
 use Rattle.tcl_eval.specs.Places.{tree_of, commands_from, commands_size}
@@ -11,10 +11,11 @@ invariant-commands g l =
     let t = g.H.Host.table in
     let ns = names_of l.natives in
     let tree = tree_of l.script in
+    let inner = nested ns t l.levels in
     record {
-      means : (levels : ℕ) → Alike l.self l.fn.self
-          (λ k. on_ok (λ result. run_commands ns t (nested ns t levels) (commands_from l.at tree) result k) k l.value.code l.value.result)
-          (λ k. on_ok (λ result. run_commands ns t (nested ns t levels) (commands_from l.fn.from tree) result k) k l.fn.value.code l.fn.value.result);
+      means : Alike l.self l.fn.self
+          (λ k. on_ok (λ result. run_commands ns t inner (commands_from l.at tree) result k) k l.value.code l.value.result)
+          (λ k. on_ok (λ result. run_commands ns t inner (commands_from l.fn.from tree) result k) k l.fn.value.code l.fn.value.result);
       size : commands_size (commands_from l.at tree) ≤ commands_size (commands_from l.fn.from tree);
       straight : Straightly l.self l.fn.self;
       holds : Holds l.self l.fn.self;

@@ -3,6 +3,7 @@ use Rattle.natives.specs.Names.{names_of}
 use Rattle.tcl_eval.specs.Eval.{command_end, nested}
 use Rattle.tcl_eval.specs.Engine.{state_of}
 use Rattle.tcl_eval.specs.Places.{words_from}
+use Rattle.tcl_eval.proofs.OneBracket.{done_alone}
 use Rattle.tcl_eval.proofs.Commands.{expr_paid}
 use Rattle.tcl_eval.proofs.engine.Engine.try_expr.Goals as goal
 
@@ -22,3 +23,7 @@ returns-in_ok-tried-in-Some-clause-means g c = λ levels ws none k gv.
     expr_paid ns t inner c.args.values (words_from (length c.args.values) ws) k (state_of e) e.budget cost gv _ own native variable c.requires
     (omega (arith, c.len.ensures, c.if-len-lt2.false)) (omega (arith, c.saturating_add-cost.ensures, c.cost.ensures, c.if-self-cost.false)) (omega (arith, c.if-self-cost.false)) none
     (paid ns inner ws k gv ∙ found ns levels (command_end k) (e.budget - cost) gv)
+
+pub returns-in_ok-tried-in-Some-clause-alone : goal.returns-in_ok-tried-in-Some-clause-alone
+returns-in_ok-tried-in-Some-clause-alone g c =
+    done_alone c.in_ok-tried-in-Some.tried c.pay_tried.new.self c.args.self.now c.in_ok-tried-in-Some.ensures.done

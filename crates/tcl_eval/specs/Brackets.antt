@@ -1,0 +1,55 @@
+-- Words that are one bracket of one command.
+use Rattle.std.specs.Prelude.{◌≡◌, ◌<◌, ◌≤◌, ◌+◌, ℕ, zero, suc, []}
+use Rattle.txt_core.specs.Names.{Bytes, Words, Names}
+use Rattle.tcl_parse.specs.Tree.{Part, bracket, Parts, Words as TreeWords, no_words, word, no_commands, command}
+use Rattle.tcl_eval.specs.State.{LeafTable, Rest, Next, spent}
+use Rattle.tcl_eval.specs.Results.{ended}
+use Rattle.tcl_eval.specs.Going.{Inner, give}
+use Rattle.tcl_eval.specs.Eval.{run_parts, run_words}
+use Rattle.tcl_eval.specs.Kept.{kept_value, judged, run_costly}
+use Rattle.tcl_eval.specs.Places.{words_from, words_size}
+use Rattle.tcl_eval.specs.declared.gather.SoFar.TheVariants.{Kept}
+use Rattle.tcl_eval.specs.declared.stack.Ended.{Ended}
+use Rattle.tcl_eval.specs.declared.bracket.Bracketed.{Bracketed}
+use Rattle.tcl_eval.specs.declared.bracket.Bracketed.TheVariants as bracketed
+use Rattle.tcl_eval.specs.declared.bracket.Passed.{Passed}
+use Rattle.tcl_eval.specs.declared.bracket.Passed.TheVariants as passed
+
+-- a bracket of one command, which has these words
+abbrev pub bracket_of : TreeWords → Part
+bracket_of words = bracket (command words no_commands)
+
+-- what a word comes to that is a bracket which came to this
+abbrev pub bracket_value : ℕ → Bytes → Ended
+bracket_value zero result = kept_value (Kept result)
+bracket_value (suc code) result = ended (suc code) result
+
+-- the word at this place of a command has these parts
+abbrev pub IsNext : Parts → ℕ → TreeWords → Type 0
+IsNext first at words = words_from at words ≡ word first (words_from (at + 1) words)
+
+-- these words of a command are left behind some of those that were
+abbrev pub IsLess : Passed → TreeWords → TreeWords → Type 0
+IsLess passed.On left before = words_size left < words_size before
+IsLess passed.All left before = left ≡ no_words
+IsLess (passed.Ends value) left before = Unit {0}
+IsLess passed.Spent left before = Unit {0}
+IsLess passed.Costly left before = words_size left ≤ words_size before
+IsLess passed.Left left before = words_size left ≤ words_size before
+
+module _ {H : Type 0} where
+  -- how a word of these parts goes on from what was done of it
+  abbrev pub bracketed_next : Inner H → Parts → Bracketed → Next H → Rest H
+  bracketed_next inner parts (bracketed.Gives value) k = give value k
+  bracketed_next inner parts bracketed.Spent k = λ state budget given. spent state
+  bracketed_next inner parts bracketed.Left k = run_parts inner parts [] (judged k)
+
+module _ {H : Type 0} (names : Names) (table : LeafTable H) where
+  -- how a command goes on from where it stands: these words are left, and these values are there
+  abbrev pub passed_next : Inner H → Passed → TreeWords → Words → Next H → Rest H
+  passed_next inner passed.On left values k = run_words names table inner left values k
+  passed_next inner passed.All left values k = run_words names table inner left values k
+  passed_next inner (passed.Ends value) left values k = give value k
+  passed_next inner passed.Spent left values k = λ state budget given. spent state
+  passed_next inner passed.Costly left values k = run_costly inner left k
+  passed_next inner passed.Left left values k = run_words names table inner left values k
