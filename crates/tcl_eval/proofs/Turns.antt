@@ -7,11 +7,10 @@ use Rattle.txt_core.specs.Names.{Names}
 use Rattle.txt_core.specs.Lists.{Listing, elements, bad_at}
 use Rattle.txt_core.specs.Listing.{listing}
 use Rattle.tcl_eval.specs.State.{State, LeafTable, Given, Out, Rest, Next, spent}
-use Rattle.tcl_eval.specs.Parameters.{Values}
-use Rattle.tcl_eval.specs.Eval.{Inner, unread, nested, on_ok, by_truth, give, write_all, wrong_words_end, arg, fails}
+use Rattle.tcl_eval.specs.Eval.{Inner, unread, nested, on_ok, by_truth, give, wrong_words_end, arg, fails}
 use Rattle.tcl_eval.specs.Expressions.{evaluate}
 use Rattle.tcl_eval.specs.Messages.{no_list}
-use Rattle.tcl_eval.specs.Loops.{assigned, in_loop, between, turns, turn_body, turn_on, do_while, do_for, walk_on, walk_all, over_values, over_names, do_foreach}
+use Rattle.tcl_eval.specs.Loops.{in_loop, between, turns, turn_body, turn_on, do_while, do_for, walk_on, walk_all, over_values, over_names, do_foreach}
 use Rattle.tcl_eval.specs.LoopsSeen.{flow_of}
 use Rattle.tcl_eval.specs.Stack.{stack_next}
 use Rattle.tcl_eval.specs.Engine.{state_of}
@@ -102,29 +101,6 @@ pub behind_turn : {A : Type 0} → (xs : List A) (at count next : ℕ) → next 
 behind_turn xs at count next e = dropped xs at count next e ∙ sym (drop-drop count at xs)
 
 module _ {H : Type 0} (ns : Names) (t : LeafTable H) where
-  -- a turn over values is paid for, and its variables are written
-  pub values_step : (old paid : Engine H) (inner : Inner H) (walk : Walk) (pairs : Values) (values : List (List ℕ)) (cost at left less : ℕ) (g : Given) (x : Out H) → cost ≡ 1 → cost ≤ old.budget → paid ≡ record old { budget = old.budget - cost } → left ≡ suc less → values ≡ drop at walk.values → pairs ≡ assigned walk.names values → x ≡ write_all pairs (inner.run (unread walk.body) (in_loop (walk_on inner walk.names walk.body less (drop (length walk.names) (drop at walk.values)) (stack_next ns t paid.stack.items)) (stack_next ns t paid.stack.items))) (stack_next ns t paid.stack.items) (state_of paid) paid.budget g → x ≡ walk_on inner walk.names walk.body left (drop at walk.values) (stack_next ns t old.stack.items) (state_of old) old.budget g
-  values_step old paid inner walk pairs values cost at left less g x one enough is l from all e =
-      let k = stack_next ns t old.stack.items in
-      let few : 1 ≤ old.budget = omega (arith, one, enough) in
-      let go : Next H → Rest H = λ (k : Next H). inner.run (unread walk.body) (in_loop (walk_on inner walk.names walk.body less (drop (length walk.names) (drop at walk.values)) k) k) in
-      e
-      ∙ ap (λ (p : Engine H). write_all pairs (go (stack_next ns t p.stack.items)) (stack_next ns t p.stack.items) (state_of p) p.budget g) is
-      ∙ ap (λ (n : ℕ). write_all pairs (go k) k (state_of old) (old.budget - n) g) one
-      ∙ ap (λ (v : Values). write_all v (go k) k (state_of old) (old.budget - 1) g) (all ∙ ap (λ (v : List (List ℕ)). assigned walk.names v) from)
-      ∙ sym (ap (λ (c : Bool). cond c (spent (state_of old)) (write_all (assigned walk.names (drop at walk.values)) (go k) k (state_of old) (old.budget - 1) g)) (le-ltb old.budget 1 few))
-      ∙ sym (ap (λ (n : ℕ). walk_on inner walk.names walk.body n (drop at walk.values) k (state_of old) old.budget g) l)
-
-  -- behind the writing of its variables the body of a turn begins
-  pub each_step : (fs fs1 : List Frame) (shared : _) (walk : Walk) (at next less levels : ℕ) (s : State H) (b : ℕ) (g : Given) (x : Out H) → fs1 ≡ fs ++ Branching (branch.Each shared next less levels) ∷ [] → shared.value ≡ walk → drop next walk.values ≡ drop (length walk.names) (drop at walk.values) → x ≡ (nested ns t levels).run (unread walk.body) (stack_next ns t fs1) s b g → x ≡ (nested ns t levels).run (unread walk.body) (in_loop (walk_on (nested ns t levels) walk.names walk.body less (drop (length walk.names) (drop at walk.values)) (stack_next ns t fs)) (stack_next ns t fs)) s b g
-  each_step fs fs1 shared walk at next less levels s b g x push same behind e =
-      let inner = nested ns t levels in
-      let k = stack_next ns t fs in
-      e
-      ∙ ap (λ (y : Next H). inner.run (unread walk.body) y s b g) (pushed ns t fs fs1 (Branching (branch.Each shared next less levels)) push)
-      ∙ ap (λ (v : Walk). inner.run (unread walk.body) (in_loop (walk_on inner v.names v.body less (drop next v.values) k) k) s b g) same
-      ∙ ap (λ (vs : List (List ℕ)). inner.run (unread walk.body) (in_loop (walk_on inner walk.names walk.body less vs k) k) s b g) behind
-
   -- the turns over all values begin
   pub walk_step : (inner : Inner H) (walk shared : Walk) (count values names : ℕ) (k : Next H) (s : State H) (b : ℕ) (g : Given) (x : Out H) → shared ≡ walk → count ≡ div_ceil values names → values ≡ length walk.values → names ≡ length walk.names → x ≡ walk_on inner shared.names shared.body count (drop 0 shared.values) k s b g → x ≡ walk_all inner walk.names walk.values walk.body k s b g
   walk_step inner walk shared count values names k s b g x same counted all each e =

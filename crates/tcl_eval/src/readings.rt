@@ -228,20 +228,4 @@ impl<H: Host> Engine<H> {
         let acted = self.enter_reading(reading, levels)?;
         Ok(acted)
     }
-
-    /// Runs a text that was read.
-    pub(crate) fn enter_read(&mut self, text: &ReadScript, levels: u32) -> Result<Acted, NoMemory>
-        ensures means { IfOk result (λ acted.
-            (names : Names) (opened : Option OpenQuestion)
-            → Same names H.table self.new self.old (acted_next names H.table acted opened)
-            (run_script names H.table levels (unread text.now))) }
-        ensures lower { OnOk result (Lower self.new self.old 0) }
-        ensures enters { IfOk result (λ acted. Enters acted (credit self.new ≤ credit self.old)) }
-        ensures opens { IfOk result (λ acted. Opens acted self.new self.old) }
-        ensures holds { Holds self.new self.old }
-    {
-        let reading = text.reading()?;
-        let acted = self.enter_reading(reading, levels)?;
-        Ok(acted)
-    }
 }

@@ -1,4 +1,4 @@
-use Rattle.std.proofs.Common.{◌∙◌, ◌+◌, ◌++◌, ◌∷◌, List, ℕ, [], length, map, sym}
+use Rattle.std.proofs.Common.{◌∙◌, ◌+◌, ◌++◌, ◌∷◌, [], length, map, sym}
 use Rattle.natives.specs.Names.{names_of}
 use Rattle.tcl_parse.specs.Tree.{parts}
 use Rattle.tcl_parse.specs.View.{part_of}

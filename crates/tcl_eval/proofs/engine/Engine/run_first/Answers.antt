@@ -1,4 +1,4 @@
-use Rattle.std.proofs.Common.{◌∙◌, ap, refl}
+use Rattle.std.proofs.Common.{◌∙◌, ap}
 use Rattle.natives.specs.Names.{names_of}
 use Rattle.tcl_eval.specs.Eval.{nested, on_ok, run_commands}
 use Rattle.tcl_eval.specs.Places.{tree_of}

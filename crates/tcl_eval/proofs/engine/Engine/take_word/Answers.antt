@@ -1,5 +1,5 @@
 use Rattle.std.proofs.Common.{◌∙◌, length, arith}
-use Rattle.tcl_eval.specs.Eval.{nested, on_ok, run_words}
+use Rattle.tcl_eval.specs.Eval.{nested}
 use Rattle.tcl_eval.specs.Places.{words_from}
 use Rattle.tcl_eval.specs.Engine.{state_of}
 use Rattle.tcl_eval.proofs.Alike.{run_script_alike}
