@@ -117,7 +117,10 @@ impl<H: Host> Engine<H> {
                 Ok(Bracketed::Gives(word))
             }
             Tried::Spent => Ok(Bracketed::Spent),
-            Tried::Left(_) => Ok(Bracketed::Left),
+            Tried::Left(values) => {
+                self.spare.put(values);
+                Ok(Bracketed::Left)
+            }
             Tried::Costly(_) => Ok(Bracketed::Left),
         }
     }

@@ -18,6 +18,7 @@ ghost use Rattle.tcl_eval.specs.declared.outcome.Outcome.TheVariants.{Asks};
 
 use crate::outcome::{Outcome, Work};
 use crate::readings::Readings;
+use crate::spare::Spare;
 use crate::stack::Frame;
 use cmd_table::{Cmd, CmdTable, Def, Defs, Steps};
 use natives::Natives;
@@ -52,6 +53,7 @@ pub struct Engine<H> {
     pub(crate) budget: u64,
     pub(crate) question: Option<OpenQuestion>,
     pub(crate) readings: Readings,
+    pub(crate) spare: Spare,
 }
 
 impl<H: Host> Engine<H> {
@@ -73,6 +75,7 @@ impl<H: Host> Engine<H> {
             budget: 0,
             question: None,
             readings: Readings::new(alloc),
+            spare: Spare::new(alloc),
         }
     }
 

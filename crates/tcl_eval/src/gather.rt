@@ -101,6 +101,14 @@ impl Gathered {
         Ok(())
     }
 
+    /// Lets all values go. It takes no memory, and keeps their room for the next ones.
+    pub fn clear(&mut self)
+        ensures { self.new ≡ [] }
+    {
+        self.words.clear();
+        self.bytes = 0;
+    }
+
     /// The values.
     pub fn words(&self) -> &Words
         ensures { result.now ≡ self.now }

@@ -29,6 +29,7 @@ mod run;
 mod settle;
 mod simple;
 mod simple_value;
+mod spare;
 mod stack;
 mod straight;
 mod switch;

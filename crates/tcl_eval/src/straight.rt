@@ -304,6 +304,7 @@ impl<H: Host> Engine<H> {
         match self.expr_value(values.words())? {
             None => Ok(Tried::Left(values)),
             Some(value) => {
+                self.spare.put(values);
                 let tried = self.pay_tried(cost as u64, value)?;
                 Ok(tried)
             }
@@ -341,6 +342,7 @@ impl<H: Host> Engine<H> {
         match self.straight_value(natives, verb, values.words())? {
             None => Ok(Tried::Left(values)),
             Some(value) => {
+                self.spare.put(values);
                 let tried = self.pay_tried(cost as u64, value)?;
                 Ok(tried)
             }
@@ -371,7 +373,7 @@ impl<H: Host> Engine<H> {
         ensures straight { OnOk result (Straightly self.new self.old) }
         ensures holds { Holds self.new self.old }
     {
-        let mut values = Gathered::new(self.alloc);
+        let mut values = self.spare.take(self.alloc);
         match self.simple_words(words_of(script, at), &mut values)? {
             Simple::Fails(value) => Ok(Tried::Gives(value)),
             Simple::Costly => Ok(Tried::Costly(values.len())),
@@ -409,7 +411,7 @@ impl<H: Host> Engine<H> {
         ensures holds { Holds self.new self.old }
     {
         let all = words_of(script, at);
-        let mut values = Gathered::new(self.alloc);
+        let mut values = self.spare.take(self.alloc);
         'words: loop {
             match self.pass_words(natives, all, &mut values, levels)? {
                 Passed::On => {}

@@ -9,8 +9,8 @@ use Rattle.tcl_eval.specs.Engine.{state_of}
 use Rattle.tcl_eval.proofs.OneBracket.{behind_bracket, bracket_handed, bracket_runs, left_alone}
 use Rattle.tcl_eval.proofs.engine.Engine.do_bracket.Goals as goal
 
-pub returns-in-Gives-clause-means : goal.returns-in-Gives-clause-means
-returns-in-Gives-clause-means g c = λ levels k gv.
+pub returns-in_ok-word-in-Gives-clause-means : goal.returns-in_ok-word-in-Gives-clause-means
+returns-in_ok-word-in-Gives-clause-means g c = λ levels k gv.
     let ns = names_of c.args.natives.now in
     let t = g.H.Host.table in
     let e = c.args.self.now in
@@ -35,8 +35,8 @@ returns-in-Left-clause-means g c = λ levels k gv.
     let alone = rw c.in-Left.is at c.in_ok-value.ensures.alone in
     left_alone c.try_simple.new.self c.args.self.now (λ k. run_parts (nested ns t (suc levels)) (part (bracket_of (command_at 0 (tree_of c.args.script.now))) no_parts) [] (judged k)) k gv alone
 
-pub returns-clause-means : goal.returns-clause-means
-returns-clause-means g c = λ levels k gv.
+pub returns-in-Costly-clause-means : goal.returns-in-Costly-clause-means
+returns-in-Costly-clause-means g c = λ levels k gv.
     let ns = names_of c.args.natives.now in
     let t = g.H.Host.table in
     let alone = rw c.in-Costly.is at c.in_ok-value.ensures.alone in

@@ -14,8 +14,8 @@ words-init g c =
     let e = c.args.self.now in
     let all = command_at c.args.at (tree_of c.args.script.now) in
     record {
-      means = λ k gv. ap (λ (x : List (List ℕ)). run_words ns t (nested ns t c.args.levels) (words_from (length x) all) x k (state_of e) e.budget gv) c.new-values.ensures;
-      size = omega (arith, ap (λ (x : List (List ℕ)). words_size (words_from (length x) all)) c.new-values.ensures);
+      means = λ k gv. ap (λ (x : List (List ℕ)). run_words ns t (nested ns t c.args.levels) (words_from (length x) all) x k (state_of e) e.budget gv) c.take-values.ensures;
+      size = omega (arith, ap (λ (x : List (List ℕ)). words_size (words_from (length x) all)) c.take-values.ensures);
       straight = (omega arith, refl, refl);
       holds = (refl, refl, refl);
     }

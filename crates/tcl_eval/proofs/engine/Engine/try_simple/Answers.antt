@@ -13,7 +13,7 @@ returns-then-has_word-clause-means g c = λ levels k gv.
     let e = c.args.self.now in
     let before = rw (c.in-Stands.is, c.words_of.ensures) at c.in_ok-value.ensures.means in
     before ns levels k gv
-    ∙ ap (λ (x : List (List ℕ)). run_words ns t (nested ns t levels) (words_from (length x) (command_at c.args.at (tree_of c.args.script.now))) x k (state_of e) e.budget gv) c.new-values.ensures
+    ∙ ap (λ (x : List (List ℕ)). run_words ns t (nested ns t levels) (words_from (length x) (command_at c.args.at (tree_of c.args.script.now))) x k (state_of e) e.budget gv) c.take-values.ensures
 
 pub returns-in-Fails-clause-means : goal.returns-in-Fails-clause-means
 returns-in-Fails-clause-means g c = λ levels k gv.
@@ -22,7 +22,7 @@ returns-in-Fails-clause-means g c = λ levels k gv.
     let e = c.args.self.now in
     let before = rw (c.in-Fails.is, c.words_of.ensures) at c.in_ok-value.ensures.means in
     before ns levels k gv
-    ∙ ap (λ (x : List (List ℕ)). run_words ns t (nested ns t levels) (words_from (length x) (command_at c.args.at (tree_of c.args.script.now))) x k (state_of e) e.budget gv) c.new-values.ensures
+    ∙ ap (λ (x : List (List ℕ)). run_words ns t (nested ns t levels) (words_from (length x) (command_at c.args.at (tree_of c.args.script.now))) x k (state_of e) e.budget gv) c.take-values.ensures
 
 pub returns-in-Costly-clause-means : goal.returns-in-Costly-clause-means
 returns-in-Costly-clause-means g c = λ levels k gv.
@@ -32,7 +32,7 @@ returns-in-Costly-clause-means g c = λ levels k gv.
     let before = rw (c.in-Costly.is, c.words_of.ensures) at c.in_ok-value.ensures.means in
     ap (λ (n : ℕ). run_costly (nested ns t levels) (words_from n (command_at c.args.at (tree_of c.args.script.now))) k (state_of e) e.budget gv) c.len.ensures
     ∙ before ns levels k gv
-    ∙ ap (λ (x : List (List ℕ)). run_words ns t (nested ns t levels) (words_from (length x) (command_at c.args.at (tree_of c.args.script.now))) x k (state_of e) e.budget gv) c.new-values.ensures
+    ∙ ap (λ (x : List (List ℕ)). run_words ns t (nested ns t levels) (words_from (length x) (command_at c.args.at (tree_of c.args.script.now))) x k (state_of e) e.budget gv) c.take-values.ensures
 
 pub returns-in_ok-tried-in-Stands-clause-means : goal.returns-in_ok-tried-in-Stands-clause-means
 returns-in_ok-tried-in-Stands-clause-means g c = λ levels k gv.
@@ -44,4 +44,4 @@ returns-in_ok-tried-in-Stands-clause-means g c = λ levels k gv.
     let none = rw c.len-in-Stands.ensures at c.if-has_word.ensures.there in
     c.in_ok-tried-in-Stands.ensures.means levels all none k gv
     ∙ before ns levels k gv
-    ∙ ap (λ (x : List (List ℕ)). run_words ns t (nested ns t levels) (words_from (length x) all) x k (state_of e) e.budget gv) c.new-values.ensures
+    ∙ ap (λ (x : List (List ℕ)). run_words ns t (nested ns t levels) (words_from (length x) all) x k (state_of e) e.budget gv) c.take-values.ensures
