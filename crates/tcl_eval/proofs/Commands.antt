@@ -1,5 +1,5 @@
 -- Commands that come to a value straight away.
-use Rattle.std.proofs.Common.{◌≡◌, ◌≢◌, ◌≤◌, ℕ, zero, suc, ◌+◌, ◌-◌, List, [], ◌∷◌, ◌++◌, drop, length, Bool, true, false, cond, Option, Some, None, refl, sym, ap, ◌∙◌, arith}
+use Rattle.std.proofs.Common.{◌≡◌, ◌≢◌, ◌≤◌, ℕ, zero, suc, ◌+◌, ◌-◌, List, [], ◌∷◌, ◌++◌, drop, length, Bool, true, false, cond, Option, Some, refl, sym, ap, ◌∙◌, arith}
 use Rattle.txt_core.specs.Names.{Names}
 use Rattle.tcl_parse.specs.Tree.{Words, no_words, Commands}
 use Rattle.cmd_table.specs.declared.command.Cmd.{Cmd}
@@ -8,10 +8,10 @@ use Rattle.tcl_varcmd.specs.Commands.{begins_var_command, var_came}
 use Rattle.tcl_eval.specs.State.{State, LeafTable, Given, Out, Rest, Next}
 use Rattle.tcl_eval.specs.Eval.{Inner, act, arg, built, built_in, call_native, came_next, give, on_ok, run_command, run_commands, run_words, verb_of}
 use Rattle.tcl_eval.specs.Places.{command_at, commands_from, commands_size, words_size, HasCommand}
-use Rattle.tcl_eval.specs.Straight.{IsOwn, behind_command}
-use Rattle.tcl_eval.specs.Verbs.{ValueOf}
+use Rattle.tcl_eval.specs.Straight.{IfExpr, IfGives, IfLeft, IsOwn, behind_command}
+use Rattle.tcl_eval.specs.declared.straight.Straight.{Straight}
+use Rattle.tcl_eval.specs.declared.straight.Straight.TheVariants as straight
 use Rattle.tcl_eval.specs.declared.stack.Ended.{Ended}
-use Rattle.std.specs.Prelude.{IfSome}
 use Rattle.tcl_parse.specs.declared.tree.Script as code_script
 use Rattle.tcl_eval.specs.Eval.{nested}
 use Rattle.tcl_eval.specs.Places.{tree_of}
@@ -38,14 +38,23 @@ use Rattle.tcl_eval.proofs.Alike.{Runs, run_words_alike}
 use Rattle.tcl_eval.proofs.Stacks.{pushed}
 use Rattle.tcl_eval.proofs.Steps.{other_code, handed_on}
 
--- what is known of a value is known in another way, and of none
-pub some_value : (o : Option Ended) (known wanted : Ended → Type 0) (none : Type 0) → ((v : Ended) → known v → wanted v) → none → IfSome o known → ValueOf o wanted none
-some_value None known wanted none f n h = n
-some_value (Some v) known wanted none f n h = f v h
+-- what is known of a value is known in another way
+pub same_gives : (what : Straight) (known wanted : Ended → Type 0) → ((v : Ended) → known v → wanted v) → IfGives what known → IfGives what wanted
+same_gives (straight.Gives v) known wanted f h = f v h
+same_gives straight.Expr known wanted f h = tt
+same_gives straight.Other known wanted f h = tt
 
-pub same_value : (o : Option Ended) (known wanted : Ended → Type 0) (none : Type 0) → ((v : Ended) → known v → wanted v) → ValueOf o known none → ValueOf o wanted none
-same_value None known wanted none f h = h
-same_value (Some v) known wanted none f h = f v h
+-- what is known of an `expr` is known in another way
+pub same_expr : (what : Straight) (known wanted : Type 0) → (known → wanted) → IfExpr what known → IfExpr what wanted
+same_expr (straight.Gives v) known wanted f h = tt
+same_expr straight.Expr known wanted f h = f h
+same_expr straight.Other known wanted f h = tt
+
+-- what holds anyhow holds where nothing was done
+pub left_so : (what : Straight) (fact : Type 0) → fact → IfLeft what fact
+left_so (straight.Gives v) fact h = tt
+left_so straight.Expr fact h = h
+left_so straight.Other fact h = h
 
 module _ {H : Type 0} (ns : Names) (t : LeafTable H) where
   -- a command on variables

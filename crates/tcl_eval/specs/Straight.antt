@@ -1,18 +1,23 @@
 -- Commands that come to a value straight away, and scripts whose first commands do.
-use Rattle.std.specs.Prelude.{◌≡◌, ◌≤◌, ◌<◌, ℕ, ◌+◌, ◌^◌, ◌∷◌, drop, length, Option, None, Some}
+use Rattle.std.specs.Prelude.{◌≡◌, ◌≤◌, ◌<◌, ℕ, false, ◌+◌, ◌^◌, ◌∷◌, drop, length, Option, None, Some}
 use Rattle.txt_core.specs.Names.{Words, Names}
 use Rattle.tcl_parse.specs.Tree.{Words as TreeWords, Commands}
 use Rattle.cmd_table.specs.Table.{Table, command_of}
 use Rattle.cmd_table.specs.declared.command.Cmd.TheVariants.{Built}
 use Rattle.tcl_eval.specs.State.{LeafTable, Given, Rest, Next, spent}
+use Rattle.natives.specs.Names.{has_name}
+use Rattle.tcl_varcmd.specs.Commands.{begins_var_command}
 use Rattle.tcl_eval.specs.Words.{arg}
 use Rattle.tcl_eval.specs.Going.{Inner, on_ok, give}
-use Rattle.tcl_eval.specs.Eval.{run_words, run_commands}
+use Rattle.tcl_eval.specs.Eval.{run_words, run_commands, verb_of}
 use Rattle.tcl_eval.specs.Kept.{run_costly}
 use Rattle.tcl_eval.specs.Places.{commands_from, command_at, words_from, words_size, commands_size}
 use Rattle.tcl_eval.specs.Engine.{state_of}
 use Rattle.tcl_eval.specs.declared.engine.Engine.{Engine}
 use Rattle.tcl_eval.specs.declared.stack.Ended.{Ended}
+use Rattle.tcl_eval.specs.declared.verb.Verb.TheVariants.{Expr}
+use Rattle.tcl_eval.specs.declared.straight.Straight.{Straight}
+use Rattle.tcl_eval.specs.declared.straight.Straight.TheVariants as straight
 use Rattle.tcl_eval.specs.declared.straight.Stand.{Stand}
 use Rattle.tcl_eval.specs.declared.straight.Stand.TheVariants as stand
 use Rattle.tcl_eval.specs.declared.straight.Tried.{Tried}
@@ -21,6 +26,33 @@ use Rattle.tcl_eval.specs.declared.straight.Tried.TheVariants as tried
 -- these words call a built-in by its own name
 abbrev pub IsOwn : Table → Words → Type 0
 IsOwn commands words = (command_of commands (arg words 0) ≡ Some (Built (arg words 0))) × (words ≡ arg words 0 ∷ drop 1 words)
+
+-- the first of these words is `expr`, which names neither a native nor a command on variables
+abbrev pub IsNamedExpr : Names → Words → Type 0
+IsNamedExpr natives words =
+    (has_name natives (arg words 0) ≡ false) × (begins_var_command words ≡ false) × (verb_of (arg words 0) ≡ Expr)
+
+-- these words call `expr`
+abbrev pub IsExpr : Names → Table → Words → Type 0
+IsExpr natives commands words = IsOwn commands words × IsNamedExpr natives words
+
+-- where a command came to a value, this holds of it
+abbrev pub IfGives : Straight → (Ended → Type 0) → Type 0
+IfGives (straight.Gives value) fact = fact value
+IfGives straight.Expr fact = Unit {0}
+IfGives straight.Other fact = Unit {0}
+
+-- where a command is an `expr`, this holds
+abbrev pub IfExpr : Straight → Type 0 → Type 0
+IfExpr (straight.Gives value) fact = Unit {0}
+IfExpr straight.Expr fact = fact
+IfExpr straight.Other fact = Unit {0}
+
+-- where nothing of a command was done, this holds
+abbrev pub IfLeft : Straight → Type 0 → Type 0
+IfLeft (straight.Gives value) fact = Unit {0}
+IfLeft straight.Expr fact = fact
+IfLeft straight.Other fact = fact
 
 module _ {H : Type 0} where
   -- this value, and the new state, is what a way to go on comes to from the old one, whatever comes next and is left of the budget

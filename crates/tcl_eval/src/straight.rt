@@ -1,7 +1,7 @@
 //! Commands that come to a value straight away, for which nothing is put on the stack.
 
-ghost use Rattle.std.specs.Prelude.{◌≡◌, ◌≤◌, ◌^◌, ◌+◌, ◌-◌, ℕ, [], drop, false, length, IfOk, IfSome, OnOk, IsTrue, true};
-ghost use Rattle.natives.specs.Names.{has_name, names_of};
+ghost use Rattle.std.specs.Prelude.{◌≡◌, ◌≤◌, ◌^◌, ◌+◌, ◌-◌, ℕ, [], drop, length, IfOk, IfSome, OnOk, IsTrue, true};
+ghost use Rattle.natives.specs.Names.{names_of};
 ghost use Rattle.tcl_expr.specs.Reading.{expression_of};
 ghost use Rattle.tcl_eval.specs.Expressions.{run_answer, value_end};
 ghost use Rattle.tcl_eval.specs.declared.verb.Verb.{Verb};
@@ -11,9 +11,8 @@ ghost use Rattle.txt_core.specs.Names.{Names};
 ghost use Rattle.tcl_eval.specs.State.{Given, Next};
 ghost use Rattle.tcl_eval.specs.Eval.{Inner, act, arg, built, built_in, came_next, joined, command_end, give, nested, on_ok, run_commands, run_words, verb_of};
 ghost use Rattle.tcl_eval.specs.Places.{tree_of, command_at, commands_from, commands_size, words_from, words_size};
-ghost use Rattle.tcl_eval.specs.Straight.{Alike, Does, IsDone, IsOwn, IsWithin, LeftAlone, Straightly, paid_next, tried_next, tried_size, stand_next, stand_size};
+ghost use Rattle.tcl_eval.specs.Straight.{Alike, Does, IfExpr, IfGives, IfLeft, IsDone, IsExpr, IsNamedExpr, IsOwn, IsWithin, LeftAlone, Straightly, paid_next, tried_next, tried_size, stand_next, stand_size};
 ghost use Rattle.tcl_eval.specs.Engine.{Holds, state_of};
-ghost use Rattle.tcl_eval.specs.Verbs.{ValueOf};
 
 use crate::bracket::Passed;
 use crate::cost::{EVALUATION_COST, result_cost};
@@ -31,7 +30,6 @@ use crate::verb::{Verb, find_verb};
 use crate::words::{begins_with, behind_name, first_word, joined};
 use cmd_table::Cmd;
 use natives::{Fault, Natives};
-use std::alloc::Global;
 use tcl_host::{Host, OK};
 use tcl_parse::Script;
 use tcl_varcmd::{is_var_command, var_command};
@@ -50,6 +48,17 @@ pub enum Tried {
     Costly(usize),
 }
 
+/// What a command comes to whose words are all there, and which can be paid for.
+#[derive(Drop)]
+pub enum Straight {
+    /// This.
+    Gives(Ended),
+    /// It is an `expr`. Nothing of it was done.
+    Expr,
+    /// It doesn't come to a value straight away. Nothing of it was done.
+    Other,
+}
+
 /// Where a script stands whose first commands were done straight away.
 #[derive(Drop)]
 pub enum Stand {
@@ -63,14 +72,6 @@ pub enum Stand {
     Costly { at: usize, word: usize },
 }
 
-/// Whether words begin with the name of a native.
-fn is_native(alloc: Global, natives: &Natives, words: &Words) -> bool
-    ensures { result ≡ has_name (names_of natives.now) (arg words.now 0) }
-{
-    let empty = Text::empty(alloc);
-    natives.find(first_word(words, &empty)).is_some()
-}
-
 #[tactic(auto, using(crate::proofs::Stacks::frees_push))]
 impl<H: Host> Engine<H> {
     /// Whether words call a built-in by its own name.
@@ -82,21 +83,6 @@ impl<H: Host> Engine<H> {
             Some(Cmd::Built(own)) => begins_with(words, own),
             Some(Cmd::Proc { .. }) | None => false,
         }
-    }
-
-    /// Whether words call a built-in of the language by its own name: no native, and no command on variables.
-    fn is_language(&self, natives: &Natives, words: &Words) -> bool
-        ensures own { IsTrue result → IsOwn self.now.table.table words.now }
-        ensures native { IsTrue result → has_name (names_of natives.now) (arg words.now 0) ≡ false }
-        ensures variable { IsTrue result → begins_var_command words.now ≡ false }
-    {
-        if is_native(self.alloc, natives, words) {
-            return false;
-        }
-        if is_var_command(words) {
-            return false;
-        }
-        self.is_own(words)
     }
 
     /// Does a command on variables.
@@ -131,33 +117,48 @@ impl<H: Host> Engine<H> {
         Ok(Some(value))
     }
 
+    /// Does a built-in of the language, whose own name is the first word, where it ends what is under way.
+    fn language_value(&self, words: &Words) -> Result<Straight, NoMemory>
+        ensures means { IfOk result (λ straight. IfGives straight (λ ended.
+            (names : Names) (inner : Inner H) (k : Next H)
+            → give ended k
+            ≡ built_in names H.table inner (verb_of (arg words.now 0)) words.now k)) }
+        ensures expr { IfOk result (λ straight.
+            IfExpr straight (verb_of (arg words.now 0) ≡ Verb.Expr)) }
+    {
+        let verb = find_verb(words.bytes_at(0));
+        if verb == Verb::Expr {
+            return Ok(Straight::Expr);
+        }
+        match self.end_value(verb, words)? {
+            None => Ok(Straight::Other),
+            Some(value) => Ok(Straight::Gives(value)),
+        }
+    }
+
     /// Does a built-in, whose own name is the first word, where it comes to a value straight away.
-    fn built_value(
-        &mut self,
-        natives: &Natives,
-        verb: Verb,
-        words: &Words,
-    ) -> Result<Option<Ended>, NoMemory>
-        requires { verb ≡ verb_of (arg words.now 0) }
-        ensures means { IfOk result (λ value.
-            ValueOf value
-            (λ ended. (inner : Inner H)
-            → Does self.new self.old ended (built (names_of natives.now) H.table inner words.now))
-            (self.new ≡ self.old)) }
+    fn built_value(&mut self, natives: &Natives, words: &Words) -> Result<Straight, NoMemory>
+        ensures means { IfOk result (λ straight. IfGives straight (λ ended.
+            (inner : Inner H)
+            → Does self.new self.old ended
+            (built (names_of natives.now) H.table inner words.now))) }
+        ensures expr { IfOk result (λ straight.
+            IfExpr straight (IsNamedExpr (names_of natives.now) words.now)) }
+        ensures left { IfOk result (λ straight. IfLeft straight (self.new ≡ self.old)) }
         ensures rest { OnOk result (self.new ≡ record self.old { frames = self.new.frames }) }
         ensures holds { Holds self.new self.old }
     {
         let empty = Text::empty(self.alloc);
         if let Some(native) = natives.find(first_word(words, &empty)) {
             let value = self.call_native(native, words)?;
-            return Ok(Some(value));
+            return Ok(Straight::Gives(value));
         }
         if is_var_command(words) {
             let value = self.write_variables(words)?;
-            return Ok(Some(value));
+            return Ok(Straight::Gives(value));
         }
-        let value = self.end_value(verb, words)?;
-        Ok(value)
+        let straight = self.language_value(words)?;
+        Ok(straight)
     }
 
     /// Notes that the name of a command is looked up, which changes nothing that a run can tell.
@@ -168,31 +169,24 @@ impl<H: Host> Engine<H> {
         self.table.note(first_word(words, &empty));
     }
 
-    /// What a command comes to for which nothing is put on the stack; `None` for another one, of which
-    /// nothing is done.
-    fn straight_value(
-        &mut self,
-        natives: &Natives,
-        verb: Verb,
-        words: &Words,
-    ) -> Result<Option<Ended>, NoMemory>
-        requires { verb ≡ verb_of (arg words.now 0) }
-        ensures means { IfOk result (λ value.
-            ValueOf value
-            (λ ended. (inner : Inner H)
-            → Does self.new self.old ended (act (names_of natives.now) H.table inner words.now))
-            (self.new ≡ self.old)) }
+    /// Does a command for which nothing is put on the stack.
+    fn straight_value(&mut self, natives: &Natives, words: &Words) -> Result<Straight, NoMemory>
+        ensures means { IfOk result (λ straight. IfGives straight (λ ended.
+            (inner : Inner H)
+            → Does self.new self.old ended
+            (act (names_of natives.now) H.table inner words.now))) }
+        ensures expr { IfOk result (λ straight.
+            IfExpr straight
+            (IsExpr (names_of natives.now) self.old.table.table words.now)) }
+        ensures left { IfOk result (λ straight. IfLeft straight (self.new ≡ self.old)) }
         ensures rest { OnOk result (self.new ≡ record self.old { frames = self.new.frames }) }
         ensures holds { Holds self.new self.old }
     {
-        if verb.runs_text() {
-            return Ok(None);
-        }
         if !self.is_own(words) {
-            return Ok(None);
+            return Ok(Straight::Other);
         }
-        let value = self.built_value(natives, verb, words)?;
-        Ok(value)
+        let straight = self.built_value(natives, words)?;
+        Ok(straight)
     }
 
     /// Pays for the result of a command; `None` where it costs more than is left of the budget.
@@ -274,16 +268,15 @@ impl<H: Host> Engine<H> {
 
     /// Does an `expr` whose words are all there, and pays for it, where nothing is run for it and so much
     /// is left of the budget.
-    fn try_expr(&mut self, natives: &Natives, values: Gathered) -> Result<Tried, NoMemory>
-        requires { verb_of (arg values 0) ≡ Verb.Expr }
+    fn try_expr(&mut self, values: Gathered) -> Result<Tried, NoMemory>
         ensures means { IfOk result (λ tried.
-            (levels : ℕ) (words : Words) → words_from (length values) words ≡ no_words
+            (names : Names) (levels : ℕ) (words : Words)
+            → IsExpr names self.old.table.table values
+            → words_from (length values) words ≡ no_words
             → Alike self.new self.old
-            (tried_next (names_of natives.now) H.table
-            (nested (names_of natives.now) H.table levels) words tried)
-            (run_words (names_of natives.now) H.table
-            (nested (names_of natives.now) H.table levels) (words_from (length values) words)
-            values)) }
+            (tried_next names H.table (nested names H.table levels) words tried)
+            (run_words names H.table (nested names H.table levels)
+            (words_from (length values) words) values)) }
         ensures size { IfOk result (λ tried.
             (words : Words)
             → tried_size words tried ≤ words_size (words_from (length values) words)) }
@@ -296,9 +289,6 @@ impl<H: Host> Engine<H> {
         }
         let cost = values.cost().saturating_add(EVALUATION_COST);
         if (self.budget as u128) < cost {
-            return Ok(Tried::Left(values));
-        }
-        if !self.is_language(natives, values.words()) {
             return Ok(Tried::Left(values));
         }
         match self.expr_value(values.words())? {
@@ -334,14 +324,13 @@ impl<H: Host> Engine<H> {
             return Ok(Tried::Left(values));
         }
         self.note_name(values.words());
-        let verb = find_verb(values.words().bytes_at(0));
-        if verb == Verb::Expr {
-            let tried = self.try_expr(natives, values)?;
-            return Ok(tried);
-        }
-        match self.straight_value(natives, verb, values.words())? {
-            None => Ok(Tried::Left(values)),
-            Some(value) => {
+        match self.straight_value(natives, values.words())? {
+            Straight::Other => Ok(Tried::Left(values)),
+            Straight::Expr => {
+                let tried = self.try_expr(values)?;
+                Ok(tried)
+            }
+            Straight::Gives(value) => {
                 self.spare.put(values);
                 let tried = self.pay_tried(cost as u64, value)?;
                 Ok(tried)

@@ -1,8 +1,7 @@
 //! The built-ins that the engine does itself.
 
-ghost use Rattle.std.specs.Prelude.{◌≡◌, IsTrue};
+ghost use Rattle.std.specs.Prelude.{◌≡◌};
 ghost use Rattle.tcl_eval.specs.Eval.{verb_of};
-ghost use Rattle.tcl_eval.specs.Verbs.{IsRunning};
 
 /// A built-in that the engine does itself, or one of the host's.
 #[derive(Clone, Copy, Debug, PartialEq, Eq)]
@@ -23,32 +22,6 @@ pub enum Verb {
     Switch,
     Info,
     Other,
-}
-
-impl Verb {
-    /// Whether it runs a text.
-    pub fn runs_text(self) -> bool
-        ensures { IsTrue result → IsRunning self }
-    {
-        match self {
-            Verb::Eval
-            | Verb::Catch
-            | Verb::Expr
-            | Verb::If
-            | Verb::While
-            | Verb::For
-            | Verb::Foreach
-            | Verb::Switch => true,
-            Verb::Proc
-            | Verb::Return
-            | Verb::Error
-            | Verb::Break
-            | Verb::Continue
-            | Verb::Rename
-            | Verb::Info
-            | Verb::Other => false,
-        }
-    }
 }
 
 /// The built-in of a name.

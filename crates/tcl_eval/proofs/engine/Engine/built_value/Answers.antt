@@ -1,9 +1,7 @@
-use Rattle.std.proofs.Common.{◌∙◌, sym, ap, refl}
+use Rattle.std.proofs.Common.{sym, ap, refl}
 use Rattle.natives.specs.Names.{names_of}
-use Rattle.tcl_eval.specs.Eval.{built_in}
 use Rattle.tcl_eval.specs.Engine.{state_of}
-use Rattle.tcl_eval.specs.declared.verb.Verb.{Verb}
-use Rattle.tcl_eval.proofs.Commands.{some_value, variable_built, end_built}
+use Rattle.tcl_eval.proofs.Commands.{same_gives, same_expr, left_so, variable_built, end_built}
 use Rattle.tcl_eval.proofs.engine.Engine.built_value.Goals as goal
 
 pub returns-then-is_var_command-clause-means : goal.returns-then-is_var_command-clause-means
@@ -18,6 +16,14 @@ returns-clause-means g c =
     let t = g.H.Host.table in
     let e = c.args.self.now in
     let no = rw c.first_word.ensures at (sym c.in_default.ensures.there) in
-    some_value c.in_ok-value-3.value _ _ _
-    (λ v means inner k b gv. end_built ns t inner c.args.words.now k (state_of e) b gv _ no (sym c.if-is_var_command.ensures) (ap (λ way. way (state_of e) b gv) (means ns inner k) ∙ ap (λ (verb : Verb). built_in ns t inner verb c.args.words.now k (state_of e) b gv) c.requires))
-    refl c.in_ok-value-3.ensures.means
+    same_gives c.in_ok-straight.straight _ _
+    (λ v means inner k b gv. end_built ns t inner c.args.words.now k (state_of e) b gv _ no (sym c.if-is_var_command.ensures) (ap (λ way. way (state_of e) b gv) (means ns inner k)))
+    c.in_ok-straight.ensures.means
+
+pub returns-clause-expr : goal.returns-clause-expr
+returns-clause-expr g c =
+    let no = rw c.first_word.ensures at (sym c.in_default.ensures.there) in
+    same_expr c.in_ok-straight.straight _ _ (λ verb. (no, sym c.if-is_var_command.ensures, verb)) c.in_ok-straight.ensures.expr
+
+pub returns-clause-left : goal.returns-clause-left
+returns-clause-left g c = left_so c.in_ok-straight.straight _ refl

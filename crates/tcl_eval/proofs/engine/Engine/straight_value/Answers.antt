@@ -1,6 +1,6 @@
 use Rattle.natives.specs.Names.{names_of}
 use Rattle.tcl_eval.specs.Engine.{state_of}
-use Rattle.tcl_eval.proofs.Commands.{same_value, own_act}
+use Rattle.tcl_eval.proofs.Commands.{same_gives, same_expr, own_act}
 use Rattle.tcl_eval.proofs.engine.Engine.straight_value.Goals as goal
 
 pub returns-clause-means : goal.returns-clause-means
@@ -8,6 +8,10 @@ returns-clause-means g c =
     let ns = names_of c.args.natives.now in
     let t = g.H.Host.table in
     let e = c.args.self.now in
-    same_value c.in_ok-value.value _ _ _
+    same_gives c.in_ok-straight.straight _ _
     (λ v means inner k b gv. own_act ns t inner c.args.words.now k (state_of e) b gv _ (c.is_own.ensures c.if-not-is_own.false) (means inner k b gv))
-    c.in_ok-value.ensures.means
+    c.in_ok-straight.ensures.means
+
+pub returns-clause-expr : goal.returns-clause-expr
+returns-clause-expr g c =
+    same_expr c.in_ok-straight.straight _ _ (λ named. (c.is_own.ensures c.if-not-is_own.false, named)) c.in_ok-straight.ensures.expr
