@@ -3,12 +3,17 @@ use Rattle.std.specs.Prelude.{◌≡◌, List, ◌++◌, Option, Some, None, Res
 use Rattle.std.specs.declared.alloc.Global.{Global}
 use Rattle.txt_core.specs.Names.{Bytes}
 use Rattle.tcl_eval.specs.declared.parameter.Parameter.{Parameter}
-use Rattle.tcl_eval.specs.Parameters.{Values}
+use Rattle.tcl_eval.specs.Parameters.{Values, parameters}
 
 -- parameters in a vector are those of a list, and an error is an error
 abbrev pub ParametersAre : Result (Vec Parameter Global) Bytes → Result (List Parameter) Bytes → Type 0
 ParametersAre (Ok found) meant = meant ≡ Ok found.items
 ParametersAre (Err message) meant = meant ≡ Err message
+
+-- what was read is this text, and an error is what is wrong with it
+abbrev pub ReadAs : Result Bytes Bytes → Bytes → Type 0
+ReadAs (Ok read) text = read ≡ text
+ReadAs (Err message) text = parameters text ≡ Err message
 
 abbrev pub ValuesAre : Result Values Bytes → Result Values Bytes → Type 0
 ValuesAre found meant = meant ≡ found

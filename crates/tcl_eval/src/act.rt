@@ -19,7 +19,7 @@ ghost use Rattle.tcl_eval.specs.declared.engine.OpenQuestion.{OpenQuestion};
 
 use crate::engine::{Engine, OpenQuestion};
 use crate::message::{command_exists, no_command, variable_fault};
-use crate::parameter::{bound, parameters};
+use crate::parameter::parameters;
 use crate::stack::{Acted, Ended, Frame};
 use crate::value::{
     do_break, do_continue, do_error, do_return, done, error, failed, too_long, wrong_words,
@@ -643,7 +643,7 @@ impl<H: Host> Engine<H> {
         ensures opens { IfOk result (λ acted. Opens acted self.new self.old) }
         ensures holds { Holds self.new self.old }
     {
-        let values = match bound(self.alloc, params, words)? {
+        let values = match self.readings.bind(self.alloc, params, words)? {
             Err(message) => return Ok(Acted::Gives(error(self.alloc, message)?)),
             Ok(values) => values,
         };

@@ -24,6 +24,7 @@ mod page;
 mod parameter;
 mod place;
 mod read_expr;
+mod read_parameters;
 mod readings;
 mod run;
 mod settle;

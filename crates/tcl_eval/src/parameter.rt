@@ -1,9 +1,9 @@
 //! The parameters of procedures.
 
-ghost use Rattle.std.specs.Prelude.{◌≡◌, ◌++◌, ◌∷◌, [], IfOk, OnOk, drop};
+ghost use Rattle.std.specs.Prelude.{◌≡◌, ◌++◌, ◌∷◌, [], IfOk, Ok, OnOk, drop};
 ghost use Rattle.tcl_eval.specs.Words.{arg};
 ghost use Rattle.txt_core.specs.Quoting.{quoting};
-ghost use Rattle.tcl_eval.specs.Parameters.{parameter, read_all, parameters, bind, bound};
+ghost use Rattle.tcl_eval.specs.Parameters.{parameter, read_all, parameters, bind, bound_by};
 ghost use Rattle.tcl_eval.specs.ParametersSeen.{ParametersAre, ValuesAre};
 
 use crate::words::{behind_name, copy_word};
@@ -115,15 +115,15 @@ fn bind(alloc: Global, parameters: &[Parameter], words: &[Text]) -> Result<Optio
 }
 
 /// The values of a procedure's parameters, for the words of a call, or the text of the error.
-pub fn bound(alloc: Global, params: &Text, words: &Words) -> Result<Result<Pairs, Text>, NoMemory>
+pub fn bound_by(
+    alloc: Global,
+    parameters: &[Parameter],
+    words: &Words,
+) -> Result<Result<Pairs, Text>, NoMemory>
     ensures { IfOk result (λ found.
-        ValuesAre found (bound params.now (arg words.now 0) (drop 1 words.now))) }
+        ValuesAre found (bound_by (Ok parameters.now) (arg words.now 0) (drop 1 words.now))) }
 {
-    let all = match parameters(alloc, params)? {
-        Err(message) => return Ok(Err(message)),
-        Ok(all) => all,
-    };
-    match bind(alloc, all.as_slice(), behind_name(words))? {
+    match bind(alloc, parameters, behind_name(words))? {
         None => Ok(Err(wrong_words(alloc, words.bytes_at(0))?)),
         Some(values) => Ok(Ok(values)),
     }

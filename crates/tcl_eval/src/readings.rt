@@ -1,10 +1,12 @@
 //! What an engine keeps of the texts that it read.
 
-ghost use Rattle.std.specs.Prelude.{◌≡◌, ◌≤◌, IfOk, OnOk, Option, length};
+ghost use Rattle.std.specs.Prelude.{◌≡◌, ◌≤◌, IfOk, OnOk, Option, drop, length};
 ghost use Rattle.txt_core.specs.Names.{Bytes, Names};
 ghost use Rattle.parse_cache.specs.Readings.{IsReading};
 ghost use Rattle.tcl_eval.specs.Eval.{arg, run_script, unread};
 ghost use Rattle.tcl_eval.specs.Engine.{Same, Holds, Enters, Opens, Lower, credit, acted_next};
+ghost use Rattle.tcl_eval.specs.Parameters.{bound};
+ghost use Rattle.tcl_eval.specs.ParametersSeen.{ValuesAre};
 ghost use Rattle.tcl_eval.specs.Short.{IsShort};
 ghost use Rattle.tcl_eval.specs.declared.engine.OpenQuestion.{OpenQuestion};
 
@@ -12,25 +14,29 @@ use crate::engine::Engine;
 use crate::expression_cache::{Expressions, MOST_KEPT, is_short};
 use crate::latest::{Latest, find_latest, put_latest};
 use crate::message::script_fault;
+use crate::parameter::bound_by;
 use crate::read_expr::ReadExpr;
+use crate::read_parameters::{ReadParameters, find_parameters};
 use crate::stack::{Acted, Frame};
 use crate::value::{done, error};
 use crate::words::copy_word;
+use natives::Places;
 use parse_cache::{Cache, ReadScript, Reading};
 use std::alloc::Global;
 use std::marker::Model;
 use std::rc::Rc;
 use tcl_host::Host;
-use txt_core::{NoMemory, Text, Words};
+use txt_core::{NoMemory, Pairs, Text, Words};
 
-/// The scripts and the expressions that an engine keeps by their texts, scripts from its first start
-/// on. Contracts see nothing of them, as what is kept changes no run.
+/// The scripts, the expressions and the parameters that an engine keeps by their texts, scripts from its
+/// first start on. Contracts see nothing of them, as what is kept changes no run.
 #[derive(Drop)]
 pub(crate) struct Readings {
     scripts: Option<Cache>,
     latest: Latest,
     found: u64,
     expressions: Expressions,
+    parameters: Places<ReadParameters>,
 }
 
 impl Model for Readings {
@@ -49,6 +55,7 @@ impl Readings {
             latest: Latest::new(alloc),
             found: 0,
             expressions: Expressions::new(alloc),
+            parameters: Places::new(alloc),
         }
     }
 
@@ -142,6 +149,40 @@ impl Readings {
         }
     }
 
+    /// The values of a procedure's parameters, which this text lists, for the words of a call, or the text
+    /// of the error. The only other error is want of memory.
+    #[tactic(auto, using(crate::proofs::Parameters::bound_read, crate::proofs::Parameters::bound_wrong))]
+    pub(crate) fn bind(
+        &mut self,
+        alloc: Global,
+        params: &Text,
+        words: &Words,
+    ) -> Result<Result<Pairs, Text>, NoMemory>
+        ensures { IfOk result (λ found.
+            ValuesAre found (bound params.now (arg words.now 0) (drop 1 words.now))) }
+    {
+        if let Some(all) = find_parameters(&self.parameters, params) {
+            let values = bound_by(alloc, all, words)?;
+            return Ok(values);
+        }
+        match ReadParameters::new(alloc, params)? {
+            Err(message) => Ok(Err(message)),
+            Ok(read) => {
+                let values = bound_by(alloc, read.all(), words)?;
+                self.keep_parameters(params, read);
+                Ok(values)
+            }
+        }
+    }
+
+    /// Keeps the parameters of a short text. Where memory wants, they aren't kept.
+    fn keep_parameters(&mut self, text: &Text, read: ReadParameters) {
+        if !is_short(text) {
+            return;
+        }
+        let _kept = self.parameters.put(text.bytes(), read);
+    }
+
     /// Lets go all that is kept, as where memory wants. It takes no memory.
     #[cold]
     #[inline(never)]
@@ -150,6 +191,7 @@ impl Readings {
         self.latest.clear();
         self.found = 0;
         self.expressions.clear();
+        self.parameters.clear();
     }
 
     /// How often a text was read whose script was kept. It takes no memory.
