@@ -33,6 +33,7 @@ pub mod Stack
 pub mod Straight
 pub mod Brackets
 pub mod Chosen
+pub mod Choices
 pub mod Turns
 pub mod AtOnce
 pub mod ExprReadings

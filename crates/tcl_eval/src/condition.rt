@@ -5,6 +5,7 @@ ghost use Rattle.txt_core.specs.Names.{Names};
 ghost use Rattle.tcl_eval.specs.Eval.{nested, do_if};
 ghost use Rattle.tcl_eval.specs.Branches.{choose};
 ghost use Rattle.tcl_eval.specs.Chosen.{IsClause, chosen_next};
+ghost use Rattle.tcl_eval.specs.Choices.{PaidAlone};
 ghost use Rattle.tcl_eval.specs.Straight.{Alike, Straightly};
 ghost use Rattle.tcl_eval.specs.Stack.{branch_next, branch_free};
 ghost use Rattle.tcl_eval.specs.Engine.{Holds, Nears, Same, Opens, Enters, Lower, Remains, acted_next, credit, gone_next};
@@ -42,7 +43,8 @@ pub enum Chosen<'a> {
 #[tactic(auto, using(crate::proofs::Stacks::frees_push))]
 impl<H: Host> Engine<H> {
     /// Goes over the conditions from a place on, as far as nothing is run for them.
-    fn choose_straight<'a>(
+    #[tactic(auto, using(crate::proofs::Stacks::frees_push, crate::proofs::Choices::paid_both))]
+    pub(crate) fn choose_straight<'a>(
         &mut self,
         branches: &'a Branches,
         at: usize,
@@ -53,6 +55,7 @@ impl<H: Host> Engine<H> {
             (chosen_next (nested names H.table levels) branches.now chosen)
             (choose (nested names H.table levels) (drop at branches.now.clauses)
             branches.now.last)) }
+        ensures rest { OnOk result (PaidAlone self.new self.old) }
         ensures asks { IfOk result (λ chosen. IsClause branches.now chosen) }
         ensures straight { OnOk result (Straightly self.new self.old) }
         ensures holds { Holds self.new self.old }

@@ -7,6 +7,7 @@ ghost use Rattle.parse_cache.specs.Readings.{IsReading};
 ghost use Rattle.tcl_host.specs.Codes as code_of;
 ghost use Rattle.tcl_eval.specs.State.{Rest};
 ghost use Rattle.tcl_eval.specs.Eval.{Inner, by_truth, evaluation_cost, nested, on_ok, pay, run_commands, run_script, unread};
+ghost use Rattle.tcl_eval.specs.Choices.{PaidAlone};
 ghost use Rattle.tcl_eval.specs.Expressions.{test};
 ghost use Rattle.tcl_eval.specs.Loops.{between, in_loop, turn_body, turns};
 ghost use Rattle.tcl_eval.specs.Places.{tree_of};
@@ -200,6 +201,7 @@ impl<H: Host> Engine<H> {
     }
 
     /// Pays for a condition that came to this.
+    #[tactic(auto, using(crate::proofs::Stacks::frees_push, crate::proofs::Choices::paid_none, crate::proofs::Choices::paid_so))]
     fn pay_tested(&mut self, value: Ended) -> Result<Tested, NoMemory>
         ensures means { IfOk result (λ tested.
             (inner : Inner H) (text : Bytes) (second : Rest H)
@@ -209,6 +211,7 @@ impl<H: Host> Engine<H> {
             pay evaluation_cost
             (on_ok (λ v. by_truth v first second k) k value.code value.result))) }
         ensures pays { IfOk result (λ tested. TestPays tested self.new self.old) }
+        ensures rest { OnOk result (PaidAlone self.new self.old) }
         ensures straight { OnOk result (Straightly self.new self.old) }
         ensures holds { Holds self.new self.old }
     {
@@ -228,6 +231,7 @@ impl<H: Host> Engine<H> {
             tested_next (nested names H.table levels) condition.now tested first second k)
             (λ first k. test (nested names H.table levels) condition.now first second k)) }
         ensures pays { IfOk result (λ tested. TestPays tested self.new self.old) }
+        ensures rest { OnOk result (PaidAlone self.new self.old) }
         ensures straight { OnOk result (Straightly self.new self.old) }
         ensures holds { Holds self.new self.old }
     {

@@ -75,7 +75,7 @@ pub enum Stand {
 #[tactic(auto, using(crate::proofs::Stacks::frees_push))]
 impl<H: Host> Engine<H> {
     /// Whether words call a built-in by its own name.
-    fn is_own(&self, words: &Words) -> bool
+    pub(crate) fn is_own(&self, words: &Words) -> bool
         ensures { IsTrue result → IsOwn self.now.table.table words.now }
     {
         let empty = Text::empty(self.alloc);
@@ -206,6 +206,23 @@ impl<H: Host> Engine<H> {
         Ok(Some(value))
     }
 
+    /// Pays for the result of a command that came to this value.
+    pub(crate) fn end_tried(&mut self, value: Ended) -> Result<Tried, NoMemory>
+        ensures means { IfOk result (λ tried.
+            (names : Names) (inner : Inner H) (words : Words) (k : Next H) (given : Given)
+            → tried_next names H.table inner words tried k (state_of self.new) self.new.budget given
+            ≡ command_end k value.code value.result (state_of self.old) self.old.budget given) }
+        ensures size { IfOk result (λ tried. (words : Words) → tried_size words tried ≡ 0) }
+        ensures done { IfOk result IsDone }
+        ensures straight { OnOk result (Straightly self.new self.old) }
+        ensures holds { Holds self.new self.old }
+    {
+        match self.pay_result(value)? {
+            None => Ok(Tried::Spent),
+            Some(value) => Ok(Tried::Gives(value)),
+        }
+    }
+
     /// Pays for a command of this cost, which came to this value.
     fn pay_tried(&mut self, cost: u64, value: Ended) -> Result<Tried, NoMemory>
         requires { cost ≤ self.old.budget }
@@ -220,10 +237,8 @@ impl<H: Host> Engine<H> {
         ensures holds { Holds self.new self.old }
     {
         self.budget -= cost;
-        match self.pay_result(value)? {
-            None => Ok(Tried::Spent),
-            Some(value) => Ok(Tried::Gives(value)),
-        }
+        let tried = self.end_tried(value)?;
+        Ok(tried)
     }
 
     /// What an `expr` of a text that was read comes to, where nothing is run for it; `None` where something
@@ -303,7 +318,11 @@ impl<H: Host> Engine<H> {
 
     /// Does a command whose words are all there, and pays for it, where it comes to a value straight
     /// away and so much is left of the budget.
-    fn try_command(&mut self, natives: &Natives, values: Gathered) -> Result<Tried, NoMemory>
+    pub(crate) fn try_command(
+        &mut self,
+        natives: &Natives,
+        values: Gathered,
+    ) -> Result<Tried, NoMemory>
         ensures means { IfOk result (λ tried.
             (levels : ℕ) (words : Words) → words_from (length values) words ≡ no_words
             → Alike self.new self.old
@@ -405,7 +424,7 @@ impl<H: Host> Engine<H> {
             match self.pass_words(natives, all, &mut values, levels)? {
                 Passed::On => {}
                 Passed::All => {
-                    let tried = self.try_command(natives, values)?;
+                    let tried = self.try_whole(natives, values, levels)?;
                     return Ok(tried);
                 }
                 Passed::Ends(value) => return Ok(Tried::Gives(value)),

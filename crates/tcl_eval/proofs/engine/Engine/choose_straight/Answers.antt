@@ -5,6 +5,7 @@ use Rattle.tcl_eval.specs.Eval.{give, nested, unread}
 use Rattle.tcl_eval.specs.declared.stack.Ended.{Ended}
 use Rattle.tcl_eval.specs.Engine.{state_of}
 use Rattle.tcl_eval.proofs.Branches.{choose_last, choose_tested, dropped}
+use Rattle.tcl_eval.proofs.Choices.{paid_both}
 use Rattle.tcl_eval.proofs.Counts.{held_both}
 use Rattle.tcl_eval.proofs.engine.Engine.choose_straight.Goals as goal
 
@@ -25,6 +26,7 @@ conditions-preserved g c =
           ap (λ (cs : List (List ℕ × List ℕ)). choose inner cs all.last k (state_of new) new.budget gv) (dropped all.clauses at 1 _ past)
           ∙ choose_tested ns g.H.Host.table inner all clause _ at k (state_of e) e.budget gv _ c.in-Some.ensures (c.deref.ensures ∙ c.in_ok-condition.ensures) (did ns levels (choose inner (drop (at + 1) all.clauses) all.last k) (inner.run (unread clause.1) k) k gv)
           ∙ c.conditions.invariant.means ns levels k gv;
+      rest = paid_both new e c.args.self.now c.in_ok-test_straight.ensures.rest c.conditions.invariant.rest;
       straight = (omega (arith, straight.0, before.0), straight.1 ∙ before.1, straight.2 ∙ before.2);
       holds = held_both new e c.args.self.now c.in_ok-test_straight.ensures.holds c.conditions.invariant.holds;
     }
@@ -102,3 +104,15 @@ returns-in-Some-last-clause-means g c = λ ns levels k gv.
     let all = c.args.branches.now in
     choose_last ns g.H.Host.table inner all c.conditions.at (Some c.in-Some-last.body) k (state_of e) e.budget gv _ c.in_default.ensures (sym c.in-Some-last.is) refl
     ∙ c.conditions.invariant.means ns levels k gv
+
+pub returns-in-Holds-clause-rest : goal.returns-in-Holds-clause-rest
+returns-in-Holds-clause-rest g c = paid_both c.test_straight.new.self c.conditions.self c.args.self.now c.in_ok-test_straight.ensures.rest c.conditions.invariant.rest
+
+pub returns-in-Ends-clause-rest : goal.returns-in-Ends-clause-rest
+returns-in-Ends-clause-rest g c = paid_both c.test_straight.new.self c.conditions.self c.args.self.now c.in_ok-test_straight.ensures.rest c.conditions.invariant.rest
+
+pub returns-in-Spent-clause-rest : goal.returns-in-Spent-clause-rest
+returns-in-Spent-clause-rest g c = paid_both c.test_straight.new.self c.conditions.self c.args.self.now c.in_ok-test_straight.ensures.rest c.conditions.invariant.rest
+
+pub returns-in-Left-clause-rest : goal.returns-in-Left-clause-rest
+returns-in-Left-clause-rest g c = paid_both c.test_straight.new.self c.conditions.self c.args.self.now c.in_ok-test_straight.ensures.rest c.conditions.invariant.rest

@@ -43,7 +43,7 @@ pub returns-in-All-clause-means : goal.returns-in-All-clause-means
 returns-in-All-clause-means g c = λ k gv.
     let did = rw (c.in-All.is, c.words_of-all.ensures) at c.in_ok-pass_words.ensures.means in
     let none = rw (c.in-All.is, c.words_of-all.ensures) at c.in_ok-pass_words.ensures.less in
-    c.in_ok-tried-in-All.ensures.means c.args.levels (command_at c.args.at (tree_of c.args.script.now)) none k gv
+    c.in_ok-tried-in-All.ensures.means (command_at c.args.at (tree_of c.args.script.now)) none k gv
     ∙ did k gv ∙ c.words.invariant.means k gv
 
 pub returns-in-Ends-clause-means : goal.returns-in-Ends-clause-means
