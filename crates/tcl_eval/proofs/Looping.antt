@@ -1,5 +1,5 @@
 -- Turns of loops for which nothing is put on the stack.
-use Rattle.std.proofs.Common.{◌≡◌, ◌≢◌, ◌≤◌, ◌<◌, ℕ, zero, suc, ◌+◌, ◌-◌, List, [], ◌∷◌, ◌++◌, length, drop, Bool, true, false, cond, nat_lt, Option, Some, None, refl, sym, ap, ◌∙◌, arith}
+use Rattle.std.proofs.Common.{◌≡◌, ◌≤◌, ◌<◌, ℕ, suc, ◌+◌, ◌-◌, List, [], ◌∷◌, ◌++◌, length, drop, Bool, cond, nat_lt, Option, Some, None, refl, sym, ap, ◌∙◌, arith}
 use Rattle.std.proofs.lemmas.Bool.{le-ltb}
 use Rattle.txt_core.specs.Names.{Names}
 use Rattle.txt_core.specs.Truth.{truth}
@@ -11,10 +11,10 @@ use Rattle.tcl_parse.specs.View.{script_of}
 use Rattle.tcl_expr.specs.Grammar.{Reads}
 use Rattle.tcl_expr.specs.Outcome as expr_outcome
 use Rattle.tcl_expr.specs.Outcome.{Answer}
-use Rattle.tcl_expr.specs.Reading.{expression_is, expression_of}
+use Rattle.tcl_expr.specs.Reading.{expression_is}
 use Rattle.tcl_expr.specs.Trees.{Tree}
 use Rattle.tcl_eval.specs.State.{State, LeafTable, Given, Out, Rest, Next, spent}
-use Rattle.tcl_eval.specs.Eval.{Inner, unread, by_truth, give, nested, on_ok, pay, run_commands, run_reading, run_script, write_all}
+use Rattle.tcl_eval.specs.Eval.{unread, by_truth, give, nested, on_ok, pay, run_commands, run_reading, run_script, write_all}
 use Rattle.tcl_eval.specs.Expressions.{evaluate, run_answer, test}
 use Rattle.tcl_eval.specs.Places.{tree_of}
 use Rattle.tcl_eval.specs.AtOnce.{at_once}
@@ -23,7 +23,7 @@ use Rattle.std.specs.Prelude.{IfSome}
 use Rattle.tcl_eval.specs.Loops.{assigned, in_loop, turns, turn_body, walk_on}
 use Rattle.tcl_eval.specs.Stack.{frame_next, stack_next, stack_free}
 use Rattle.tcl_eval.specs.Engine.{Enters, Nears, Opens, acted_next, credit, gone_next, gone_of}
-use Rattle.tcl_eval.specs.Turns.{EachPays, IsBehind, TurnPays, TestPays, each_free, option_free, ran_next, turn_free}
+use Rattle.tcl_eval.specs.Turns.{EachPays, IsBehind, TurnPays, each_free, option_free, ran_next, turn_free}
 use Rattle.tcl_eval.specs.declared.branch.Turning.{Turning}
 use Rattle.tcl_eval.specs.declared.branch.Walk.{Walk}
 use Rattle.tcl_eval.specs.declared.walk_turns.Each.{Each}

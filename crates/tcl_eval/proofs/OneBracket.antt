@@ -1,5 +1,5 @@
 -- What a word comes to that is one bracket of one command.
-use Rattle.std.proofs.Common.{◌≡◌, ◌<◌, ◌≤◌, ℕ, zero, suc, ◌+◌, true, false, List, [], ◌∷◌, ◌++◌, length, map, get_or, refl, sym, ap, ◌∙◌, subst, arith}
+use Rattle.std.proofs.Common.{◌≡◌, ◌≤◌, ℕ, zero, suc, ◌+◌, true, false, List, [], ◌∷◌, ◌++◌, length, map, get_or, refl, sym, ap, ◌∙◌, subst, arith}
 use Rattle.txt_core.specs.Names.{Names}
 use Rattle.tcl_parse.specs.Tree.{Part, bracket, Parts, no_parts, part, parts, Words, Commands, command}
 use Rattle.tcl_parse.specs.View.{part_of}

@@ -1,5 +1,5 @@
 -- What a step that is returned as it came keeps.
-use Rattle.std.proofs.Common.{◌≡◌, ◌≤◌, ℕ, ◌+◌, arith}
+use Rattle.std.proofs.Common.{◌≤◌, ℕ, ◌+◌, arith}
 use Rattle.std.specs.Prelude.{IfOk, OnOk, Result}
 use Rattle.std.proofs.lemmas.Result.{IfOk-weaker}
 use Rattle.tcl_eval.specs.Stack.{stack_free, step_free}

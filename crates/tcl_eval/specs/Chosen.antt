@@ -1,5 +1,5 @@
 -- What an `if` comes to, as far as nothing is run for its conditions.
-use Rattle.std.specs.Prelude.{◌≡◌, Option, Some, drop, slice_get}
+use Rattle.std.specs.Prelude.{◌≡◌, Some, drop, slice_get}
 use Rattle.tcl_eval.specs.State.{Rest, Next, spent}
 use Rattle.tcl_eval.specs.Going.{Inner, give, unread}
 use Rattle.tcl_eval.specs.Branches.{choose}

@@ -1,4 +1,4 @@
-use Rattle.std.proofs.Common.{◌≡◌, ◌∙◌, ◌+◌, ℕ, List, Some, None, drop, refl, sym, ap, arith}
+use Rattle.std.proofs.Common.{◌∙◌, ◌+◌, ℕ, List, Some, None, drop, refl, sym, ap, arith}
 use Rattle.std.proofs.lemmas.Option.{slice_get_within}
 use Rattle.tcl_eval.specs.Branches.{choose}
 use Rattle.tcl_eval.specs.Eval.{give, nested, unread}

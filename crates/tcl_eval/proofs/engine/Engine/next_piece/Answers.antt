@@ -1,7 +1,6 @@
 use Rattle.tcl_eval.specs.Eval.{nested}
 use Rattle.tcl_eval.specs.Stack.{stack_next}
 use Rattle.tcl_eval.specs.Engine.{state_of}
-use Rattle.std.proofs.Common.{◌∙◌}
 use Rattle.tcl_eval.proofs.Steps.{no_piece_left, text_step, variable_step, element_step, nested_step}
 use Rattle.tcl_eval.proofs.engine.Engine.next_piece.Goals as goal
 

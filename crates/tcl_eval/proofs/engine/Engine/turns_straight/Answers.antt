@@ -3,9 +3,7 @@ use Rattle.natives.specs.Names.{names_of}
 use Rattle.tcl_eval.specs.Eval.{nested}
 use Rattle.tcl_eval.specs.Loops.{turns}
 use Rattle.tcl_eval.specs.Engine.{state_of}
-use Rattle.tcl_eval.specs.Turns.{TurnPays}
 use Rattle.tcl_eval.proofs.Counts.{held_both}
-use Rattle.tcl_eval.proofs.Looping.{pays_more}
 use Rattle.tcl_eval.proofs.engine.Engine.turns_straight.Goals as goal
 
 pub turns-preserved : goal.turns-preserved
