@@ -26,7 +26,7 @@ use crate::ending::{Ending, both};
 use crate::next::Next;
 use crate::reply::{budget_reply, failed, nesting_reply};
 use crate::running::{Running, Stop};
-use crate::settling::Settling;
+use crate::settling::{Settling, leave_inner};
 use crate::task::{Move, Task};
 use crate::visit::Visit;
 use cmd_table::{Defs, Steps, copy_defs};
@@ -347,7 +347,7 @@ impl Interp {
             ≡ self.old.settling.run.engine.host.marked }
     {
         let mark = self.mark.min(self.settling.run.engine.mark());
-        drop(self.settling.inner.take());
+        leave_inner(&mut self.settling.inner);
         self.settling.run.engine.clear(mark, steps);
         self.put_back();
         self.visit = Visit::none(self.alloc);

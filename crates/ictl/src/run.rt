@@ -165,18 +165,13 @@ impl Run {
     pub fn take_question(&mut self) -> Option<Question>
         ensures { Takes result self.old self.new }
     {
-        match mem::replace(&mut self.next, Next::NoMemory) {
-            Next::Asks(question) => {
-                self.next = Next::Asks(Question {
-                    service: question.service,
-                    words: Words::new(self.interp.interp.alloc),
-                });
-                Some(question)
-            }
-            other => {
-                self.next = other;
-                None
-            }
+        let alloc = self.interp.interp.alloc;
+        match &mut self.next {
+            Next::Asks(question) => Some(Question {
+                service: question.service,
+                words: mem::replace(&mut question.words, Words::new(alloc)),
+            }),
+            _ => None,
         }
     }
 

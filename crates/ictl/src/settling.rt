@@ -55,6 +55,24 @@ pub enum Step {
     Stops(Stop),
 }
 
+/// Lets go of a run inside.
+#[cold]
+#[inline(never)]
+fn let_go(inner: &mut Option<InnerRun>)
+    ensures { inner.new ≡ None }
+{
+    drop(inner.take());
+}
+
+/// Lets go of a run inside, where there is one. Mostly there is none, and nothing is moved then.
+pub(crate) fn leave_inner(inner: &mut Option<InnerRun>)
+    ensures { inner.new ≡ None }
+{
+    if inner.is_some() {
+        let_go(inner);
+    }
+}
+
 impl Settling {
     /// Runs a script, a call or a page from the global frame on.
     pub fn start<L: Ledger>(
