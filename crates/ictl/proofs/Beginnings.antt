@@ -1,9 +1,6 @@
 -- How runs begin.
-use Rattle.std.proofs.Common.{◌≡◌, ◌≤◌, ℕ, ◌+◌, ◌-◌, ◌*◌, ◌<◌, List, [], ◌∷◌, refl, sym, subst, ap, ◌∙◌, arith, true, Option, Some, None}
+use Rattle.std.proofs.Common.{◌≡◌, ◌≤◌, ℕ, ◌+◌, ◌-◌, ◌*◌, ◌<◌, List, [], ◌∷◌, refl, sym, subst, ap, ◌∙◌, arith, Bool, true, Option, Some, None}
 use Rattle.outside.specs.declared.question.Answer.{Answer}
-use Rattle.cmd_table.specs.Table.{Table, command_of}
-use Rattle.cmd_table.specs.Commands.{Commands}
-use Rattle.cmd_table.specs.declared.command.Cmd.{Cmd}
 use Rattle.cmd_table.specs.declared.definition.Def.{Def}
 use Rattle.cmd_table.specs.declared.definition.When.TheVariants as when
 use Rattle.http_req.specs.declared.request.Request.{Request}
@@ -18,7 +15,7 @@ use Rattle.tcl_eval.specs.declared.outcome.Work.TheVariants as works
 use Rattle.ictl.specs.Settle.{Run, Settled, account_of, settle}
 use Rattle.ictl.specs.Defines.{define_end, no_inner}
 use Rattle.ictl.specs.Fresh.{state_on, request_state, script_state, define_state, outset}
-use Rattle.ictl.specs.Visits.{filter_calls, authoriser, authorisation, serving_by, visit_of, cleanups_of}
+use Rattle.ictl.specs.Visits.{filter_calls, authorisation, serving_by, visit_of, cleanups_of}
 use Rattle.txt_core.specs.Limits.{run_budget}
 use Rattle.ictl.specs.Main.{Progress, Stretch, run_questions, first_depth, full, visited, scripts, script_end, defined_end, Main, Script, Define, traces_from, behind}
 use Rattle.ictl.specs.Interps.{interp_state, IsSound, IsFresh, IsNew, Holds}
@@ -35,25 +32,19 @@ begun_state names i host begins fresh is =
     ap (λ (s : State HostState). let t : State HostState = record s { host = host } in t) fresh.state
     ∙ ap (λ (h : HostState). state_on names i.blueprint.value h) (is ∙ ap begins (ap (λ (s : State HostState). s.host.blueprint) fresh.state))
 
--- what a request goes through, by an authoriser that was found so
-abbrev pub visit_with : Option Cmd → Request → List Def → Visit
-visit_with found request defs = record {
+-- what a request goes through, where requests are authorised or aren't
+abbrev pub visit_with : Bool → Request → List Def → Visit
+visit_with authorised request defs = record {
   preauth = filter_calls when.Preauth request defs;
-  authorisation = authorisation found request;
+  authorisation = authorisation authorised request;
   postauth = filter_calls when.Postauth request defs;
   serving = serving_by (route defs request.method request.segments) request;
   trace = filter_calls when.Trace request defs;
 }
 
-pub visit_is : (names : List (List ℕ)) (i : Interp) (request : Request) (visit : Visit) (found : Option Cmd) (name : List ℕ) → IsNew names i
-    → visit ≡ visit_with found request i.blueprint.value.defs → found ≡ command_of i.settling.run.engine.table.table name → name ≡ authoriser
-    → visit ≡ visit_of names i.blueprint.value request
-visit_is names i request visit found name new is found_is named =
-    is
-    ∙ ap (λ (f : Option Cmd). visit_with f request i.blueprint.value.defs)
-    (found_is
-    ∙ ap (λ (n : List ℕ). command_of i.settling.run.engine.table.table n) named
-    ∙ ap (λ (s : State HostState). command_of s.commands authoriser) new.1.state)
+pub visit_is : (names : List (List ℕ)) (i : Interp) (request : Request) (visit : Visit) → IsNew names i
+    → visit ≡ visit_with i.authorises request i.blueprint.value.defs → visit ≡ visit_of names i.blueprint.value request
+visit_is names i request visit new is = is ∙ ap (λ (b : Bool). visit_with b request i.blueprint.value.defs) new.0.authorises
 
 -- the run of a request
 pub request_begins : (names : List (List ℕ)) (blueprint : Edition) (request : Request) (moment : ℕ) (visit : Visit) (state : State HostState) (further : List Answer)
@@ -96,5 +87,5 @@ behind_begins names i request ending inside further sound visit =
 
 -- an interpreter whose engine's host alone changed, beside what isn't told here
 pub holds_hosted : (old : Interp) (between : Interp) → Lasts between.settling.run.engine old.settling.run.engine → between.blueprint.value ≡ old.blueprint.value → between.mark ≡ old.mark → between.routes ≡ old.routes → between.cleanups ≡ old.cleanups
-    → Holds between old
-holds_hosted old between engine blueprint mark routes cleanups = record { engine = engine; blueprint = blueprint; mark = mark; routes = routes; cleanups = cleanups }
+    → between.authorises ≡ old.authorises → Holds between old
+holds_hosted old between engine blueprint mark routes cleanups authorises = record { engine = engine; blueprint = blueprint; mark = mark; routes = routes; cleanups = cleanups; authorises = authorises }

@@ -46,6 +46,7 @@ holds_on new between old later earlier = record {
   mark = later.mark ∙ earlier.mark;
   routes = later.routes ∙ earlier.routes;
   cleanups = later.cleanups ∙ earlier.cleanups;
+  authorises = later.authorises ∙ earlier.authorises;
 }
 
 -- what follows from what a call says of its good answer
@@ -227,7 +228,7 @@ pub over_same : (new old : Interp) → new ≡ record old { task = Over } → Is
 over_same new old now = subst (λ (i : Interp). IsSameRun i old) (sym now) (record { visit = refl; moment = refl; spare = refl })
 
 pub over_holds : (new old : Interp) → new ≡ record old { task = Over } → Holds new old
-over_holds new old now = subst (λ (i : Interp). Holds i old) (sym now) (record { engine = (λ mark le. (le, refl), refl, refl); blueprint = refl; mark = refl; routes = refl; cleanups = refl })
+over_holds new old now = subst (λ (i : Interp). Holds i old) (sym now) (record { engine = (λ mark le. (le, refl), refl, refl); blueprint = refl; mark = refl; routes = refl; cleanups = refl; authorises = refl })
 
 -- ---- what it stands for
 

@@ -42,7 +42,7 @@ pub run_same : (new old : Interp) (run : Running) (task : Task) → new ≡ with
 run_same new old run task is = subst (λ (i : Interp). IsSameRun i old) (sym is) (record { visit = refl; moment = refl; spare = refl })
 
 pub run_holds : (new old : Interp) (run : Running) (task : Task) → new ≡ with_run old run task → Lasts run.engine old.settling.run.engine → Holds new old
-run_holds new old run task is lasts = subst (λ (i : Interp). Holds i old) (sym is) (record { engine = lasts; blueprint = refl; mark = refl; routes = refl; cleanups = refl })
+run_holds new old run task is lasts = subst (λ (i : Interp). Holds i old) (sym is) (record { engine = lasts; blueprint = refl; mark = refl; routes = refl; cleanups = refl; authorises = refl })
 
 -- ---- a definition run
 

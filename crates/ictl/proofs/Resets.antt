@@ -2,7 +2,7 @@
 use Rattle.std.proofs.Common.{◌≡◌, ℕ, suc, zero, ◌+◌, ◌≤◌, min, List, [], ◌∷◌, ◌++◌, length, take, slice_index_or, refl, sym, subst, ap, ◌∙◌, arith, Bool, Option, Some, None}
 use Rattle.std.proofs.lemmas.List.{length-take-le}
 use Rattle.cmd_table.specs.declared.definition.Def.{Def}
-use Rattle.cmd_table.specs.Table.{Table, State as TableState, mark_of, table_at, back_at}
+use Rattle.cmd_table.specs.Table.{Table, State as TableState, command_of, mark_of, table_at, back_at}
 use Rattle.cmd_table.specs.Commands.{Commands, Writes}
 use Rattle.tcl_frame.specs.Stack.{Stack, Kept}
 use Rattle.tcl_frame.specs.Base.{at_base, cleared as cleared_frames}
@@ -14,7 +14,7 @@ use Rattle.tcl_eval.specs.State.{State}
 use Rattle.tcl_eval.specs.Engine.{state_of, IsIdle, Lasts}
 use Rattle.tcl_eval.specs.declared.engine.Engine.{Engine}
 use Rattle.ictl.specs.Fresh.{keeps_of, fresh_but_marked}
-use Rattle.ictl.specs.Visits.{cleanups_of, no_visit}
+use Rattle.ictl.specs.Visits.{authoriser, cleanups_of, is_authorised, is_procedure, no_visit}
 use Rattle.outside.specs.declared.question.Answer.{Answer}
 use Rattle.ictl.specs.Main.{Progress}
 use Rattle.ictl.specs.declared.next.Next.{Next}
@@ -122,6 +122,7 @@ module _ (names : List (List ℕ)) (old : Interp) (engine : Engine HostState) (v
         keeps = ap (λ (f : Stack). f.keeps) frames ∙ sound.keeps;
         routes = sound.routes;
         cleanups = sound.cleanups;
+        authorises = sound.authorises;
         blueprint = (refl, ap (λ (h : HostState). h.blueprint) hosted);
       }
 
@@ -156,11 +157,17 @@ steps_back names old mark after before least is sound = omega (arith, least, is,
 pub mark_back_on : (spare : Option Edition) (host was : HostState) → host ≡ cleared was → (put_on spare host).marked ≡ was.marked
 mark_back_on spare host was is = put_marked spare host ∙ ap (λ (h : HostState). h.marked) is
 
+-- whether requests are authorised, as it was looked up in a table of the commands of these definitions
+pub authorised_in : (names : List (List ℕ)) (defs : List Def) (commands : Table) (name : List ℕ) (found : Bool) → found ≡ is_procedure (command_of commands name) → name ≡ authoriser
+    → commands ≡ Commands names defs → found ≡ is_authorised names defs
+authorised_in names defs commands name found is named table =
+    is ∙ ap (λ (n : List ℕ). is_procedure (command_of commands n)) named ∙ ap (λ (t : Table). is_procedure (command_of t authoriser)) table
+
 -- an interpreter with an engine on its blueprint, in which nothing runs
 pub newly_made : (names : List (List ℕ)) (i : Interp) (marked : Bool) → interp_state i ≡ fresh_but_marked names i.blueprint.value marked → IsIdle i.settling.run.engine → i.mark ≡ mark_of i.settling.run.engine.table
-    → IsBuiltOf i.routes i.blueprint.value.defs → i.cleanups ≡ cleanups_of i.blueprint.value.defs → spare_of i ≡ None
+    → IsBuiltOf i.routes i.blueprint.value.defs → i.cleanups ≡ cleanups_of i.blueprint.value.defs → i.authorises ≡ is_authorised names i.blueprint.value.defs → spare_of i ≡ None
     → i.settling.inner ≡ None → i.visit ≡ no_visit → i.moment ≡ 0 → i.task ≡ New → IsNew names i
-newly_made names i marked state idle mark routes cleanups spare inner visit moment task =
+newly_made names i marked state idle mark routes cleanups authorises spare inner visit moment task =
     let made : i.settling.run.engine.made ≡ [] = ap (λ (s : State HostState). s.made) state in
     let written : Writes i.settling.run.engine.made ≡ 0 = ap Writes made in
     let own : i.settling.run.engine.host.blueprint ≡ i.blueprint.value = ap (λ (s : State HostState). s.host.blueprint) state in
@@ -171,6 +178,7 @@ newly_made names i marked state idle mark routes cleanups spare inner visit mome
         keeps = ap (λ (s : State HostState). s.frames.keeps) state;
         routes = routes;
         cleanups = cleanups;
+        authorises = authorises;
         blueprint = subst (λ (s : Option Edition). HasBlueprint s i.task i.settling.run.engine.host.blueprint i.blueprint.value) (sym spare) (task, own);
       },
       record {
@@ -202,6 +210,7 @@ sound_held names new old holds has sound =
           subst (λ (b : Edition). IsBuiltOf new.routes b.defs) (sym holds.blueprint)
           (subst (λ (r : Routes). IsBuiltOf r old.blueprint.value.defs) (sym holds.routes) sound.routes);
       cleanups = holds.cleanups ∙ sound.cleanups ∙ sym (ap (λ (b : Edition). cleanups_of b.defs) holds.blueprint);
+      authorises = holds.authorises ∙ sound.authorises ∙ sym (ap (λ (b : Edition). is_authorised names b.defs) holds.blueprint);
       blueprint = has;
     }
 
@@ -227,7 +236,7 @@ writing_runs i writing new = let other : Writing writing.1.0 ≡ New = sym writi
 -- where nothing changed
 pub holds_same : (new old : Interp) → new ≡ old → Holds new old
 holds_same new old is = subst (λ (i : Interp). Holds i old) (sym is)
-    (record { engine = (λ mark le. (le, refl), refl, refl); blueprint = refl; mark = refl; routes = refl; cleanups = refl })
+    (record { engine = (λ mark le. (le, refl), refl, refl); blueprint = refl; mark = refl; routes = refl; cleanups = refl; authorises = refl })
 
 -- ---- starts
 
@@ -240,6 +249,7 @@ spared_new names with_spare old is some new = subst (IsNew names) (sym is) (
     keeps = new.0.keeps;
     routes = new.0.routes;
     cleanups = new.0.cleanups;
+    authorises = new.0.authorises;
     blueprint = subst (λ (s : Option Edition). HasBlueprint s old.task old.settling.run.engine.host.blueprint old.blueprint.value) (sym some) refl;
   },
   record { state = new.1.state; idle = new.1.idle; inner = new.1.inner; visit = new.1.visit; moment = new.1.moment; task = new.1.task },
@@ -252,6 +262,7 @@ holds_from new with_spare old is holds = record {
   mark = holds.mark ∙ ap (λ (i : Interp). i.mark) is;
   routes = holds.routes ∙ ap (λ (i : Interp). i.routes) is;
   cleanups = holds.cleanups ∙ ap (λ (i : Interp). i.cleanups) is;
+  authorises = holds.authorises ∙ ap (λ (i : Interp). i.authorises) is;
 }
 
 pub sound_from : (names : List (List ℕ)) (new with_spare old : Interp) → with_spare ≡ record old { spare = with_spare.spare } → spare_of with_spare ≡ Some old.blueprint.value → spare_of new ≡ spare_of with_spare

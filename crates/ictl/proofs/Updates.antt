@@ -131,6 +131,7 @@ still_new names new old state table is idle inner fresh =
         keeps = ap (λ (s : State HostState). s.frames.keeps) state ∙ fresh.0.keeps;
         routes = fresh.0.routes;
         cleanups = fresh.0.cleanups;
+        authorises = fresh.0.authorises;
         blueprint = subst (λ (b : Edition). HasBlueprint (spare_of old) old.task b old.blueprint.value) (sym on) fresh.0.blueprint;
       },
       record {

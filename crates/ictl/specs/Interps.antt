@@ -15,7 +15,7 @@ use Rattle.tcl_eval.specs.declared.outcome.Outcome.TheVariants as outcomes
 use Rattle.ictl.specs.Fresh.{fresh_but_marked, keeps_of}
 use Rattle.ictl.specs.Settle.{account_of, Settled}
 use Rattle.ictl.specs.Replies.{verdict, access}
-use Rattle.ictl.specs.Visits.{cleanups_of, no_visit}
+use Rattle.ictl.specs.Visits.{cleanups_of, is_authorised, no_visit}
 use Rattle.ictl.specs.Main.{Stretch, Progress, asks, writes, ends, main_on, after_on, filter_end, access_end, procedure_end, page_end, trace_end, script_end, defined_end, page_asked, serve, filters_from, authorised, unauthorised, traces_from, cleanups_from}
 use Rattle.ictl.specs.Standing.{state_of, define_at, settling_gives, written}
 use Rattle.ictl.specs.declared.running.Stop.{Stop}
@@ -73,13 +73,15 @@ HasBlueprint None task on own = (task ≡ New) × (on ≡ own)
 HasBlueprint (Some spare) task on own = spare ≡ own
 
 -- Its commands go back to those of its blueprint at its mark, and the entries above the mark are those that the run made; its base
--- scalars, its tables of registrations and cleanup scripts, and what its host goes back to, are those of its blueprint.
+-- scalars, its tables of registrations and cleanup scripts, whether it authorises requests, and what its host goes back to, are those
+-- of its blueprint.
 pub record IsSound (names : Names) (interp : Interp) : Type 0 where
   pub commands : table_at interp.settling.run.engine.table interp.mark ≡ Commands names interp.blueprint.value.defs
   pub entries : mark_of interp.settling.run.engine.table ≡ interp.mark + Writes interp.settling.run.engine.made
   pub keeps : interp.settling.run.engine.frames.keeps ≡ keeps_of interp.blueprint.value.defs
   pub routes : IsBuiltOf interp.routes interp.blueprint.value.defs
   pub cleanups : interp.cleanups ≡ cleanups_of interp.blueprint.value.defs
+  pub authorises : interp.authorises ≡ is_authorised names interp.blueprint.value.defs
   pub blueprint : HasBlueprint (spare_of interp) interp.task interp.settling.run.engine.host.blueprint interp.blueprint.value
 
 -- It is as newly made: its state is the fresh one of its blueprint, but for the mark of the last run, which stands beside it; nothing
@@ -99,13 +101,14 @@ IsNew names interp = IsSound names interp × IsFresh names interp
 -- ---- what stays
 
 -- What no run changes, also where memory wants: of its engine the marks of the table with the entries above them, and the base
--- scalars; and its blueprint, its mark and its tables.
+-- scalars; and its blueprint, its mark, its tables, and whether it authorises requests.
 pub record Holds (new old : Interp) : Type 0 where
   pub engine : Lasts new.settling.run.engine old.settling.run.engine
   pub blueprint : new.blueprint.value ≡ old.blueprint.value
   pub mark : new.mark ≡ old.mark
   pub routes : new.routes ≡ old.routes
   pub cleanups : new.cleanups ≡ old.cleanups
+  pub authorises : new.authorises ≡ old.authorises
 
 -- Within one run the request's filters, its authorisation and what serves it stay, and so do the moment and the spare blueprint.
 pub record IsSameRun (new old : Interp) : Type 0 where

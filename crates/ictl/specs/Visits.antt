@@ -56,9 +56,13 @@ is_procedure None = false
 is_procedure (Some (Built name)) = false
 is_procedure (Some (Proc params body)) = true
 
--- a request is authorised where that name is a procedure of the blueprint
-abbrev pub authorisation : Option Cmd → Request → Option Words
-authorisation found request = if is_procedure found then Some (authorise_call request) else None
+-- whether requests are authorised on natives of these names and these definitions: where that name is a procedure then
+abbrev pub is_authorised : Names → List Def → Bool
+is_authorised names made = is_procedure (command_of (Commands names made) authoriser)
+
+-- the call, where a request is authorised
+abbrev pub authorisation : Bool → Request → Option Words
+authorisation authorised request = if authorised then Some (authorise_call request) else None
 
 -- ---- what serves
 
@@ -101,7 +105,7 @@ no_visit = record { preauth = []; authorisation = None; postauth = []; serving =
 abbrev pub visit_of : Names → Edition → Request → Visit
 visit_of names blueprint request = record {
   preauth = filter_calls Preauth request blueprint.defs;
-  authorisation = authorisation (command_of (Commands names blueprint.defs) authoriser) request;
+  authorisation = authorisation (is_authorised names blueprint.defs) request;
   postauth = filter_calls Postauth request blueprint.defs;
   serving = serving_by (route blueprint.defs request.method request.segments) request;
   trace = filter_calls Trace request blueprint.defs;

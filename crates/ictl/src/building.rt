@@ -1,7 +1,7 @@
 //! How interpreters are made from blueprints.
 
 ghost use Rattle.std.specs.Prelude.{◌≡◌, ◌≤◌, ◌+◌, ◌++◌, ◌∷◌, None, IfOk, OnOk, fold, length, take};
-ghost use Rattle.cmd_table.specs.Table.{mark_of, Keeps};
+ghost use Rattle.cmd_table.specs.Table.{command_of, mark_of, Keeps};
 ghost use Rattle.cmd_table.specs.Commands.{defined, Writes};
 ghost use Rattle.blueprint.specs.States.{first_misfit};
 ghost use Rattle.natives.specs.Names.{names_of};
@@ -11,8 +11,9 @@ ghost use Rattle.server_host.specs.Hosts.{fresh};
 ghost use Rattle.tcl_eval.specs.Engine.{state_of, IsIdle};
 ghost use Rattle.cmd_table.specs.declared.definition.Def.TheVariants as defs;
 ghost use Rattle.ictl.specs.Fresh.{Fresh, keeps_in, keeps_of, writes_in, build_steps};
-ghost use Rattle.ictl.specs.Visits.{cleanup_in, cleanups_of};
+ghost use Rattle.ictl.specs.Visits.{cleanup_in, cleanups_of, is_procedure};
 
+use crate::visit::is_procedure;
 use cmd_table::{CmdTable, Def, Defs, Steps, copy_defs, definitions_fit_where_they_apply};
 use natives::Natives;
 use server_host::{Edition, RunHost};
@@ -189,6 +190,13 @@ pub fn engine_on<L: Ledger>(
             Err(NoMemory)
         }
     }
+}
+
+/// Whether the command of this name is a procedure. It takes no memory.
+pub fn has_procedure(engine: &Engine<RunHost>, name: &Text) -> bool
+    ensures { result ≡ is_procedure (command_of engine.now.table.table name.now) }
+{
+    is_procedure(engine.command(name))
 }
 
 /// Puts a cleanup script behind others, where a definition has one.

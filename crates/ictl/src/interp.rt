@@ -21,14 +21,14 @@ ghost use Rattle.ictl.specs.Steps.{Lowers, scripts_left};
 ghost use Rattle.ictl.specs.declared.task.Task.{Task as Tasks};
 ghost use Rattle.ictl.specs.Falls.{IsAsking, IsWriting, StandsAt, GoesOut, MoveStandsAt, IsScriptTask, SettlingAt, number_of, first_number, Falls, MoveFalls, StopFalls, EndFalls};
 
-use crate::building::{Tables, copy_edition, define_all, engine_on, tables_of};
+use crate::building::{Tables, copy_edition, define_all, engine_on, has_procedure, tables_of};
 use crate::ending::{Ending, both};
 use crate::next::Next;
 use crate::reply::{budget_reply, failed, nesting_reply};
 use crate::running::{Running, Stop};
 use crate::settling::{Settling, leave_inner};
 use crate::task::{Move, Task};
-use crate::visit::Visit;
+use crate::visit::{AUTHORISER, Visit};
 use cmd_table::{Defs, Steps, copy_defs};
 use http_req::Request;
 use http_resp::Response;
@@ -60,6 +60,8 @@ pub struct Interp {
     pub(crate) routes: Routes,
     /// Its cleanup scripts.
     pub(crate) cleanups: Words,
+    /// Whether requests are authorised: the name of that stands for a procedure of the blueprint.
+    pub(crate) authorises: bool,
     /// Where the table of commands goes back to.
     pub(crate) mark: u64,
     pub(crate) settling: Settling,
@@ -79,6 +81,7 @@ impl Drop for Interp {
             spare,
             routes,
             cleanups,
+            authorises: _,
             mark: _,
             settling,
             moment: _,
@@ -136,6 +139,7 @@ impl Interp {
         ensures least { steps.old ≤ steps.new }
         ensures most { steps.new ≤ steps.old + build_steps (names_of natives.now) defs.now }
     {
+        let name = Text::new(alloc, AUTHORISER)?;
         let edition = Edition {
             epoch,
             defs: copy_defs(alloc, defs)?,
@@ -146,12 +150,14 @@ impl Interp {
             return Err(NoMemory);
         };
         let mark = engine.mark();
+        let authorises = has_procedure(&engine, &name);
         Ok(Interp {
             alloc,
             blueprint: tables.blueprint,
             spare: None,
             routes: tables.routes,
             cleanups: tables.cleanups,
+            authorises,
             mark,
             settling: Settling {
                 alloc,
@@ -400,10 +406,12 @@ impl Interp {
         ensures steps { OnOk result (steps.new ≡ steps.old + Writes defs.now) }
         ensures most { steps.new ≤ steps.old + 2 * Writes defs.now }
     {
+        let name = Text::new(self.alloc, AUTHORISER)?;
         let (tables, shared) = self.later(epoch, defs)?;
         match self.define_more(defs, steps) {
             Ok(()) => {
                 self.mark = self.settling.run.engine.mark();
+                self.authorises = has_procedure(&self.settling.run.engine, &name);
                 self.settling.run.engine.host_mut().set_blueprint(shared);
                 self.blueprint = tables.blueprint;
                 self.spare = None;

@@ -25,7 +25,7 @@ use crate::next::Next;
 use crate::serving::words_at;
 use crate::settling::FIRST_DEPTH;
 use crate::task::{Move, Task};
-use crate::visit::{AUTHORISER, Visit};
+use crate::visit::Visit;
 use cmd_table::Steps;
 use http_req::Request;
 use natives::Natives;
@@ -139,9 +139,7 @@ impl Interp {
         ensures { (names : Names) → IsNew names self.now
             → IfOk result (λ visit. visit ≡ visit_of names self.now.blueprint.value request.now) }
     {
-        let name = Text::new(self.alloc, AUTHORISER)?;
-        let authoriser = self.settling.run.engine.command(&name);
-        let visit = Visit::new(self.alloc, &self.routes, authoriser, request)?;
+        let visit = Visit::new(self.alloc, &self.routes, self.authorises, request)?;
         Ok(visit)
     }
 

@@ -7,7 +7,7 @@ ghost use Rattle.cmd_table.specs.declared.definition.When.TheVariants as when;
 ghost use Rattle.url_tables.specs.Serving.{route};
 ghost use Rattle.conn_host.specs.RequestCommands.{path_of};
 ghost use Rattle.url_tables.specs.Tables.{IsBuiltOf};
-ghost use Rattle.ictl.specs.Visits.{calls_of, filter_calls, authorise_call, authorisation, is_page, serving_by, no_visit};
+ghost use Rattle.ictl.specs.Visits.{calls_of, filter_calls, is_procedure, authorise_call, authorisation, is_page, serving_by, no_visit};
 
 use blueprint::when_name;
 use cmd_table::{Cmd, When};
@@ -74,6 +74,16 @@ fn filter_calls(
     calls_of(alloc, when, filters.as_slice())
 }
 
+/// Whether what a name stands for is a procedure.
+pub fn is_procedure(found: Option<&Cmd>) -> bool
+    ensures { result ≡ is_procedure (option_copied found.entry) }
+{
+    match found {
+        Some(Cmd::Proc { .. }) => true,
+        Some(Cmd::Built(_)) | None => false,
+    }
+}
+
 /// Puts the words of the authorisation's call into an empty list.
 fn add_authorise_call(
     alloc: Global,
@@ -103,19 +113,20 @@ fn authorise_call(alloc: Global, request: &Request, path: &Text) -> Result<Words
     Ok(call)
 }
 
-/// The call of the authorisation, where its name stands for a procedure.
+/// The call of the authorisation, where requests are authorised.
 fn authorisation(
     alloc: Global,
-    found: Option<&Cmd>,
+    authorises: bool,
     request: &Request,
     path: &Text,
 ) -> Result<Option<Words>, NoMemory>
     requires { path.now ≡ path_of request.now }
-    ensures { IfOk result (λ call. call ≡ authorisation (option_copied found.entry) request.now) }
+    ensures { IfOk result (λ call. call ≡ authorisation authorises request.now) }
 {
-    match found {
-        Some(Cmd::Proc { .. }) => Ok(Some(authorise_call(alloc, request, path)?)),
-        Some(Cmd::Built(_)) | None => Ok(None),
+    if authorises {
+        Ok(Some(authorise_call(alloc, request, path)?))
+    } else {
+        Ok(None)
     }
 }
 
@@ -171,19 +182,19 @@ impl Visit {
         }
     }
 
-    /// What a request goes through, by the tables of a blueprint and what the name of the authorisation
-    /// stands for. Its only error is want of memory.
+    /// What a request goes through, by the tables of a blueprint, and by whether requests are authorised.
+    /// Its only error is want of memory.
     #[inline(never)]
     pub fn new(
         alloc: Global,
         routes: &Routes,
-        authoriser: Option<&Cmd>,
+        authorises: bool,
         request: &Request,
     ) -> Result<Visit, NoMemory>
         ensures { (defs : List Def) → IsBuiltOf routes.now defs → IfOk result (λ visit.
             visit ≡ record {
               preauth = filter_calls when.Preauth request.now defs;
-              authorisation = authorisation (option_copied authoriser.entry) request.now;
+              authorisation = authorisation authorises request.now;
               postauth = filter_calls when.Postauth request.now defs;
               serving = serving_by (route defs request.now.method request.now.segments) request.now;
               trace = filter_calls when.Trace request.now defs;
@@ -193,7 +204,7 @@ impl Visit {
         let preauth = filter_calls(alloc, routes, When::Preauth, request, &path)?;
         let postauth = filter_calls(alloc, routes, When::Postauth, request, &path)?;
         let trace = filter_calls(alloc, routes, When::Trace, request, &path)?;
-        let authorisation = authorisation(alloc, authoriser, request, &path)?;
+        let authorisation = authorisation(alloc, authorises, request, &path)?;
         let found = routes.serve(&request.method, &request.segments);
         let serving = serving_by(alloc, found, request, path)?;
         Ok(Visit {

@@ -59,7 +59,7 @@ returns-clause-spare g c = ap (λ (i : Interp). spare_of i) c.defined.ensures.ta
 
 pub returns-clause-holds : goal.returns-clause-holds
 returns-clause-holds g c =
-    subst (λ (i : Interp). Holds i c.args.self.now) (sym c.defined.ensures.task.1) (record { engine = c.start.ensures.lasts; blueprint = refl; mark = refl; routes = refl; cleanups = refl })
+    subst (λ (i : Interp). Holds i c.args.self.now) (sym c.defined.ensures.task.1) (record { engine = c.start.ensures.lasts; blueprint = refl; mark = refl; routes = refl; cleanups = refl; authorises = refl })
 
 pub returns-clause-falls : goal.returns-clause-falls
 returns-clause-falls g c =

@@ -22,7 +22,7 @@ pub returns-clause-holds : goal.returns-clause-holds
 returns-clause-holds g c =
     let old = c.args.self.now in
     holds_on c.run.new.self (record old { settling = record old.settling { run = c.set_out.new.self } }) old c.run.ensures.holds
-    (record { engine = c.set_out.ensures.lasts; blueprint = refl; mark = refl; routes = refl; cleanups = refl })
+    (record { engine = c.set_out.ensures.lasts; blueprint = refl; mark = refl; routes = refl; cleanups = refl; authorises = refl })
 
 pub returns-clause-falls : goal.returns-clause-falls
 returns-clause-falls g c =

@@ -47,7 +47,7 @@ pub returns-in-Some-clause-holds : goal.returns-in-Some-clause-holds
 returns-in-Some-clause-holds g c =
     let old = c.args.self.now in
     holds_on c.run.new.self (record old { settling = record old.settling { run = c.set_out.new.self } }) old c.run.ensures.holds
-    (record { engine = c.set_out.ensures.lasts; blueprint = refl; mark = refl; routes = refl; cleanups = refl })
+    (record { engine = c.set_out.ensures.lasts; blueprint = refl; mark = refl; routes = refl; cleanups = refl; authorises = refl })
 
 pub returns-in-Some-clause-lowers : goal.returns-in-Some-clause-lowers
 returns-in-Some-clause-lowers g c =
