@@ -2,9 +2,7 @@
 use Rattle.std.proofs.Common.{◌≡◌, ◌≤◌, ℕ, ◌+◌, ◌-◌, ◌*◌, ◌<◌, List, [], ◌∷◌, refl, sym, subst, ap, ◌∙◌, arith, Bool, true, Option, Some, None}
 use Rattle.outside.specs.declared.question.Answer.{Answer}
 use Rattle.cmd_table.specs.declared.definition.Def.{Def}
-use Rattle.cmd_table.specs.declared.definition.When.TheVariants as when
 use Rattle.http_req.specs.declared.request.Request.{Request}
-use Rattle.url_tables.specs.Serving.{route}
 use Rattle.server_host.specs.declared.edition.Edition.{Edition}
 use Rattle.server_host.specs.Hosts.{HostState, serving, scripting, defining}
 use Rattle.server_host.specs.Leaf.{host_table}
@@ -15,7 +13,7 @@ use Rattle.tcl_eval.specs.declared.outcome.Work.TheVariants as works
 use Rattle.ictl.specs.Settle.{Run, Settled, account_of, settle}
 use Rattle.ictl.specs.Defines.{define_end, no_inner}
 use Rattle.ictl.specs.Fresh.{state_on, request_state, script_state, define_state, outset}
-use Rattle.ictl.specs.Visits.{filter_calls, authorisation, serving_by, visit_of, cleanups_of}
+use Rattle.ictl.specs.Visits.{visit_by, visit_of, cleanups_of}
 use Rattle.txt_core.specs.Limits.{run_budget}
 use Rattle.ictl.specs.Main.{Progress, Stretch, run_questions, first_depth, full, visited, scripts, script_end, defined_end, Main, Script, Define, traces_from, behind}
 use Rattle.ictl.specs.Interps.{interp_state, IsSound, IsFresh, IsNew, Holds}
@@ -32,19 +30,10 @@ begun_state names i host begins fresh is =
     ap (λ (s : State HostState). let t : State HostState = record s { host = host } in t) fresh.state
     ∙ ap (λ (h : HostState). state_on names i.blueprint.value h) (is ∙ ap begins (ap (λ (s : State HostState). s.host.blueprint) fresh.state))
 
--- what a request goes through, where requests are authorised or aren't
-abbrev pub visit_with : Bool → Request → List Def → Visit
-visit_with authorised request defs = record {
-  preauth = filter_calls when.Preauth request defs;
-  authorisation = authorisation authorised request;
-  postauth = filter_calls when.Postauth request defs;
-  serving = serving_by (route defs request.method request.segments) request;
-  trace = filter_calls when.Trace request defs;
-}
-
+-- what a request goes through in a new interpreter
 pub visit_is : (names : List (List ℕ)) (i : Interp) (request : Request) (visit : Visit) → IsNew names i
-    → visit ≡ visit_with i.authorises request i.blueprint.value.defs → visit ≡ visit_of names i.blueprint.value request
-visit_is names i request visit new is = is ∙ ap (λ (b : Bool). visit_with b request i.blueprint.value.defs) new.0.authorises
+    → visit ≡ visit_by i.authorises request i.blueprint.value.defs → visit ≡ visit_of names i.blueprint.value request
+visit_is names i request visit new is = is ∙ ap (λ (b : Bool). visit_by b request i.blueprint.value.defs) new.0.authorises
 
 -- the run of a request
 pub request_begins : (names : List (List ℕ)) (blueprint : Edition) (request : Request) (moment : ℕ) (visit : Visit) (state : State HostState) (further : List Answer)

@@ -20,4 +20,5 @@ mod Starts
 mod Settles
 mod Settlings
 mod Updates
+mod Visiting
 mod Withins

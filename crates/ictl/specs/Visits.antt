@@ -100,13 +100,25 @@ cleanups_of (def ∷ made) = cleanup_in def ++ cleanups_of made
 abbrev pub no_visit : Visit
 no_visit = record { preauth = []; authorisation = None; postauth = []; serving = Nothing; trace = [] }
 
--- What a request goes through on natives of these names and a blueprint. The declared `Visit` has the calls of its filters at each
--- stage, that of its authorisation, and what serves it.
+-- What a request goes through, by definitions, where requests are authorised or aren't. The declared `Visit` has the calls of its
+-- filters at each stage, that of its authorisation, and what serves it.
+abbrev pub visit_by : Bool → Request → List Def → Visit
+visit_by authorised request made = record {
+  preauth = filter_calls Preauth request made;
+  authorisation = authorisation authorised request;
+  postauth = filter_calls Postauth request made;
+  serving = serving_by (route made request.method request.segments) request;
+  trace = filter_calls Trace request made;
+}
+
+-- the same on natives of these names and a blueprint
 abbrev pub visit_of : Names → Edition → Request → Visit
-visit_of names blueprint request = record {
-  preauth = filter_calls Preauth request blueprint.defs;
-  authorisation = authorisation (is_authorised names blueprint.defs) request;
-  postauth = filter_calls Postauth request blueprint.defs;
-  serving = serving_by (route blueprint.defs request.method request.segments) request;
-  trace = filter_calls Trace request blueprint.defs;
+visit_of names blueprint request = visit_by (is_authorised names blueprint.defs) request blueprint.defs
+
+-- what is entered in two steps: first the calls of the filters
+abbrev pub filtered : Request → List Def → Visit → Visit
+filtered request made visit = record visit {
+  preauth = filter_calls Preauth request made;
+  postauth = filter_calls Postauth request made;
+  trace = filter_calls Trace request made;
 }

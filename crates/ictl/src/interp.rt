@@ -356,7 +356,7 @@ impl Interp {
         leave_inner(&mut self.settling.inner);
         self.settling.run.engine.clear(mark, steps);
         self.put_back();
-        self.visit = Visit::none(self.alloc);
+        self.visit.leave();
         self.moment = 0;
         self.task = Task::New;
     }

@@ -25,7 +25,6 @@ use crate::next::Next;
 use crate::serving::words_at;
 use crate::settling::FIRST_DEPTH;
 use crate::task::{Move, Task};
-use crate::visit::Visit;
 use cmd_table::Steps;
 use http_req::Request;
 use natives::Natives;
@@ -121,26 +120,19 @@ impl Interp {
         ensures next { IfOk result (λ next. GoesOut next self.new) }
         ensures falls { IfOk result (λ next. Falls next self.new first_number) }
     {
-        let Ok(visit) = self.visit_of(&request) else {
+        let Ok(()) = self
+            .visit
+            .enter(self.alloc, &self.routes, self.authorises, &request)
+        else {
             drop(request);
             return Err(NoMemory);
         };
-        self.visit = visit;
         self.settling.run.engine.host_mut().serve(request, moment)?;
         self.moment = moment;
         self.settling.questions = RUN_QUESTIONS;
         let step = self.preauth(natives, 0, RUN_BUDGET, steps)?;
         let next = self.moves(natives, step, steps)?;
         Ok(next)
-    }
-
-    /// What a request goes through. The interpreter is as newly made.
-    fn visit_of(&self, request: &Request) -> Result<Visit, NoMemory>
-        ensures { (names : Names) → IsNew names self.now
-            → IfOk result (λ visit. visit ≡ visit_of names self.now.blueprint.value request.now) }
-    {
-        let visit = Visit::new(self.alloc, &self.routes, self.authorises, request)?;
-        Ok(visit)
     }
 
     /// Begins the run of a scheduled script.

@@ -1,13 +1,11 @@
 //! What a request goes through.
 
-ghost use Rattle.std.specs.Prelude.{◌≡◌, ◌++◌, ◌∷◌, [], List, IfOk, OnOk};
+ghost use Rattle.std.specs.Prelude.{◌≡◌, ◌++◌, ◌∷◌, [], List, None, IfOk, OnOk};
 ghost use Rattle.std.specs.Option.{option_copied, option_map};
 ghost use Rattle.cmd_table.specs.declared.definition.Def.{Def};
-ghost use Rattle.cmd_table.specs.declared.definition.When.TheVariants as when;
-ghost use Rattle.url_tables.specs.Serving.{route};
 ghost use Rattle.conn_host.specs.RequestCommands.{path_of};
 ghost use Rattle.url_tables.specs.Tables.{IsBuiltOf};
-ghost use Rattle.ictl.specs.Visits.{calls_of, filter_calls, is_procedure, authorise_call, authorisation, is_page, serving_by, no_visit};
+ghost use Rattle.ictl.specs.Visits.{calls_of, filter_calls, is_procedure, authorise_call, authorisation, is_page, serving_by, no_visit, filtered, visit_by};
 
 use blueprint::when_name;
 use cmd_table::{Cmd, When};
@@ -67,9 +65,6 @@ fn filter_calls(
     ensures { (defs : List Def) → IsBuiltOf routes.now defs
         → IfOk result (λ calls. calls ≡ filter_calls when request.now defs) }
 {
-    if !routes.has_filters() {
-        return Ok(WordsList::new(alloc));
-    }
     let filters = routes.filters(when, &request.method, path)?;
     calls_of(alloc, when, filters.as_slice())
 }
@@ -85,31 +80,25 @@ pub fn is_procedure(found: Option<&Cmd>) -> bool
 }
 
 /// Puts the words of the authorisation's call into an empty list.
-fn add_authorise_call(
-    alloc: Global,
-    call: &mut Words,
-    request: &Request,
-    path: &Text,
-) -> Result<(), NoMemory>
-    requires empty { call.old ≡ [] }
-    requires path { path.now ≡ path_of request.now }
+fn add_authorise_call(alloc: Global, call: &mut Words, request: &Request) -> Result<(), NoMemory>
+    requires { call.old ≡ [] }
     ensures { OnOk result (call.new ≡ authorise_call request.now) }
 {
     call.add(Text::new(alloc, AUTHORISER)?)?;
     call.add(request.method.copy(alloc)?)?;
-    call.add(path.copy(alloc)?)?;
+    call.add(path(alloc, request)?)?;
     let shown = credentials_of(alloc, &request.fields)?;
     call.add(shown.user)?;
     call.add(shown.password)
 }
 
 /// The call of the authorisation.
-fn authorise_call(alloc: Global, request: &Request, path: &Text) -> Result<Words, NoMemory>
-    requires { path.now ≡ path_of request.now }
+#[inline(never)]
+fn authorise_call(alloc: Global, request: &Request) -> Result<Words, NoMemory>
     ensures { IfOk result (λ call. call ≡ authorise_call request.now) }
 {
     let mut call = Words::new(alloc);
-    add_authorise_call(alloc, &mut call, request, path)?;
+    add_authorise_call(alloc, &mut call, request)?;
     Ok(call)
 }
 
@@ -118,13 +107,11 @@ fn authorisation(
     alloc: Global,
     authorises: bool,
     request: &Request,
-    path: &Text,
 ) -> Result<Option<Words>, NoMemory>
-    requires { path.now ≡ path_of request.now }
     ensures { IfOk result (λ call. call ≡ authorisation authorises request.now) }
 {
     if authorises {
-        Ok(Some(authorise_call(alloc, request, path)?))
+        Ok(Some(authorise_call(alloc, request)?))
     } else {
         Ok(None)
     }
@@ -144,27 +131,27 @@ fn is_page(request: &Request) -> bool
     }
 }
 
+/// What serves a request for which nothing is registered.
+#[inline(never)]
+fn unregistered(alloc: Global, request: &Request) -> Result<Serving, NoMemory>
+    ensures { IfOk result (λ serving. serving ≡ serving_by None request.now) }
+{
+    if is_page(request) {
+        Ok(Serving::Page(path(alloc, request)?))
+    } else {
+        Ok(Serving::Nothing)
+    }
+}
+
 /// What serves a request, by what is registered for it.
-fn serving_by(
-    alloc: Global,
-    found: Option<&Route>,
-    request: &Request,
-    path: Text,
-) -> Result<Serving, NoMemory>
-    requires { path ≡ path_of request.now }
+fn serving_by(alloc: Global, found: Option<&Route>, request: &Request) -> Result<Serving, NoMemory>
     ensures { IfOk result (λ serving.
         serving
         ≡ serving_by (option_map (λ route. route.words) (option_copied found.entry)) request.now) }
 {
     match found {
         Some(route) => Ok(Serving::Procedure(Words::of_copies(alloc, route.words.as_slice())?)),
-        None => {
-            if is_page(request) {
-                Ok(Serving::Page(path))
-            } else {
-                Ok(Serving::Nothing)
-            }
-        }
+        None => unregistered(alloc, request),
     }
 }
 
@@ -182,37 +169,75 @@ impl Visit {
         }
     }
 
-    /// What a request goes through, by the tables of a blueprint, and by whether requests are authorised.
-    /// Its only error is want of memory.
+    /// Forgets the request. It takes no memory.
+    pub fn leave(&mut self)
+        ensures { self.new ≡ no_visit }
+    {
+        self.preauth.clear();
+        self.authorisation = None;
+        self.postauth.clear();
+        self.serving = Serving::Nothing;
+        self.trace.clear();
+    }
+
+    /// Puts in the calls of the filters that a request passes.
     #[inline(never)]
-    pub fn new(
+    fn add_calls(
+        &mut self,
+        alloc: Global,
+        routes: &Routes,
+        request: &Request,
+    ) -> Result<(), NoMemory>
+        ensures { (defs : List Def) → IsBuiltOf routes.now defs
+            → OnOk result (self.new ≡ filtered request.now defs self.old) }
+    {
+        let path = path(alloc, request)?;
+        let preauth = filter_calls(alloc, routes, When::Preauth, request, &path)?;
+        self.preauth = preauth;
+        let postauth = filter_calls(alloc, routes, When::Postauth, request, &path)?;
+        self.postauth = postauth;
+        let trace = filter_calls(alloc, routes, When::Trace, request, &path)?;
+        self.trace = trace;
+        Ok(())
+    }
+
+    /// The same where there are filters at all, for a visit without a request.
+    fn add_filters(
+        &mut self,
+        alloc: Global,
+        routes: &Routes,
+        request: &Request,
+    ) -> Result<(), NoMemory>
+        requires { self.old ≡ no_visit }
+        ensures { (defs : List Def) → IsBuiltOf routes.now defs
+            → OnOk result (self.new ≡ filtered request.now defs self.old) }
+    {
+        if !routes.has_filters() {
+            return Ok(());
+        }
+        self.add_calls(alloc, routes, request)
+    }
+
+    /// Enters what a request goes through, by the tables of a blueprint, and by whether requests are
+    /// authorised. Its only error is want of memory.
+    #[inline(never)]
+    pub fn enter(
+        &mut self,
         alloc: Global,
         routes: &Routes,
         authorises: bool,
         request: &Request,
-    ) -> Result<Visit, NoMemory>
-        ensures { (defs : List Def) → IsBuiltOf routes.now defs → IfOk result (λ visit.
-            visit ≡ record {
-              preauth = filter_calls when.Preauth request.now defs;
-              authorisation = authorisation authorises request.now;
-              postauth = filter_calls when.Postauth request.now defs;
-              serving = serving_by (route defs request.now.method request.now.segments) request.now;
-              trace = filter_calls when.Trace request.now defs;
-            }) }
+    ) -> Result<(), NoMemory>
+        requires { self.old ≡ no_visit }
+        ensures { (defs : List Def) → IsBuiltOf routes.now defs
+            → OnOk result (self.new ≡ visit_by authorises request.now defs) }
     {
-        let path = path(alloc, request)?;
-        let preauth = filter_calls(alloc, routes, When::Preauth, request, &path)?;
-        let postauth = filter_calls(alloc, routes, When::Postauth, request, &path)?;
-        let trace = filter_calls(alloc, routes, When::Trace, request, &path)?;
-        let authorisation = authorisation(alloc, authorises, request, &path)?;
+        self.add_filters(alloc, routes, request)?;
+        let call = authorisation(alloc, authorises, request)?;
+        self.authorisation = call;
         let found = routes.serve(&request.method, &request.segments);
-        let serving = serving_by(alloc, found, request, path)?;
-        Ok(Visit {
-            preauth,
-            authorisation,
-            postauth,
-            serving,
-            trace,
-        })
+        let serving = serving_by(alloc, found, request)?;
+        self.serving = serving;
+        Ok(())
     }
 }

@@ -5,11 +5,14 @@ use Rattle.server_host.specs.Hosts.{HostState, serving}
 use Rattle.ictl.specs.Falls.{first_number}
 use Rattle.ictl.specs.declared.interp.Interp.{Interp}
 use Rattle.ictl.proofs.Interpreters.{moved_on, from_none}
-use Rattle.ictl.proofs.Beginnings.{begun_state, request_begins}
+use Rattle.ictl.proofs.Beginnings.{begun_state, request_begins, visit_is}
 use Rattle.ictl.specs.Main.{Main}
 use Rattle.ictl.specs.Interps.{IsWithin, interp_written}
 use Rattle.ictl.proofs.Withins.{begun_none, new_writes, within_from, moved_within, wants}
 use Rattle.ictl.proofs.interp.Interp.begin_request.Goals as goal
+
+pub enter-requires : goal.enter-requires
+enter-requires g c = c.requires.1.visit
 
 pub preauth-requires : goal.preauth-requires
 preauth-requires g c = (omega arith, c.requires.1.inner)
@@ -28,24 +31,24 @@ returns-clause-stands g c = λ further.
     let names = names_of c.args.natives.now in
     let old = c.args.self.now in
     let bp = old.blueprint.value in
-    let visit = c.in-Ok.ensures names c.requires in
+    let visit = visit_is names old c.args.request c.enter.new.self c.requires (c.in-Ok.ensures bp.defs c.requires.0.routes) in
     let state = begun_state names old c.serve.new.self (λ (b : Edition). serving c.args.request c.args.moment b) c.requires.1 (c.in_ok-serve.ensures.ok ∙ ap (λ (h : HostState). serving c.args.request c.args.moment h.blueprint) c.host_mut.ensures.value) in
     let between : Interp = record old {
       settling = record old.settling { run = record { engine = record old.settling.run.engine { host = c.serve.new.self } }; questions = 1800000 };
       moment = c.args.moment;
-      visit = c.in-Ok.visit;
+      visit = c.enter.new.self;
     } in
     sym (from_none names c.in_ok-next.next c.moves.new.self _ further _
     (moved_on names c.in_ok-step.step c.in_ok-next.next between c.preauth.new.self c.moves.new.self 0 c.args.steps.now c.preauth.new.steps c.moves.new.steps further _
     c.preauth.ensures.counts c.moves.ensures.counts (c.in_ok-step.ensures.gives 0 further) (λ n. c.in_ok-next.ensures.gives n further))
-    ∙ request_begins names bp c.args.request c.args.moment c.in-Ok.visit _ further visit state)
+    ∙ request_begins names bp c.args.request c.args.moment c.enter.new.self _ further visit state)
 
 pub returns-clause-visit : goal.returns-clause-visit
 returns-clause-visit g c =
     let names = names_of c.args.natives.now in
     let old = c.args.self.now in (
       c.moves.ensures.same.visit ∙ c.preauth.ensures.same.visit
-          ∙ c.in-Ok.ensures names c.requires,
+          ∙ visit_is names old c.args.request c.enter.new.self c.requires (c.in-Ok.ensures old.blueprint.value.defs c.requires.0.routes),
       c.moves.ensures.same.moment ∙ c.preauth.ensures.same.moment,
     )
 
@@ -61,28 +64,28 @@ returns-in_err-step-clause-most g c =
     wants c.from_residual-in_err-step.result _ (let names = names_of c.args.natives.now in
     let old = c.args.self.now in
     let bp = old.blueprint.value in
-    let visit = c.in-Ok.ensures names c.requires in
+    let visit = visit_is names old c.args.request c.enter.new.self c.requires (c.in-Ok.ensures bp.defs c.requires.0.routes) in
     let state = begun_state names old c.serve.new.self (λ (b : Edition). serving c.args.request c.args.moment b) c.requires.1 (c.in_ok-serve.ensures.ok ∙ ap (λ (h : HostState). serving c.args.request c.args.moment h.blueprint) c.host_mut.ensures.value) in
     let between : Interp = record old {
       settling = record old.settling { run = record { engine = record old.settling.run.engine { host = c.serve.new.self } }; questions = 1800000 };
       moment = c.args.moment;
-      visit = c.in-Ok.visit;
+      visit = c.enter.new.self;
     } in
     within_from 0 (0 + interp_written names between) c.args.steps.now c.args.steps.now c.preauth.new.steps c.preauth.new.self _ (omega arith)
-    (subst (IsWithin (0 + interp_written names between) c.args.steps.now c.preauth.new.steps c.preauth.new.self) (request_begins names bp c.args.request c.args.moment c.in-Ok.visit _ [] visit state) (c.in_err-step.ensures.most 0)))
+    (subst (IsWithin (0 + interp_written names between) c.args.steps.now c.preauth.new.steps c.preauth.new.self) (request_begins names bp c.args.request c.args.moment c.enter.new.self _ [] visit state) (c.in_err-step.ensures.most 0)))
 
 pub returns-in_err-next-clause-most : goal.returns-in_err-next-clause-most
 returns-in_err-next-clause-most g c =
     wants c.from_residual-in_err-next.result _ (let names = names_of c.args.natives.now in
     let old = c.args.self.now in
     let bp = old.blueprint.value in
-    let visit = c.in-Ok.ensures names c.requires in
+    let visit = visit_is names old c.args.request c.enter.new.self c.requires (c.in-Ok.ensures bp.defs c.requires.0.routes) in
     let state = begun_state names old c.serve.new.self (λ (b : Edition). serving c.args.request c.args.moment b) c.requires.1 (c.in_ok-serve.ensures.ok ∙ ap (λ (h : HostState). serving c.args.request c.args.moment h.blueprint) c.host_mut.ensures.value) in
     let between : Interp = record old {
       settling = record old.settling { run = record { engine = record old.settling.run.engine { host = c.serve.new.self } }; questions = 1800000 };
       moment = c.args.moment;
-      visit = c.in-Ok.visit;
+      visit = c.enter.new.self;
     } in
     within_from 0 (0 + interp_written names between) c.args.steps.now c.args.steps.now c.moves.new.steps c.moves.new.self (Main names bp c.args.request c.args.moment []) (omega arith)
     (moved_within names c.in_ok-step.step between c.preauth.new.self c.moves.new.self 0 c.args.steps.now c.preauth.new.steps c.moves.new.steps (Main names bp c.args.request c.args.moment []) c.preauth.ensures.counts
-    (c.in_ok-step.ensures.gives 0 [] ∙ request_begins names bp c.args.request c.args.moment c.in-Ok.visit _ [] visit state) (λ n. c.in_err-next.ensures.most n)))
+    (c.in_ok-step.ensures.gives 0 [] ∙ request_begins names bp c.args.request c.args.moment c.enter.new.self _ [] visit state) (λ n. c.in_err-next.ensures.most n)))

@@ -13,10 +13,10 @@ clear-requires g c = omega (arith, c.min-mark.ensures, c.mark.ensures)
 
 pub returns-clause-is_new : goal.returns-clause-is_new
 returns-clause-is_new g c = λ names sound.
-    new_again names c.args.self.now c.clear.new.self c.none.result c.min-mark.result c.put_back.new.self
+    new_again names c.args.self.now c.clear.new.self c.leave.new.self c.min-mark.result c.put_back.new.self
     (c.min-mark.ensures ∙ ap (λ (n : ℕ). min c.args.self.now.mark n) c.mark.ensures) c.clear.ensures.state c.clear.ensures.table c.clear.ensures.idle
     (subst (λ (i : Option InnerRun). c.put_back.new.self ≡ restored (record c.args.self.now { settling = record c.args.self.now.settling { run = record { engine = c.clear.new.self }; inner = i } })) c.leave_inner.ensures c.put_back.ensures)
-    c.none.ensures sound
+    c.leave.ensures sound
 
 pub returns-clause-steps : goal.returns-clause-steps
 returns-clause-steps g c = λ names sound.
