@@ -8,7 +8,7 @@ ghost use Rattle.tcl_eval.specs.Engine.{at_global};
 ghost use Rattle.ictl.specs.Fresh.{outset};
 ghost use Rattle.ictl.specs.Settle.{account_of};
 ghost use Rattle.ictl.specs.Replies.{given_or_failed, failed, procedure_reply, page_reply, verdict, access};
-ghost use Rattle.ictl.specs.Main.{runs, calls, filters_from, filter_end, access_end, authorised, unauthorised, serve, page_question, page_words};
+ghost use Rattle.ictl.specs.Main.{runs, calls, filters_from, filter_end, access_end, authorised, unauthorised, serve, page_question, page_words, visited};
 ghost use Rattle.ictl.specs.Interps.{Holds, IsSameRun, interp_state, interp_written, IsWithin, taken, Counts, task_end, asking_gives, move_gives};
 ghost use Rattle.ictl.specs.Steps.{Lowers, scripts_left, asked_path, EntersNone, EntersBy};
 ghost use Rattle.ictl.specs.declared.task.Task.{Task as Tasks};
@@ -205,8 +205,45 @@ impl Interp {
         self.run(natives, task, Work::Call(words), budget, steps)
     }
 
+    /// Goes through the stages of a request, from the first one on. Where nothing is called before what
+    /// serves it, it is served at once.
+    pub(crate) fn first_stage<L: Ledger>(
+        &mut self,
+        natives: &Natives,
+        budget: u64,
+        steps: &mut Steps<L>,
+    ) -> Result<Move, NoMemory>
+        requires { IsReady budget self.old.settling }
+        ensures gives { let names = names_of natives.now in
+            IfOk result (λ step.
+            (inside : ℕ) (further : List Answer)
+            → move_gives names step (inside + taken names steps.new steps.old self.new self.old)
+            self.new further
+            ≡ visited names self.old.blueprint.value self.old.moment self.old.visit
+            (interp_state self.old) (account_of budget self.old.settling.questions inside)
+            further) }
+        ensures counts { Counts (names_of natives.now) steps.new steps.old self.new self.old }
+        ensures most { let names = names_of natives.now in
+            OnErr result
+            ((inside : ℕ)
+            → IsWithin (inside + interp_written names self.old) steps.old steps.new self.new
+            (visited names self.old.blueprint.value self.old.moment self.old.visit
+            (interp_state self.old) (account_of budget self.old.settling.questions inside) [])) }
+        ensures same { IsSameRun self.new self.old }
+        ensures holds { Holds self.new self.old }
+        ensures next { IfOk result (λ step. MoveStandsAt step self.new) }
+        ensures falls { IfOk result (λ step.
+            (before : ℕ) → per_question * self.old.settling.questions + 2 < before
+            → MoveFalls step self.new before) }
+    {
+        if self.visit.is_plain() {
+            return self.serve(natives, budget, steps);
+        }
+        self.preauth(natives, 0, budget, steps)
+    }
+
     /// Calls the preauth filter at this place, or goes on behind them.
-    pub(crate) fn preauth<L: Ledger>(
+    fn preauth<L: Ledger>(
         &mut self,
         natives: &Natives,
         next: usize,

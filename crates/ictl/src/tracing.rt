@@ -130,7 +130,7 @@ impl Interp {
         self.settling.run.engine.host_mut().serve(request, moment)?;
         self.moment = moment;
         self.settling.questions = RUN_QUESTIONS;
-        let step = self.preauth(natives, 0, RUN_BUDGET, steps)?;
+        let step = self.first_stage(natives, RUN_BUDGET, steps)?;
         let next = self.moves(natives, step, steps)?;
         Ok(next)
     }

@@ -1,6 +1,6 @@
 //! What a request goes through.
 
-ghost use Rattle.std.specs.Prelude.{◌≡◌, ◌++◌, ◌∷◌, [], List, None, IfOk, OnOk};
+ghost use Rattle.std.specs.Prelude.{◌≡◌, ◌++◌, ◌∷◌, [], List, None, IsTrue, IfOk, OnOk};
 ghost use Rattle.std.specs.Option.{option_copied, option_map};
 ghost use Rattle.cmd_table.specs.declared.definition.Def.{Def};
 ghost use Rattle.conn_host.specs.RequestCommands.{path_of};
@@ -178,6 +178,21 @@ impl Visit {
         self.postauth.clear();
         self.serving = Serving::Nothing;
         self.trace.clear();
+    }
+
+    /// Whether nothing is called before what serves: no filter and no authorisation.
+    pub fn is_plain(&self) -> bool
+        ensures preauth { IsTrue result → self.now.preauth ≡ [] }
+        ensures authorisation { IsTrue result → self.now.authorisation ≡ None }
+        ensures postauth { IsTrue result → self.now.postauth ≡ [] }
+    {
+        if !self.preauth.is_empty() {
+            return false;
+        }
+        match &self.authorisation {
+            None => self.postauth.is_empty(),
+            Some(_) => false,
+        }
     }
 
     /// Puts in the calls of the filters that a request passes.

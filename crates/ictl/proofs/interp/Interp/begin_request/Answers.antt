@@ -14,8 +14,8 @@ use Rattle.ictl.proofs.interp.Interp.begin_request.Goals as goal
 pub enter-requires : goal.enter-requires
 enter-requires g c = c.requires.1.visit
 
-pub preauth-requires : goal.preauth-requires
-preauth-requires g c = (omega arith, c.requires.1.inner)
+pub first_stage-requires : goal.first_stage-requires
+first_stage-requires g c = (omega arith, c.requires.1.inner)
 
 pub moves-requires : goal.moves-requires
 moves-requires g c = c.in_ok-step.ensures.next
@@ -39,17 +39,17 @@ returns-clause-stands g c = λ further.
       visit = c.enter.new.self;
     } in
     sym (from_none names c.in_ok-next.next c.moves.new.self _ further _
-    (moved_on names c.in_ok-step.step c.in_ok-next.next between c.preauth.new.self c.moves.new.self 0 c.args.steps.now c.preauth.new.steps c.moves.new.steps further _
-    c.preauth.ensures.counts c.moves.ensures.counts (c.in_ok-step.ensures.gives 0 further) (λ n. c.in_ok-next.ensures.gives n further))
+    (moved_on names c.in_ok-step.step c.in_ok-next.next between c.first_stage.new.self c.moves.new.self 0 c.args.steps.now c.first_stage.new.steps c.moves.new.steps further _
+    c.first_stage.ensures.counts c.moves.ensures.counts (c.in_ok-step.ensures.gives 0 further) (λ n. c.in_ok-next.ensures.gives n further))
     ∙ request_begins names bp c.args.request c.args.moment c.enter.new.self _ further visit state)
 
 pub returns-clause-visit : goal.returns-clause-visit
 returns-clause-visit g c =
     let names = names_of c.args.natives.now in
     let old = c.args.self.now in (
-      c.moves.ensures.same.visit ∙ c.preauth.ensures.same.visit
+      c.moves.ensures.same.visit ∙ c.first_stage.ensures.same.visit
           ∙ visit_is names old c.args.request c.enter.new.self c.requires (c.in-Ok.ensures old.blueprint.value.defs c.requires.0.routes),
-      c.moves.ensures.same.moment ∙ c.preauth.ensures.same.moment,
+      c.moves.ensures.same.moment ∙ c.first_stage.ensures.same.moment,
     )
 
 pub returns-in_default-clause-most : goal.returns-in_default-clause-most
@@ -71,8 +71,8 @@ returns-in_err-step-clause-most g c =
       moment = c.args.moment;
       visit = c.enter.new.self;
     } in
-    within_from 0 (0 + interp_written names between) c.args.steps.now c.args.steps.now c.preauth.new.steps c.preauth.new.self _ (omega arith)
-    (subst (IsWithin (0 + interp_written names between) c.args.steps.now c.preauth.new.steps c.preauth.new.self) (request_begins names bp c.args.request c.args.moment c.enter.new.self _ [] visit state) (c.in_err-step.ensures.most 0)))
+    within_from 0 (0 + interp_written names between) c.args.steps.now c.args.steps.now c.first_stage.new.steps c.first_stage.new.self _ (omega arith)
+    (subst (IsWithin (0 + interp_written names between) c.args.steps.now c.first_stage.new.steps c.first_stage.new.self) (request_begins names bp c.args.request c.args.moment c.enter.new.self _ [] visit state) (c.in_err-step.ensures.most 0)))
 
 pub returns-in_err-next-clause-most : goal.returns-in_err-next-clause-most
 returns-in_err-next-clause-most g c =
@@ -87,5 +87,5 @@ returns-in_err-next-clause-most g c =
       visit = c.enter.new.self;
     } in
     within_from 0 (0 + interp_written names between) c.args.steps.now c.args.steps.now c.moves.new.steps c.moves.new.self (Main names bp c.args.request c.args.moment []) (omega arith)
-    (moved_within names c.in_ok-step.step between c.preauth.new.self c.moves.new.self 0 c.args.steps.now c.preauth.new.steps c.moves.new.steps (Main names bp c.args.request c.args.moment []) c.preauth.ensures.counts
+    (moved_within names c.in_ok-step.step between c.first_stage.new.self c.moves.new.self 0 c.args.steps.now c.first_stage.new.steps c.moves.new.steps (Main names bp c.args.request c.args.moment []) c.first_stage.ensures.counts
     (c.in_ok-step.ensures.gives 0 [] ∙ request_begins names bp c.args.request c.args.moment c.enter.new.self _ [] visit state) (λ n. c.in_err-next.ensures.most n)))
