@@ -214,7 +214,7 @@ asked_falls Script s new stop script fewer fell = stop_falls stop Script new new
 asked_falls (Define defining) s new stop script fewer fell = absurd script
 asked_falls Over s new stop script fewer fell = stop_falls stop Over new new _ (omega arith) (number_over new.questions s s.inner refl fewer) fell
 
-both_end : (ending : Ending) → IsEnd (both ending answered)
+pub both_end : (ending : Ending) → IsEnd (both ending answered)
 both_end Answered = tt
 both_end Spent = tt
 both_end TooDeep = tt

@@ -1,22 +1,26 @@
 -- What a start, and a response that was written, say of the run behind them.
-use Rattle.std.proofs.Common.{◌≡◌, ℕ, ◌+◌, ◌≤◌, List, [], sym, subst, ap, arith, true, None, Option, Result}
+use Rattle.std.proofs.Common.{◌≡◌, ℕ, ◌+◌, ◌-◌, ◌≤◌, List, [], sym, subst, ap, ◌∙◌, arith, true, None, Option, Result}
 use Rattle.std.specs.Prelude.{IfOk, OnErr, MatchResult}
 use Rattle.txt_core.specs.Names.{Names}
 use Rattle.outside.specs.declared.question.Answer.{Answer}
 use Rattle.http_req.specs.declared.request.Request.{Request}
 use Rattle.cmd_table.specs.Commands.{Writes}
 use Rattle.server_host.specs.declared.edition.Edition.{Edition}
-use Rattle.ictl.specs.Main.{Progress, behind}
+use Rattle.ictl.specs.Main.{Progress, answered, behind, both, cleanups_from, ends, full, traces_from}
 use Rattle.ictl.specs.Visits.{visit_of}
 use Rattle.ictl.specs.Standing.{inner_written}
 use Rattle.ictl.specs.Interps.{Stands, gives, taken, interp_state, interp_written, ending_of, IsSound, IsWithin}
 use Rattle.ictl.specs.Falls.{GoesOut}
 use Rattle.ictl.specs.declared.inner.InnerRun.{InnerRun}
 use Rattle.ictl.specs.declared.next.Next.{Next}
-use Rattle.ictl.specs.declared.next.Next.TheVariants.{NoMemory}
+use Rattle.ictl.specs.declared.next.Next.TheVariants.{Ended, NoMemory}
+use Rattle.ictl.specs.declared.task.Task.TheVariants.{Over}
 use Rattle.ictl.specs.declared.interp.Interp.{Interp}
+use Rattle.ictl.proofs.Beginnings.{behind_begins}
 use Rattle.ictl.proofs.Interpreters.{answered_so, ok_both}
+use Rattle.ictl.proofs.Overs.{over_gives}
 use Rattle.ictl.proofs.Resets.{run_from, defined_from}
+use Rattle.ictl.proofs.Settlings.{none_taken}
 use Rattle.ictl.proofs.Withins.{either, err_same, defined_within, within_from, out_within}
 
 -- a run that was begun with a spare blueprint, by what its start answered
@@ -67,3 +71,17 @@ written_most names came old new first last none counted most stands out = λ req
     (λ n is goes. within_from (inside + Writes (interp_state old).made) (inside + interp_written names old) first first last new run (omega (arith, empty))
     (out_within names n old new inside first last run counted goes (sym (is request sound visit inside []))))
     stands out)
+
+-- where nothing comes behind a response that was written whole, the run ends as it did up to it
+pub nothing_behind : (names : Names) (next : Next) (old new : Interp) (request : Request) (inside steps : ℕ) (further : List Answer)
+    → next ≡ Ended (both (ending_of old.task) answered) → new ≡ record old { task = Over }
+    → IsSound names old → old.visit ≡ visit_of names old.blueprint.value request → old.visit.trace ≡ [] → old.cleanups ≡ []
+    → behind names old.blueprint.value old.moment true request (ending_of old.task) (interp_state old) inside further
+    ≡ gives names next (inside + taken names steps steps new old) new further
+nothing_behind names next old new request inside steps further is now sound visit trace cleanups =
+    sym (behind_begins names old request (ending_of old.task) inside further sound visit)
+    ∙ ap (λ (l : List (List (List ℕ))). traces_from names old.blueprint.value old.moment l old.cleanups (ending_of old.task) (interp_state old) (full inside) further) trace
+    ∙ ap (λ (l : List (List ℕ)). cleanups_from names old.blueprint.value old.moment l (ending_of old.task) (interp_state old) (full inside) further) cleanups
+    ∙ sym (over_gives names next (both (ending_of old.task) answered) old new (inside + taken names steps steps new old) further is now
+    ∙ ap (λ (i : Interp). ends (both (ending_of old.task) answered) (interp_state old) (inside + ((steps + interp_written names old) - (steps + interp_written names i))) further) now
+    ∙ ap (λ (n : ℕ). ends (both (ending_of old.task) answered) (interp_state old) n further) (none_taken inside (steps + interp_written names old)))

@@ -335,7 +335,7 @@ impl Interp {
         if whole {
             next_of(self.go_behind(natives, steps))
         } else {
-            self.end_unwritten()
+            self.end_here()
         }
     }
 

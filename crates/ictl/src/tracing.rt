@@ -1,6 +1,6 @@
 //! The run of a request behind its response, and the runs without a connection.
 
-ghost use Rattle.std.specs.Prelude.{◌≡◌, ◌≤◌, ◌<◌, ◌+◌, ◌-◌, ◌*◌, ◌^◌, ◌++◌, ◌∷◌, [], ℕ, List, None, true, IfOk, OnErr, drop, length, MatchOption};
+ghost use Rattle.std.specs.Prelude.{◌≡◌, ◌≤◌, ◌<◌, ◌+◌, ◌-◌, ◌*◌, ◌^◌, ◌++◌, ◌∷◌, [], ℕ, List, None, true, IsTrue, IfOk, OnErr, drop, length, MatchOption};
 ghost use Rattle.txt_core.specs.Names.{Names};
 ghost use Rattle.natives.specs.Names.{names_of};
 ghost use Rattle.outside.specs.declared.question.Answer.{Answer};
@@ -322,10 +322,8 @@ impl Interp {
         Next::Ended(outcome)
     }
 
-    /// The run ends, since its response wasn't written whole.
-    #[cold]
-    #[inline(never)]
-    pub(crate) fn end_unwritten(&mut self) -> Next
+    /// The run ends as it did up to its response, behind which nothing runs.
+    pub(crate) fn end_here(&mut self) -> Next
         ensures ends { result ≡ Next.Ended (both (ending_of self.old.task) answered) }
         ensures task { self.new ≡ record self.old { task = Task.Over } }
     {
@@ -334,9 +332,57 @@ impl Interp {
         Next::Ended(both(ending, answered(self.alloc)))
     }
 
-    /// Goes on behind the response, which was written whole.
-    #[tactic(auto, using(crate::proofs::Interpreters::holds_on))]
+    /// Whether nothing comes behind the response: no trace filter and no cleanup script.
+    fn has_nothing_behind(&self) -> bool
+        ensures trace { IsTrue result → self.now.visit.trace ≡ [] }
+        ensures cleanups { IsTrue result → self.now.cleanups ≡ [] }
+    {
+        if !self.cleanups.is_empty() {
+            return false;
+        }
+        self.visit.trace.is_empty()
+    }
+
+    /// Goes on behind the response, which was written whole. Where nothing comes behind it, the run ends.
     pub(crate) fn go_behind<L: Ledger>(
+        &mut self,
+        natives: &Natives,
+        steps: &mut Steps<L>,
+    ) -> Result<Next, NoMemory>
+        requires { IsWriting self.old }
+        ensures stands { let names = names_of natives.now in
+            IfOk result (λ next.
+            (request : Request) → IsSound names self.old
+            → self.old.visit ≡ visit_of names self.old.blueprint.value request
+            → (inside : ℕ) (further : List Answer)
+            → behind names self.old.blueprint.value self.old.moment true request
+            (ending_of self.old.task) (interp_state self.old) inside further
+            ≡ gives names next (inside + taken names steps.new steps.old self.new self.old) self.new
+            further) }
+        ensures counts { Counts (names_of natives.now) steps.new steps.old self.new self.old }
+        ensures most { let names = names_of natives.now in
+            OnErr result
+            ((request : Request) → IsSound names self.old
+            → self.old.visit ≡ visit_of names self.old.blueprint.value request
+            → (inside : ℕ)
+            → IsWithin (inside + Writes (interp_state self.old).made) steps.old steps.new self.new
+            (behind names self.old.blueprint.value self.old.moment true request
+            (ending_of self.old.task) (interp_state self.old) inside [])) }
+        ensures same { IsSameRun self.new self.old }
+        ensures holds { Holds self.new self.old }
+        ensures next { IfOk result (λ next. GoesOut next self.new) }
+        ensures falls { IfOk result (λ next. Falls next self.new first_number) }
+    {
+        if self.has_nothing_behind() {
+            return Ok(self.end_here());
+        }
+        self.run_behind(natives, steps)
+    }
+
+    /// Runs what comes behind the response: the trace filters, and then the cleanup scripts.
+    #[inline(never)]
+    #[tactic(auto, using(crate::proofs::Interpreters::holds_on))]
+    fn run_behind<L: Ledger>(
         &mut self,
         natives: &Natives,
         steps: &mut Steps<L>,

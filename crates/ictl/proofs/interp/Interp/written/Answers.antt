@@ -37,28 +37,28 @@ pub returns-else-whole-clause-stands : goal.returns-else-whole-clause-stands
 returns-else-whole-clause-stands g c = λ request sound visit inside.
     let names = names_of c.args.natives.now in
     let old = c.args.self.now in
-    subst (λ (b : Bool). UnlessNoMemory c.end_unwritten.result ((further : List Answer) → behind names old.blueprint.value old.moment b request (ending_of old.task) (interp_state old) inside further
-    ≡ gives names c.end_unwritten.result (inside + taken names c.args.steps.now c.args.steps.now c.end_unwritten.new.self old) c.end_unwritten.new.self further)) (sym c.if-whole.false)
-    (unwritten_stands names c.end_unwritten.result old c.end_unwritten.new.self request inside c.args.steps.now c.end_unwritten.ensures.ends c.end_unwritten.ensures.task)
+    subst (λ (b : Bool). UnlessNoMemory c.end_here.result ((further : List Answer) → behind names old.blueprint.value old.moment b request (ending_of old.task) (interp_state old) inside further
+    ≡ gives names c.end_here.result (inside + taken names c.args.steps.now c.args.steps.now c.end_here.new.self old) c.end_here.new.self further)) (sym c.if-whole.false)
+    (unwritten_stands names c.end_here.result old c.end_here.new.self request inside c.args.steps.now c.end_here.ensures.ends c.end_here.ensures.task)
 
 pub returns-else-whole-clause-unwritten : goal.returns-else-whole-clause-unwritten
-returns-else-whole-clause-unwritten g c = λ short. (c.end_unwritten.ensures.ends, refl)
+returns-else-whole-clause-unwritten g c = λ short. (c.end_here.ensures.ends, refl)
 
 pub returns-else-whole-clause-same : goal.returns-else-whole-clause-same
-returns-else-whole-clause-same g c = over_same c.end_unwritten.new.self c.args.self.now c.end_unwritten.ensures.task
+returns-else-whole-clause-same g c = over_same c.end_here.new.self c.args.self.now c.end_here.ensures.task
 
 pub returns-else-whole-clause-holds : goal.returns-else-whole-clause-holds
-returns-else-whole-clause-holds g c = over_holds c.end_unwritten.new.self c.args.self.now c.end_unwritten.ensures.task
+returns-else-whole-clause-holds g c = over_holds c.end_here.new.self c.args.self.now c.end_here.ensures.task
 
 pub returns-else-whole-clause-sound : goal.returns-else-whole-clause-sound
 returns-else-whole-clause-sound g c = λ names sound.
-    sound_on names c.end_unwritten.new.self c.args.self.now (writing_runs c.args.self.now c.requires) (over_same c.end_unwritten.new.self c.args.self.now c.end_unwritten.ensures.task) (over_holds c.end_unwritten.new.self c.args.self.now c.end_unwritten.ensures.task) sound
+    sound_on names c.end_here.new.self c.args.self.now (writing_runs c.args.self.now c.requires) (over_same c.end_here.new.self c.args.self.now c.end_here.ensures.task) (over_holds c.end_here.new.self c.args.self.now c.end_here.ensures.task) sound
 
 pub returns-else-whole-clause-next : goal.returns-else-whole-clause-next
-returns-else-whole-clause-next g c = unwritten_over c.end_unwritten.result c.args.self.now c.end_unwritten.new.self c.end_unwritten.ensures.ends c.end_unwritten.ensures.task c.requires.0
+returns-else-whole-clause-next g c = unwritten_over c.end_here.result c.args.self.now c.end_here.new.self c.end_here.ensures.ends c.end_here.ensures.task c.requires.0
 
 pub returns-else-whole-clause-falls : goal.returns-else-whole-clause-falls
-returns-else-whole-clause-falls g c = subst (λ (n : Next). Falls n c.end_unwritten.new.self first_number) (sym c.end_unwritten.ensures.ends) tt
+returns-else-whole-clause-falls g c = subst (λ (n : Next). Falls n c.end_here.new.self first_number) (sym c.end_here.ensures.ends) tt
 
 pub returns-then-whole-clause-most : goal.returns-then-whole-clause-most
 returns-then-whole-clause-most g c = λ request sound visit inside.
@@ -72,5 +72,5 @@ pub returns-else-whole-clause-most : goal.returns-else-whole-clause-most
 returns-else-whole-clause-most g c = λ request sound visit inside.
     let names = names_of c.args.natives.now in
     let old = c.args.self.now in
-    subst (λ (b : Bool). IsWithin (inside + Writes (interp_state old).made) c.args.steps.now c.args.steps.now c.end_unwritten.new.self (behind names old.blueprint.value old.moment b request (ending_of old.task) (interp_state old) inside [])) (sym c.if-whole.false)
-    (subst (λ (i : Interp). IsWithin (inside + Writes (interp_state old).made) c.args.steps.now c.args.steps.now i (ends (both (ending_of old.task) answered) (interp_state old) inside [])) (sym c.end_unwritten.ensures.task) (record { all = omega arith; own = omega arith }))
+    subst (λ (b : Bool). IsWithin (inside + Writes (interp_state old).made) c.args.steps.now c.args.steps.now c.end_here.new.self (behind names old.blueprint.value old.moment b request (ending_of old.task) (interp_state old) inside [])) (sym c.if-whole.false)
+    (subst (λ (i : Interp). IsWithin (inside + Writes (interp_state old).made) c.args.steps.now c.args.steps.now i (ends (both (ending_of old.task) answered) (interp_state old) inside [])) (sym c.end_here.ensures.task) (record { all = omega arith; own = omega arith }))
