@@ -561,10 +561,7 @@ impl Interp {
     {
         match step {
             Move::Stops(next) => Ok(next),
-            Move::Goes(stop) => {
-                let next = self.go_on(natives, stop, steps)?;
-                Ok(next)
-            }
+            Move::Goes(stop) => self.go_on(natives, stop, steps),
         }
     }
 
@@ -640,10 +637,7 @@ impl Interp {
             Stop::Asks(question) => Ok(Move::Stops(Next::Asks(question))),
             Stop::Spent => self.cut(Ending::Spent),
             Stop::TooDeep => self.cut(Ending::TooDeep),
-            Stop::Ended { code, result } => {
-                let step = self.ended(natives, code, result, steps)?;
-                Ok(step)
-            }
+            Stop::Ended { code, result } => self.ended(natives, code, result, steps),
         }
     }
 

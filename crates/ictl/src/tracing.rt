@@ -131,8 +131,7 @@ impl Interp {
         self.moment = moment;
         self.settling.questions = RUN_QUESTIONS;
         let step = self.first_stage(natives, RUN_BUDGET, steps)?;
-        let next = self.moves(natives, step, steps)?;
-        Ok(next)
+        self.moves(natives, step, steps)
     }
 
     /// Begins the run of a scheduled script.
