@@ -69,9 +69,7 @@ fn copy_serving(alloc: Global, serving: &Serving) -> Result<Serving, NoMemory>
     ensures { IfOk result (λ copy. copy ≡ serving.now) }
 {
     Ok(match serving {
-        Serving::Procedure(words) => {
-            Serving::Procedure(Words::of_copies(alloc, words.as_slice())?)
-        }
+        Serving::Procedure(words) => Serving::Procedure(words.share()?),
         Serving::Page(path) => Serving::Page(path.copy(alloc)?),
         Serving::Nothing => Serving::Nothing,
     })
@@ -586,7 +584,9 @@ impl Interp {
         let serving = copy_serving(self.alloc, &self.visit.serving)?;
         match serving {
             Serving::Procedure(words) => {
-                self.call(natives, Task::Procedure, words, budget, steps)
+                let called = words.copy(self.alloc)?;
+                drop(words);
+                self.call(natives, Task::Procedure, called, budget, steps)
             }
             Serving::Page(path) => self.ask_page(path, budget),
             Serving::Nothing => {

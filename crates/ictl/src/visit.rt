@@ -13,7 +13,7 @@ use conn_host::{credentials_of, path};
 use http_req::Request;
 use std::alloc::Global;
 use txt_core::{NoMemory, Text, Words};
-use url_tables::{Route, Routes, WordsList};
+use url_tables::{Route, Routes, SharedWords, WordsList};
 
 /// The procedure that says whether a request is allowed.
 pub const AUTHORISER: &[u8] = b"ns_authorize";
@@ -22,7 +22,7 @@ pub const AUTHORISER: &[u8] = b"ns_authorize";
 #[derive(Debug, Drop)]
 pub enum Serving {
     /// The call of a procedure.
-    Procedure(Words),
+    Procedure(SharedWords),
     /// The page of this path.
     Page(Text),
     /// Nothing: it isn't found.
@@ -150,7 +150,7 @@ fn serving_by(alloc: Global, found: Option<&Route>, request: &Request) -> Result
         ≡ serving_by (option_map (λ route. route.words) (option_copied found.entry)) request.now) }
 {
     match found {
-        Some(route) => Ok(Serving::Procedure(Words::of_copies(alloc, route.words.as_slice())?)),
+        Some(route) => Ok(Serving::Procedure(route.words.share()?)),
         None => unregistered(alloc, request),
     }
 }

@@ -43,7 +43,7 @@ fn segments_of(alloc: Global, path: &str) -> Words {
 fn first_word(route: Option<&Route>) -> &[u8] {
     match route {
         None => b"-",
-        Some(route) => match route.words.get(0) {
+        Some(route) => match route.words.as_slice().first() {
             None => b"-",
             Some(word) => word.bytes(),
         },

@@ -4,6 +4,7 @@
 mod filters;
 mod law;
 mod routes;
+mod shared;
 mod site;
 mod table;
 mod url;
@@ -11,4 +12,5 @@ mod url;
 pub use filters::WordsList;
 pub use law::routes_are_best;
 pub use routes::Routes;
+pub use shared::SharedWords;
 pub use site::Route;

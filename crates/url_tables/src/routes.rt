@@ -10,6 +10,7 @@ ghost use Rattle.url_tables.specs.Filters.{Filters};
 ghost use Rattle.url_tables.specs.Searching.{last_serving, found_at};
 
 use crate::filters::{Passing, WordsList};
+use crate::shared::SharedWords;
 use crate::site::{Route, Site};
 use crate::table::{Sites, put};
 use crate::url::read_url;
@@ -127,7 +128,8 @@ impl Routes {
     {
         let alloc = self.alloc;
         let parts = read_url(alloc, url.bytes())?;
-        let words = Sequence::of_copies(alloc, words.as_slice())?;
+        let copies = Sequence::of_copies(alloc, words.as_slice())?;
+        let words = SharedWords::new(alloc, copies)?;
         let site = Site {
             method: method.copy(alloc)?,
             suffix: parts.suffix,

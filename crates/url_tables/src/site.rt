@@ -4,12 +4,13 @@ ghost use Rattle.std.specs.Prelude.{◌≡◌};
 ghost use Rattle.url_tables.specs.Urls.{last_of, fits};
 ghost use Rattle.url_tables.specs.Searching.{has_pattern_as, serves};
 
-use txt_core::{Text, Words};
+use crate::shared::SharedWords;
+use txt_core::Text;
 
 /// The words that serve a request: those of a procedure and of its arguments.
 #[derive(Debug, Drop)]
 pub struct Route {
-    pub words: Words,
+    pub words: SharedWords,
 }
 
 /// A registration, kept under the plain segments of its URL.

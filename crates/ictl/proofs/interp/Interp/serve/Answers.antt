@@ -1,10 +1,11 @@
-use Rattle.std.proofs.Common.{arith, sym, ap, ◌∙◌, ◌+◌, [], refl, subst}
+use Rattle.std.proofs.Common.{ℕ, List, arith, sym, ap, ◌∙◌, ◌+◌, [], refl, subst}
 use Rattle.natives.specs.Names.{names_of}
 use Rattle.http_resp.specs.declared.response.Response.{Response}
 use Rattle.ictl.specs.Settle.{account_of}
 use Rattle.ictl.specs.Main.{serve, responds}
 use Rattle.ictl.specs.Interps.{interp_state, IsWithin, interp_written}
 use Rattle.ictl.specs.declared.visit.Serving.{Serving}
+use Rattle.ictl.specs.declared.visit.Serving.TheVariants.{Procedure}
 use Rattle.ictl.proofs.Interpreters.{asked_page, ok_both, ok_same, responded, stops_lower, write_falls, write_stands}
 use Rattle.server_host.specs.Hosts.{HostState}
 use Rattle.tcl_eval.specs.State.{State}
@@ -13,8 +14,8 @@ use Rattle.ictl.proofs.Withins.{err_same, none_within, wants}
 use Rattle.ictl.proofs.Growing.{served_grows}
 use Rattle.ictl.proofs.interp.Interp.serve.Goals as goal
 
-pub returns-in-Procedure-clause-gives : goal.returns-in-Procedure-clause-gives
-returns-in-Procedure-clause-gives g c =
+pub returns-in_ok-called-in-Procedure-clause-gives : goal.returns-in_ok-called-in-Procedure-clause-gives
+returns-in_ok-called-in-Procedure-clause-gives g c =
     let names = names_of c.args.natives.now in
     let old = c.args.self.now in
     let bp = old.blueprint.value in
@@ -22,7 +23,7 @@ returns-in-Procedure-clause-gives g c =
     let q = old.settling.questions in
     ok_same c.call.result _ _
     (λ step h inside further. h inside further
-    ∙ ap (λ (s : Serving). serve names bp m s (interp_state old) (account_of c.args.budget q inside) further) (sym c.in-Procedure.is ∙ c.in_ok-serving.ensures))
+    ∙ ap (λ (s : Serving). serve names bp m s (interp_state old) (account_of c.args.budget q inside) further) (ap (λ (w : List (List ℕ)). Procedure w) c.in_ok-called-in-Procedure.ensures ∙ sym c.in-Procedure.is ∙ c.in_ok-serving.ensures))
     c.call.ensures.gives
 
 pub returns-in-Page-clause-gives : goal.returns-in-Page-clause-gives
@@ -60,25 +61,34 @@ returns-in_ok-response-in-Nothing-clause-falls g c = λ before less. write_falls
 pub returns-in_ok-response-in-Nothing-clause-next : goal.returns-in_ok-response-in-Nothing-clause-next
 returns-in_ok-response-in-Nothing-clause-next g c = write_stands c.respond.result _ _ c.args.self.now c.respond.new.self c.respond.ensures.stops c.respond.ensures.task c.requires.1
 
-pub returns-in-Procedure-clause-lowers : goal.returns-in-Procedure-clause-lowers
-returns-in-Procedure-clause-lowers g c = ok_same c.call.result _ _ (λ step h. h _ (omega arith)) c.call.ensures.lowers
+pub returns-in_ok-called-in-Procedure-clause-lowers : goal.returns-in_ok-called-in-Procedure-clause-lowers
+returns-in_ok-called-in-Procedure-clause-lowers g c = ok_same c.call.result _ _ (λ step h. h _ (omega arith)) c.call.ensures.lowers
 
 pub returns-in-Page-clause-lowers : goal.returns-in-Page-clause-lowers
 returns-in-Page-clause-lowers g c = ok_same c.ask_page.result _ _ (λ step is. stops_lower step _ c.ask_page.new.self _ is) c.ask_page.ensures.asks
 
-pub returns-in-Procedure-clause-most : goal.returns-in-Procedure-clause-most
-returns-in-Procedure-clause-most g c =
+pub returns-in_ok-called-in-Procedure-clause-most : goal.returns-in_ok-called-in-Procedure-clause-most
+returns-in_ok-called-in-Procedure-clause-most g c =
     let names = names_of c.args.natives.now in
     let old = c.args.self.now in
     let bp = old.blueprint.value in
     let m = old.moment in
     let q = old.settling.questions in
     err_same c.call.result _ _
-    (λ h inside. subst (IsWithin (inside + interp_written names old) c.args.steps.now c.call.new.steps c.call.new.self) (ap (λ (s : Serving). serve names bp m s (interp_state old) (account_of c.args.budget q inside) []) (sym c.in-Procedure.is ∙ c.in_ok-serving.ensures)) (h inside))
+    (λ h inside. subst (IsWithin (inside + interp_written names old) c.args.steps.now c.call.new.steps c.call.new.self) (ap (λ (s : Serving). serve names bp m s (interp_state old) (account_of c.args.budget q inside) []) (ap (λ (w : List (List ℕ)). Procedure w) c.in_ok-called-in-Procedure.ensures ∙ sym c.in-Procedure.is ∙ c.in_ok-serving.ensures)) (h inside))
     c.call.ensures.most
 
 pub returns-in_err-serving-clause-most : goal.returns-in_err-serving-clause-most
 returns-in_err-serving-clause-most g c = wants c.from_residual.result _ (λ inside.
+    let names = names_of c.args.natives.now in
+    let old = c.args.self.now in
+    let bp = old.blueprint.value in
+    let m = old.moment in
+    let q = old.settling.questions in
+    none_within names old old inside c.args.steps.now _ c.requires.1 refl (served_grows c.made_grows.ensures names old (interp_state old) (account_of c.args.budget q inside) []))
+
+pub returns-in_err-called-in-Procedure-clause-most : goal.returns-in_err-called-in-Procedure-clause-most
+returns-in_err-called-in-Procedure-clause-most g c = wants c.from_residual-in_err-called-in-Procedure.result _ (λ inside.
     let names = names_of c.args.natives.now in
     let old = c.args.self.now in
     let bp = old.blueprint.value in
