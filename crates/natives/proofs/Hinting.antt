@@ -114,7 +114,7 @@ one_hinted hints names n within hinted = λ at name stands.
     (last_or names n at name stands)
 
 -- a native more, and its hint
-pub added : {A : Type 0} (f : A → List ℕ) (xs after : List A) (x : A) (hints : List ℕ) (place hint : ℕ) → length hints ≡ 128 → place ≡ hint_place (f x) → place < 128
+pub added : {A : Type 0} (f : A → List ℕ) (xs after : List A) (x : A) (hints : List ℕ) (place hint : ℕ) → length hints ≡ 256 → place ≡ hint_place (f x) → place < 256
     → hint ≡ next_hint (slice_index hints place) (length xs) → after ≡ xs ++ x ∷ [] → AreHinted hints (map f xs) → AreHinted (slice_set hints place hint) (map f after)
 added f xs after x hints place hint size here within next is hinted =
     let inside : hint_place (f x) < length hints = omega (arith, size, here, within) in

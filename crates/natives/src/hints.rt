@@ -4,8 +4,9 @@ ghost use Rattle.std.specs.Prelude.{◌≡◌, ◌<◌, slice_index};
 ghost use Rattle.natives.specs.Hints as hints;
 ghost use Rattle.natives.specs.Hinted as hinted;
 
-/// How many hints there are.
-pub(crate) const HINTS: usize = 128;
+/// How many hints there are. No two natives have one place among them, and of the other built-in names
+/// but two have.
+pub(crate) const HINTS: usize = 256;
 
 /// The hint that a native of this place may be anywhere.
 pub(crate) const ANYWHERE: u8 = 255;
@@ -21,19 +22,18 @@ fn byte_at(name: &[u8], at: usize) -> usize
     }
 }
 
-/// The place of a text in a table of `HINTS` places, by its length, its first and its last byte, and the
-/// two at a quarter and at the half of it. Several texts may have one place.
+/// The place of a text in a table of `HINTS` places, by its length, the byte at its half, the third before
+/// its end and the last. Several texts may have one place.
 #[tactic(auto, unfolding(crate::specs::Hints::hint_place))]
 pub(crate) fn hint_place(text: &[u8]) -> usize
     ensures is { result ≡ hints.hint_place text.now }
-    ensures within { result < 128 }
+    ensures within { result < 256 }
 {
     let length = text.len();
-    let first = byte_at(text, 0) * 14;
-    let early = byte_at(text, length / 4) * 9;
-    let middle = byte_at(text, length / 2) * 7;
-    let last = byte_at(text, length.saturating_sub(1)) * 5;
-    (length % HINTS * 3 + first + early + middle + last) % HINTS
+    let middle = byte_at(text, length / 2) * 19;
+    let third = byte_at(text, length.saturating_sub(3)) * 50;
+    let last = byte_at(text, length.saturating_sub(1)) * 3;
+    (length % HINTS * 25 + middle + third + last) % HINTS
 }
 
 /// The hint of a place, which was `before`, once the native at `at` has the place too.

@@ -17,7 +17,7 @@ use txt_core::Text;
 #[derive(Drop)]
 pub struct Natives {
     list: Vec<Native>,
-    hints: [u8; 128],
+    hints: [u8; 256],
     ghost hinted: { AreHinted hints (map (λ native. native.name) list.items) },
 }
 
@@ -30,7 +30,7 @@ impl Natives {
     {
         Natives {
             list: Vec::new(alloc),
-            hints: [0; 128],
+            hints: [0; 256],
         }
     }
 

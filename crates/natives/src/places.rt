@@ -1,7 +1,9 @@
 //! What was put most lately, at the places that names give.
 
-ghost use Rattle.std.specs.Prelude.{◌≡◌, [], IfSome};
-ghost use Rattle.natives.specs.Places.{Stands, StandsBeside};
+ghost use Rattle.std.specs.Prelude.{◌≡◌, ◌≤◌, [], None, Some, OnErr, OnOk, length};
+ghost use Rattle.std.specs.Option.{option_copied};
+ghost use Rattle.natives.specs.Hints.{hint_place};
+ghost use Rattle.natives.specs.Places.{item_at, HaveSameItems, IsSetAt};
 
 use crate::hints::{HINTS, hint_place};
 use std::alloc::Global;
@@ -33,28 +35,38 @@ impl<T> Places<T> {
         }
     }
 
-    /// The item at the place of a name, which may be one of another name; `None` where there is none.
-    #[tactic(auto, using(crate::proofs::Standing::stands_at, crate::proofs::Standing::found_stands))]
+    /// The item at the place of a name, which may be one of another name; `None` exactly where there is
+    /// none.
     pub fn find(&self, name: &[u8]) -> Option<&T>
-        ensures { IfSome result (λ item. Stands self.now item.now) }
+        ensures { option_copied result ≡ item_at self.now (hint_place name.now) }
     {
         let place = self.places.get(hint_place(name))?;
-        match place {
-            Some(item) => Some(item),
-            None => None,
-        }
+        place.as_ref()
     }
 
     /// Puts an item at the place of a name; the item that stood there is let go. Its only error is
-    /// want of memory for the places.
+    /// want of memory for the places, and the items are then as they were.
     pub fn put(&mut self, name: &[u8], item: T) -> Result<(), NoMemory>
     where
         T: Drop,
-        ensures { StandsBeside self.old item self.new }
+        ensures put { OnOk result (IsSetAt self.old (hint_place name.now) (Some item) self.new) }
+        ensures kept { OnErr result (HaveSameItems self.old self.new) }
     {
         make_places(&mut self.places)?;
-        put_at(&mut self.places, hint_place(name), item);
+        self.places[hint_place(name)] = Some(item);
         Ok(())
+    }
+
+    /// Lets the item at the place of a name go, where there is one. It takes no memory.
+    pub fn remove(&mut self, name: &[u8])
+    where
+        T: Drop,
+        ensures { IsSetAt self.old (hint_place name.now) None self.new }
+    {
+        let place = hint_place(name);
+        if place < self.places.len() {
+            self.places[place] = None;
+        }
     }
 
     /// Lets all items go. It takes no memory, and keeps no places.
@@ -67,24 +79,13 @@ impl<T> Places<T> {
     }
 }
 
-/// Makes the places, where there are none.
+/// Makes the places that aren't there. Its only error is want of memory.
 fn make_places<T: Drop>(places: &mut Vec<Option<T>>) -> Result<(), NoMemory>
-    ensures { (item : T) → Stands places.new.items item → Stands places.old.items item }
+    ensures all { OnOk result (256 ≤ length places.new.items) }
+    ensures same { HaveSameItems places.old.items places.new.items }
 {
-    if places.is_empty() {
-        'each: for _place in 0..HINTS {
-            places.push(None)?;
-        }
+    'each: while places.len() < HINTS {
+        places.push(None)?;
     }
     Ok(())
-}
-
-/// Puts an item at a place, where the place is there.
-#[tactic(auto, using(crate::proofs::Standing::put_there))]
-fn put_at<T: Drop>(places: &mut Vec<Option<T>>, place: usize, item: T)
-    ensures { StandsBeside places.old.items item places.new.items }
-{
-    if place < places.len() {
-        places[place] = Some(item);
-    }
 }

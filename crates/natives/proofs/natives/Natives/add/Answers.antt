@@ -7,7 +7,7 @@ use Rattle.natives.proofs.natives.Natives.add.Goals as goal
 
 pub invariant_of-self : goal.invariant_of-self
 invariant_of-self g c =
-    let size : length c.args.self.now.hints ≡ 128 = search rules in
+    let size : length c.args.self.now.hints ≡ 256 = search rules in
     record {
       hinted = added (λ native. native.name) c.args.self.now.list.items c.push.new.self.items c.args.native c.args.self.now.hints c.hint_place-place.result c.next_hint-hint.result
           size (c.hint_place-place.ensures.is ∙ ap hint_place (c.bytes.ensures ∙ c.name.ensures)) c.hint_place-place.ensures.within
