@@ -18,7 +18,7 @@ use crate::latest::{Latest, find_latest, forget, is_own, put_latest};
 use crate::renaming::Renamed;
 use crate::slots::{Slots, find, present_names};
 use crate::steps::Steps;
-use natives::Natives;
+use natives::{Natives, Places};
 use std::alloc::Global;
 use std::marker::Model;
 use std::sync::ledger::Ledger;
@@ -53,7 +53,7 @@ impl Model for CmdTable {
 
     ghost invariant = { λ a. AreInOrder a.slots.entries
         × ArePlaced a.journal.items a.slots.entries
-        × AreLatest (present a.slots.entries) a.latest.items };
+        × AreLatest (present a.slots.entries) a.latest };
 }
 
 impl CmdTable {
@@ -81,7 +81,7 @@ impl CmdTable {
             alloc,
             slots,
             journal: Vec::new(alloc),
-            latest: Vec::new(alloc),
+            latest: Places::new(alloc),
         })
     }
 

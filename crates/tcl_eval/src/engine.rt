@@ -209,7 +209,7 @@ impl<H: Host> Engine<H> {
     }
 
     /// How often a text was run as a script that was kept from an earlier time. It takes no memory.
-    /// No clause says when a script is kept: at most 640 are, each of at most 4,096 bytes, from the
+    /// No clause says when a script is kept: at most 768 are, each of at most 4,096 bytes, from the
     /// first start on, of those that were run most recently; where memory wanted, all are let go, and
     /// the count begins anew.
     pub fn hits(&self) -> u64 {
