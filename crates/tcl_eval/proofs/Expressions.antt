@@ -48,6 +48,13 @@ module _ {H : Type 0} (ns : Names) (t : LeafTable H) where
       expression_step fs1 fs2 expr levels value s b g e2 is
       ∙ ap (λ (k : Next H). run_expression (nested ns t levels) (tree_of expr.value) k s b g) (pushed ns t fs fs1 f e1)
 
+  -- a part of an expression that is a word begins, for whose value a frame waits
+  pub part_word : (fs fs1 : List Frame) (f : Frame) (expr whole : Expr) (levels : ℕ) (s : State H) (b : ℕ) (g : Given) (x : Out H) → fs1 ≡ fs ++ f ∷ [] → tree_of expr ≡ tree_of whole → x ≡ run_expression (nested ns t levels) (tree_of whole) (stack_next ns t fs1) s b g → x ≡ run_expression (nested ns t levels) (tree_of expr) (frame_next ns t f (stack_next ns t fs)) s b g
+  part_word fs fs1 f expr whole levels s b g x push is e =
+      e
+      ∙ ap (λ (k : Next H). run_expression (nested ns t levels) (tree_of whole) k s b g) (pushed ns t fs fs1 f push)
+      ∙ sym (ap (λ (v : Tree). run_expression (nested ns t levels) v (frame_next ns t f (stack_next ns t fs)) s b g) is)
+
   -- an expression begins, behind a good end
   pub begun : (x : Tree) (expr : Expr) (levels code : ℕ) (result : List ℕ) (k : Next H) (s : State H) (b : ℕ) (g : Given) (y : Out H) → code ≡ 0 → tree_of expr ≡ x → y ≡ run_expression (nested ns t levels) x k s b g → y ≡ on_ok (λ r. run_expression (nested ns t levels) (tree_of expr) k) k code result s b g
   begun x expr levels code result k s b g y z is e =

@@ -20,6 +20,7 @@ pub mod Sizes
 pub mod Stacks
 pub mod Steps
 pub mod Commands
+pub mod Calls
 pub mod Choices
 pub mod OneBracket
 pub mod Values

@@ -4,7 +4,7 @@ use Rattle.txt_core.specs.Names.{Names}
 use Rattle.tcl_parse.specs.Tree.{Part, text, variable, element, bracket, Parts, no_parts, part, Words, no_words, word, Commands, no_commands, command as one_command}
 use Rattle.tcl_parse.specs.declared.tree.Script as code_script
 use Rattle.tcl_eval.specs.State.{State, LeafTable, Given, Out, Rest, Next}
-use Rattle.tcl_eval.specs.Eval.{Inner, Source, read, ended, give, on_ok, word_end, read_variable, element_name, run_part, run_parts, command, run_words, run_commands, run_script, nested}
+use Rattle.tcl_eval.specs.Eval.{Inner, read, ended, give, on_ok, word_end, read_variable, element_name, run_part, run_parts, command, run_words, run_commands, run_script, nested}
 use Rattle.tcl_eval.specs.Kept.{kept_value, judged, grown, run_kept, run_costly}
 use Rattle.tcl_eval.specs.declared.gather.SoFar.{SoFar}
 use Rattle.tcl_eval.specs.Places.{tree_of, words_from, place_parts, behind, inside}
@@ -101,20 +101,14 @@ module _ {H : Type 0} (ns : Names) (t : LeafTable H) where
       ∙ ap (λ (y : Place). run_parts inner p [] (waits (frame_next ns t (Word y so_far levels) (stack_next ns t fs))) s b g) at
       ∙ ap (λ (y : Parts). run_parts inner y [] (waits (frame_next ns t (Word place so_far levels) (stack_next ns t fs))) s b g) isp
 
-  -- a script begins, above a stack
-  pub script_step : (fs fs1 : List Frame) (script : _) (levels less : ℕ) (source : Source) (value : Ended) (s : State H) (b : ℕ) (g : Given) → fs1 ≡ fs ++ Script script 0 less ∷ [] → levels ≡ suc less → value ≡ ended 0 [] → source ≡ read (tree_of script.value) → give value (stack_next ns t fs1) s b g ≡ run_script ns t levels source (stack_next ns t fs) s b g
-  script_step fs fs1 script levels less source value s b g push l is what =
-      ap (λ (v : Ended). give v (stack_next ns t fs1) s b g) is
-      ∙ ap (λ (k : Next H). k 0 [] s b g) (pushed ns t fs fs1 (Script script 0 less) push)
-      ∙ sym (ap (λ (x : Source). run_script ns t (suc less) x (stack_next ns t fs) s b g) what)
-      ∙ sym (ap (λ (n : ℕ). run_script ns t n source (stack_next ns t fs) s b g) l)
-
-  -- a bracket begins, within a word that waits
-  pub bracket_step : (fs fs1 fs2 : List Frame) (script : _) (so_far : SoFar) (place place' : Place) (levels less : ℕ) (value : Ended) (s : State H) (b : ℕ) (g : Given) → fs1 ≡ fs ++ Word place' so_far levels ∷ [] → fs2 ≡ fs1 ++ Script script 0 less ∷ [] → place' ≡ place → levels ≡ suc less → value ≡ ended 0 [] → give value (stack_next ns t fs2) s b g ≡ run_script ns t levels (read (tree_of script.value)) (frame_next ns t (Word place so_far levels) (stack_next ns t fs)) s b g
-  bracket_step fs fs1 fs2 script so_far place place' levels less value s b g e1 e2 at l is =
-      script_step fs1 fs2 script levels less (read (tree_of script.value)) value s b g e2 l is refl
-      ∙ ap (λ (k : Next H). run_script ns t levels (read (tree_of script.value)) k s b g) (pushed ns t fs fs1 (Word place' so_far levels) e1)
-      ∙ ap (λ (x : Place). run_script ns t levels (read (tree_of script.value)) (frame_next ns t (Word x so_far levels) (stack_next ns t fs)) s b g) at
+  -- a bracket is run, within a word that waits
+  pub bracket_runs : (fs fs1 : List Frame) (script : _) (so_far : SoFar) (place place' : Place) (levels less : ℕ) (value : Ended) (s : State H) (b : ℕ) (g : Given) (x : Out H) → fs1 ≡ fs ++ Word place' so_far levels ∷ [] → place' ≡ place → levels ≡ suc less → value ≡ ended 0 [] → x ≡ frame_next ns t (Script script 0 less) (stack_next ns t fs1) value.code value.result s b g → x ≡ run_script ns t levels (read (tree_of script.value)) (frame_next ns t (Word place so_far levels) (stack_next ns t fs)) s b g
+  bracket_runs fs fs1 script so_far place place' levels less value s b g x push at l is e =
+      e
+      ∙ ap (λ (v : Ended). frame_next ns t (Script script 0 less) (stack_next ns t fs1) v.code v.result s b g) is
+      ∙ sym (ap (λ (n : ℕ). run_script ns t n (read (tree_of script.value)) (stack_next ns t fs1) s b g) l)
+      ∙ ap (λ (k : Next H). run_script ns t levels (read (tree_of script.value)) k s b g) (pushed ns t fs fs1 (Word place' so_far levels) push)
+      ∙ ap (λ (y : Place). run_script ns t levels (read (tree_of script.value)) (frame_next ns t (Word y so_far levels) (stack_next ns t fs)) s b g) at
 
   -- a word goes on with its next piece
   pub piece_on : (place : Place) (p : Part) (so_far : SoFar) (levels : ℕ) (k : Next H) (s : State H) (b : ℕ) (g : Given) (x : Out H) → place_parts place ≡ part p (place_parts (behind place)) → x ≡ run_part (nested ns t levels) p (frame_next ns t (Word (behind place) so_far levels) k) s b g → x ≡ run_kept (nested ns t levels) (place_parts place) so_far k s b g

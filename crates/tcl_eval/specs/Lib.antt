@@ -35,5 +35,6 @@ pub mod Brackets
 pub mod Chosen
 pub mod Choices
 pub mod Turns
+pub mod Calls
 pub mod AtOnce
 pub mod ExprReadings

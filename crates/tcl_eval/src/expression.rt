@@ -1,6 +1,6 @@
 //! Expressions under way.
 
-ghost use Rattle.std.specs.Prelude.{◌≡◌, ◌<◌, ◌≤◌, ◌+◌, IfOk, OnOk, Option};
+ghost use Rattle.std.specs.Prelude.{◌≡◌, ◌<◌, ◌≤◌, ◌+◌, IfOk, IfSome, OnOk, Option};
 ghost use Rattle.txt_core.specs.Names.{Names};
 ghost use Rattle.tcl_expr.specs.Trees.{binary, choice};
 ghost use Rattle.tcl_expr.specs.View.{tree_of};
@@ -50,6 +50,20 @@ pub(crate) fn value_ended(alloc: Global, value: Ended) -> Result<Ended, NoMemory
     })
 }
 
+/// The word that an expression is, if it is one.
+fn operand_word(part: &Expr) -> Result<Option<Rc<Script>>, NoMemory>
+    ensures { IfOk result (λ found. IfSome found (λ script.
+        tree_of part.now ≡ tree_of (Expr.Word script))) }
+{
+    match part {
+        Expr::Word(word) => {
+            let script = word.clone()?;
+            Ok(Some(script))
+        }
+        Expr::Value(_) | Expr::Unary(..) | Expr::Binary(..) | Expr::Choice(..) => Ok(None),
+    }
+}
+
 #[tactic(auto, using(crate::proofs::Stacks::frees_push))]
 impl<H: Host> Engine<H> {
     /// Goes on with a word of an expression.
@@ -82,8 +96,14 @@ impl<H: Host> Engine<H> {
         ensures holds { Holds self.new self.old }
     {
         self.stack.push(frame)?;
-        self.stack.push(Frame::Expression { expr: part, levels })?;
-        Ok(Step::Value(done(self.alloc)))
+        let found = operand_word(&part)?;
+        match found {
+            Some(word) => Ok(self.enter_operand(word, levels)),
+            None => {
+                self.stack.push(Frame::Expression { expr: part, levels })?;
+                Ok(Step::Value(done(self.alloc)))
+            }
+        }
     }
 
     /// Goes on with the left operand of an operator.

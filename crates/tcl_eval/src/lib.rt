@@ -4,6 +4,7 @@
 mod act;
 mod bracket;
 mod branch;
+mod call;
 mod choice;
 mod condition;
 mod cost;

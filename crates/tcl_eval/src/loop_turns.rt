@@ -85,7 +85,7 @@ pub struct Turned {
 #[tactic(auto, using(crate::proofs::Stacks::frees_push))]
 impl<H: Host> Engine<H> {
     /// Runs what a text is as a script, as far as nothing is put on the stack for it.
-    fn run_reading(
+    pub(crate) fn run_reading(
         &mut self,
         natives: &Natives,
         reading: Reading,

@@ -93,14 +93,19 @@ impl<H: Host> Engine<H> {
                     Gone::TooDeep => return Ok(Outcome::TooDeep),
                     Gone::Spent => return Ok(Outcome::Spent),
                 },
-                Ready::Command { words, levels } => {
-                    match self.do_command(natives, words, levels, steps)? {
+                Ready::Command { words, levels } => match self.procedure(&words)? {
+                    Some(called) => match self.call(natives, called, &words, levels)? {
+                        Gone::Goes(next) => step = next,
+                        Gone::TooDeep => return Ok(Outcome::TooDeep),
+                        Gone::Spent => return Ok(Outcome::Spent),
+                    },
+                    None => match self.do_command(natives, words, levels, steps)? {
                         Acted::Gives(value) => step = Step::Value(value),
                         Acted::Asks(question) => return Ok(Outcome::Asks(question)),
                         Acted::TooDeep => return Ok(Outcome::TooDeep),
                         Acted::Spent => return Ok(Outcome::Spent),
-                    }
-                }
+                    },
+                },
             }
         }
     }

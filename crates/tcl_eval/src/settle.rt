@@ -17,8 +17,8 @@ use crate::gather::{Gathered, SoFar};
 use crate::place::{Place, Seen, has_command, has_word, words_of};
 use crate::simple::{Simple, variable_value};
 use crate::stack::{AtRest, Ended, Frame, Ready, Step};
-use crate::straight::Stand;
-use crate::value::{done, kept_value, returned};
+use crate::straight::{Stand, Tried};
+use crate::value::{done, kept_value};
 use natives::Natives;
 use std::rc::Rc;
 use tcl_host::{Host, OK};
@@ -106,6 +106,7 @@ impl<H: Host> Engine<H> {
     /// Goes on with a bracket.
     fn enter_bracket(
         &mut self,
+        natives: &Natives,
         script: Rc<Script>,
         place: Place,
         so_far: SoFar,
@@ -113,10 +114,11 @@ impl<H: Host> Engine<H> {
     ) -> Result<Step, NoMemory>
         requires { place.next < 2 ^ 63 }
         ensures means { IfOk result (λ step.
-            (names : Names)
-            → Same names H.table self.new self.old (step_next names H.table step) (λ k.
-            run_script names H.table levels (read (tree_of script.value))
-            (frame_next names H.table (Frame.Word (behind place) so_far levels) k))) }
+            Same (names_of natives.now) H.table self.new self.old
+            (step_next (names_of natives.now) H.table step) (λ k.
+            run_script (names_of natives.now) H.table levels (read (tree_of script.value))
+            (frame_next (names_of natives.now) H.table (Frame.Word (behind place) so_far levels)
+            k))) }
         ensures weighs { IfOk result (λ step.
             stack_weight self.new.stack.items + step_weight step ≤ stack_weight self.old.stack.items
             +
@@ -132,12 +134,8 @@ impl<H: Host> Engine<H> {
             so_far,
             levels,
         })?;
-        self.stack.push(Frame::Script {
-            script,
-            next: 0,
-            levels: levels - 1,
-        })?;
-        Ok(Step::Value(done(self.alloc)))
+        let step = self.give_script(natives, script, 0, levels - 1, done(self.alloc))?;
+        Ok(step)
     }
 
     /// Goes on with the variable of this name.
@@ -163,11 +161,17 @@ impl<H: Host> Engine<H> {
     }
 
     /// Goes on with the next piece of a word.
-    fn next_piece(&mut self, place: Place, so_far: SoFar, levels: u32) -> Result<Step, NoMemory>
+    fn next_piece(
+        &mut self,
+        natives: &Natives,
+        place: Place,
+        so_far: SoFar,
+        levels: u32,
+    ) -> Result<Step, NoMemory>
         ensures means { IfOk result (λ step.
-            (names : Names)
-            → Same names H.table self.new self.old (step_next names H.table step)
-            (run_kept (nested names H.table levels) (place_parts place) so_far)) }
+            Same (names_of natives.now) H.table self.new self.old
+            (step_next (names_of natives.now) H.table step)
+            (run_kept (nested (names_of natives.now) H.table levels) (place_parts place) so_far)) }
         ensures falls { IfOk result (λ step.
             stack_weight self.new.stack.items + step_weight step < stack_weight self.old.stack.items
             + (parts_size (place_parts place) + 1)) }
@@ -196,7 +200,7 @@ impl<H: Host> Engine<H> {
             }
             Some(Seen::Bracket(script)) => {
                 let script = script.clone()?;
-                let step = self.enter_bracket(script, place, so_far, levels)?;
+                let step = self.enter_bracket(natives, script, place, so_far, levels)?;
                 Ok(step)
             }
         }
@@ -205,15 +209,16 @@ impl<H: Host> Engine<H> {
     /// Goes on with the next words of a command.
     fn next_word(
         &mut self,
+        natives: &Natives,
         script: Rc<Script>,
         at: usize,
         mut values: Gathered,
         levels: u32,
     ) -> Result<Step, NoMemory>
         ensures means { IfOk result (λ step.
-            (names : Names)
-            → Same names H.table self.new self.old (step_next names H.table step)
-            (run_words names H.table (nested names H.table levels)
+            Same (names_of natives.now) H.table self.new self.old
+            (step_next (names_of natives.now) H.table step)
+            (run_words (names_of natives.now) H.table (nested (names_of natives.now) H.table levels)
             (words_from (length values) (command_at at (tree_of script.value))) values)) }
         ensures falls { IfOk result (λ step.
             stack_weight self.new.stack.items + step_weight step ≤ stack_weight self.old.stack.items
@@ -224,9 +229,49 @@ impl<H: Host> Engine<H> {
     {
         let simple = self.simple_words(words_of(&script, at), &mut values)?;
         match simple {
-            Simple::Stands => self.enter_word(script, at, values, levels),
+            Simple::Stands => self.try_words(natives, script, at, values, levels),
             Simple::Fails(value) => Ok(Step::Value(value)),
             Simple::Costly => self.next_costly(script, at, values.len(), levels),
+        }
+    }
+
+    /// Goes on with a command behind words for which nothing is run. Where all are there, the command is
+    /// done at once if it comes to a value straight away.
+    fn try_words(
+        &mut self,
+        natives: &Natives,
+        script: Rc<Script>,
+        at: usize,
+        values: Gathered,
+        levels: u32,
+    ) -> Result<Step, NoMemory>
+        ensures means { IfOk result (λ step.
+            Same (names_of natives.now) H.table self.new self.old
+            (step_next (names_of natives.now) H.table step)
+            (run_words (names_of natives.now) H.table (nested (names_of natives.now) H.table levels)
+            (words_from (length values) (command_at at (tree_of script.value))) values)) }
+        ensures falls { IfOk result (λ step.
+            stack_weight self.new.stack.items + step_weight step ≤ stack_weight self.old.stack.items
+            + words_size
+            (words_from (length values) (command_at at (tree_of script.value)))) }
+        ensures keeps { IfOk result (λ step. Stays step self.new self.old) }
+        ensures holds { Holds self.new self.old }
+    {
+        if has_word(&script, at, values.len()) {
+            let step = self.enter_word(script, at, values, levels)?;
+            return Ok(step);
+        }
+        match self.try_command(natives, values)? {
+            Tried::Gives(value) => Ok(Step::Value(value)),
+            Tried::Spent => Ok(Step::Stop(Ready::Spent)),
+            Tried::Left(values) => {
+                let step = self.enter_word(script, at, values, levels)?;
+                Ok(step)
+            }
+            Tried::Costly(word) => {
+                let step = self.next_costly(script, at, word, levels)?;
+                Ok(step)
+            }
         }
     }
 
@@ -271,6 +316,7 @@ impl<H: Host> Engine<H> {
     /// Gives a command the value of its next word.
     fn give_word(
         &mut self,
+        natives: &Natives,
         script: Rc<Script>,
         at: usize,
         mut values: Gathered,
@@ -278,10 +324,10 @@ impl<H: Host> Engine<H> {
         value: Ended,
     ) -> Result<Step, NoMemory>
         ensures means { IfOk result (λ step.
-            (names : Names)
-            → Same names H.table self.new self.old (step_next names H.table step) (λ k.
-            frame_next names H.table (Frame.Command script at values levels) k value.code
-            value.result)) }
+            Same (names_of natives.now) H.table self.new self.old
+            (step_next (names_of natives.now) H.table step) (λ k.
+            frame_next (names_of natives.now) H.table (Frame.Command script at values levels) k
+            value.code value.result)) }
         ensures falls { IfOk result (λ step.
             stack_weight self.new.stack.items + step_weight step < stack_weight self.old.stack.items
             + frame_weight (Frame.Command script at values levels)) }
@@ -296,7 +342,7 @@ impl<H: Host> Engine<H> {
             let step = self.next_costly(script, at, values.len(), levels)?;
             return Ok(step);
         }
-        let step = self.next_word(script, at, values, levels)?;
+        let step = self.next_word(natives, script, at, values, levels)?;
         Ok(step)
     }
 
@@ -558,7 +604,7 @@ impl<H: Host> Engine<H> {
     }
 
     /// Pays for the result of a command.
-    fn end_command(&mut self, value: Ended) -> Result<Step, NoMemory>
+    pub(crate) fn end_command(&mut self, value: Ended) -> Result<Step, NoMemory>
         ensures means { IfOk result (λ step.
             (names : Names)
             → Same names H.table self.new self.old (step_next names H.table step) (λ k.
@@ -588,12 +634,8 @@ impl<H: Host> Engine<H> {
         ensures keeps { IfOk result (λ step. Stays step self.new self.old) }
         ensures holds { Holds self.new self.old }
     {
-        // The call put a frame there, which nothing else takes away. No fact says so here, and `pop`
-        // wants a frame above the global one.
-        if self.frames.depth() > 0 {
-            self.frames.pop();
-        }
-        Ok(Step::Value(returned(self.alloc, value)?))
+        let after = self.end_body(value)?;
+        Ok(Step::Value(after))
     }
 
     /// Ends a `catch`: the code is the result, and the result goes to the variable, where one is named.
@@ -649,7 +691,7 @@ impl<H: Host> Engine<H> {
                 at,
                 values,
                 levels,
-            } => self.give_word(script, at, values, levels, value),
+            } => self.give_word(natives, script, at, values, levels, value),
             Frame::Costly {
                 script,
                 at,
@@ -699,7 +741,7 @@ impl<H: Host> Engine<H> {
                     place,
                     so_far,
                     levels,
-                } => self.next_piece(place, so_far, levels)?,
+                } => self.next_piece(natives, place, so_far, levels)?,
                 Step::Value(value) => match self.stack.pop() {
                     None => return Ok(AtRest::Ended(value)),
                     Some(frame) => self.give(natives, frame, value)?,

@@ -1,4 +1,5 @@
 use Rattle.std.proofs.Common.{ℕ, ap, ◌∙◌, length}
+use Rattle.natives.specs.Names.{names_of}
 use Rattle.tcl_eval.specs.Eval.{nested}
 use Rattle.tcl_eval.specs.Places.{tree_of, command_at, words_from}
 use Rattle.tcl_eval.specs.Stack.{stack_next}
@@ -10,7 +11,8 @@ use Rattle.tcl_eval.proofs.Steps.{taken}
 use Rattle.tcl_eval.proofs.engine.Engine.give_word.Goals as goal
 
 pub returns-then-self-cost-clause-means : goal.returns-then-self-cost-clause-means
-returns-then-self-cost-clause-means g c = λ ns gv.
+returns-then-self-cost-clause-means g c = λ gv.
+    let ns = names_of c.args.natives.now in
     let t = g.H.Host.table in
     let e = c.args.self.now in
     let all = command_at c.args.at (tree_of c.args.script.value) in
@@ -23,8 +25,9 @@ returns-then-self-cost-clause-means g c = λ ns gv.
     ∙ taken ns t inner all c.args.values values c.args.value k (state_of e) e.budget gv c.if-value-ne-OK.false c.in_ok-push.ensures
 
 pub returns-clause-means : goal.returns-clause-means
-returns-clause-means g c = λ ns gv.
+returns-clause-means g c = λ gv.
+    let ns = names_of c.args.natives.now in
     let t = g.H.Host.table in
     let e = c.args.self.now in
-    c.in_ok-step-2.ensures.means ns gv
+    c.in_ok-step-2.ensures.means gv
     ∙ taken ns t (nested ns t c.args.levels) (command_at c.args.at (tree_of c.args.script.value)) c.args.values c.push.new.self c.args.value (stack_next ns t e.stack.items) (state_of e) e.budget gv c.if-value-ne-OK.false c.in_ok-push.ensures

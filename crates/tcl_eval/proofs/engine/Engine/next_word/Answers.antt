@@ -1,5 +1,6 @@
 use Rattle.std.proofs.Common.{ℕ, ap, arith, ◌∙◌}
 use Rattle.std.proofs.lemmas.Result.{IfOk-weaker}
+use Rattle.natives.specs.Names.{names_of}
 use Rattle.tcl_eval.specs.Eval.{nested}
 use Rattle.tcl_eval.specs.Kept.{run_costly}
 use Rattle.tcl_eval.specs.Places.{tree_of, command_at, words_from, words_size}
@@ -9,26 +10,29 @@ use Rattle.tcl_eval.proofs.engine.Engine.next_word.Goals as goal
 
 pub returns-in-Stands-clause-means : goal.returns-in-Stands-clause-means
 returns-in-Stands-clause-means g c =
+    let ns = names_of c.args.natives.now in
     let before = rw (c.in-Stands.is, c.words_of.ensures, c.deref.ensures) at c.in_ok-simple.ensures.means in
-    IfOk-weaker c.enter_word.result _ _ (λ step means ns gv. means ns gv ∙ before ns c.args.levels (stack_next ns g.H.Host.table c.args.self.now.stack.items) gv) c.enter_word.ensures.means
+    IfOk-weaker c.try_words.result _ _ (λ step means gv. means gv ∙ before ns c.args.levels (stack_next ns g.H.Host.table c.args.self.now.stack.items) gv) c.try_words.ensures.means
 
 pub returns-in-Stands-clause-falls : goal.returns-in-Stands-clause-falls
 returns-in-Stands-clause-falls g c =
     let less = rw (c.words_of.ensures, c.deref.ensures) at c.in_ok-simple.ensures.shorter in
-    IfOk-weaker c.enter_word.result _ _ (λ step falls. omega (arith, less, falls)) c.enter_word.ensures.falls
+    IfOk-weaker c.try_words.result _ _ (λ step falls. omega (arith, less, falls)) c.try_words.ensures.falls
 
 pub returns-in-Fails-clause-means : goal.returns-in-Fails-clause-means
-returns-in-Fails-clause-means g c = λ ns gv.
+returns-in-Fails-clause-means g c = λ gv.
+    let ns = names_of c.args.natives.now in
     let before = rw (c.in-Fails.is, c.words_of.ensures, c.deref.ensures) at c.in_ok-simple.ensures.means in
     before ns c.args.levels (stack_next ns g.H.Host.table c.args.self.now.stack.items) gv
 
 pub returns-in-Costly-clause-means : goal.returns-in-Costly-clause-means
 returns-in-Costly-clause-means g c =
+    let ns = names_of c.args.natives.now in
     let t = g.H.Host.table in
     let e = c.args.self.now in
     let before = rw (c.in-Costly.is, c.words_of.ensures, c.deref.ensures) at c.in_ok-simple.ensures.means in
     IfOk-weaker c.next_costly.result _ _
-    (λ step means ns gv. means ns gv
+    (λ step means gv. means ns gv
     ∙ ap (λ (n : ℕ). run_costly (nested ns t c.args.levels) (words_from n (command_at c.args.at (tree_of c.args.script.value))) (stack_next ns t e.stack.items) (state_of e) e.budget gv) c.len.ensures
     ∙ before ns c.args.levels (stack_next ns g.H.Host.table c.args.self.now.stack.items) gv)
     c.next_costly.ensures.means

@@ -35,6 +35,33 @@ returns-in-Spent-2-clause-means g c = λ gv.
     let went = rw c.in-Spent-2.is at c.in_ok-next-in-Branch.ensures.means in
     went gv ∙ settled gv ∙ c.steps.invariant.means gv
 
+pub steps-preserved-in-Some-1 : goal.steps-preserved-in-Some-1
+steps-preserved-in-Some-1 g c =
+    let settled = rw (c.in-Ready.is, c.in-Command.is) at c.in_ok-value.ensures.means in
+    let went = rw c.in-Goes-2.is at c.in_ok-next-in-Some.ensures.means in
+    let remains = c.in_ok-next-in-Some.ensures.remains in
+    let before = c.in_ok-value.ensures.keeps in
+    record {
+      means = λ gv. went gv ∙ settled gv ∙ c.steps.invariant.means gv;
+      closed = remains.1 ∙ before.1 ∙ c.steps.invariant.closed;
+      lower = omega (arith, remains.0, before.0, c.steps.invariant.lower);
+      steps = c.steps.invariant.steps;
+      counts = counted_on c.steps.steps c.args.steps.now c.call.new.self c.settle.new.self c.args.self.now c.in_ok-next-in-Some.ensures.holds
+          (counted_on c.steps.steps c.args.steps.now c.settle.new.self c.steps.self c.args.self.now c.in_ok-value.ensures.holds c.steps.invariant.counts);
+    }
+
+pub returns-in-TooDeep-3-clause-means : goal.returns-in-TooDeep-3-clause-means
+returns-in-TooDeep-3-clause-means g c = λ gv.
+    let settled = rw (c.in-Ready.is, c.in-Command.is) at c.in_ok-value.ensures.means in
+    let went = rw c.in-TooDeep-3.is at c.in_ok-next-in-Some.ensures.means in
+    went gv ∙ settled gv ∙ c.steps.invariant.means gv
+
+pub returns-in-Spent-3-clause-means : goal.returns-in-Spent-3-clause-means
+returns-in-Spent-3-clause-means g c = λ gv.
+    let settled = rw (c.in-Ready.is, c.in-Command.is) at c.in_ok-value.ensures.means in
+    let went = rw c.in-Spent-3.is at c.in_ok-next-in-Some.ensures.means in
+    went gv ∙ settled gv ∙ c.steps.invariant.means gv
+
 pub returns-in_err-value-clause-front : goal.returns-in_err-value-clause-front
 returns-in_err-value-clause-front g c =
     let ns = names_of c.args.natives.now in
@@ -56,13 +83,34 @@ returns-in_err-next-in-Branch-clause-front g c =
     λ given. step_front ns t c.steps.step way c.go_on.new.self c.steps.self e given same c.steps.invariant.means in
     on_err _ front
 
-pub returns-in_err-value-in-Command-clause-front : goal.returns-in_err-value-in-Command-clause-front
-returns-in_err-value-in-Command-clause-front g c =
+pub returns-in_err-called-in-Command-clause-front : goal.returns-in_err-called-in-Command-clause-front
+returns-in_err-called-in-Command-clause-front g c =
     let ns = names_of c.args.natives.now in
     let t = g.H.Host.table in
     let e = c.args.self.now in
     let way = step_next ns t c.args.step in
-    let same = c.in_err-value-in-Command.ensures.kept ∙ c.in_ok-value.ensures.holds.1 in
+    let front : (given : Given) → IsFront c.settle.new.self.made (state_in (gives ns t way e given)).made =
+    λ given. step_front ns t c.steps.step way c.settle.new.self c.steps.self e given c.in_ok-value.ensures.holds.1 c.steps.invariant.means in
+    on_err _ front
+
+pub returns-in_err-next-in-Some-clause-front : goal.returns-in_err-next-in-Some-clause-front
+returns-in_err-next-in-Some-clause-front g c =
+    let ns = names_of c.args.natives.now in
+    let t = g.H.Host.table in
+    let e = c.args.self.now in
+    let way = step_next ns t c.args.step in
+    let same = c.in_err-next-in-Some.ensures.holds.1 ∙ c.in_ok-value.ensures.holds.1 in
+    let front : (given : Given) → IsFront c.call.new.self.made (state_in (gives ns t way e given)).made =
+    λ given. step_front ns t c.steps.step way c.call.new.self c.steps.self e given same c.steps.invariant.means in
+    on_err _ front
+
+pub returns-in_err-value-in-None-clause-front : goal.returns-in_err-value-in-None-clause-front
+returns-in_err-value-in-None-clause-front g c =
+    let ns = names_of c.args.natives.now in
+    let t = g.H.Host.table in
+    let e = c.args.self.now in
+    let way = step_next ns t c.args.step in
+    let same = c.in_err-value-in-None.ensures.kept ∙ c.in_ok-value.ensures.holds.1 in
     let front : (given : Given) → IsFront c.do_command.new.self.made (state_in (gives ns t way e given)).made =
     λ given. step_front ns t c.steps.step way c.do_command.new.self c.steps.self e given same c.steps.invariant.means in
     on_err _ front

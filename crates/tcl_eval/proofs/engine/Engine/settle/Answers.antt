@@ -12,7 +12,7 @@ steps-preserved-in_ok-step-in-Pieces g c =
     let before = rw c.in-Pieces.is at c.steps.invariant.means in
     let kept = c.in_ok-step-in-Pieces.ensures.keeps in
     record {
-      means = λ gv. c.in_ok-step-in-Pieces.ensures.means (names_of c.args.natives.now) gv ∙ before gv;
+      means = λ gv. c.in_ok-step-in-Pieces.ensures.means gv ∙ before gv;
       keeps = (omega (arith, kept.0, c.steps.invariant.keeps.0), kept.1 ∙ c.steps.invariant.keeps.1);
       free = omega (arith, kept.2, c.steps.invariant.free, ap (λ (s : Step). step_free s) c.in-Pieces.is);
       holds = held_both c.next_piece.new.self c.steps.self c.args.self.now c.in_ok-step-in-Pieces.ensures.holds c.steps.invariant.holds;
