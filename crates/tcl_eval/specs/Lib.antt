@@ -31,6 +31,7 @@ pub mod Short
 pub mod Simple
 pub mod Stack
 pub mod Straight
+pub mod Clauses
 pub mod Brackets
 pub mod Chosen
 pub mod Choices

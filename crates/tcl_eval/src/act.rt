@@ -10,8 +10,9 @@ ghost use Rattle.tcl_varcmd.specs.Commands.{begins_var_command, var_came};
 ghost use Rattle.tcl_eval.specs.State.{Onward, Next, Rest};
 ghost use Rattle.tcl_eval.specs.Eval.{Inner, addressed, nested, write_all, call_proc, call_native, do_proc, do_rename, do_eval, do_catch, catch_end, came_next, arg, define, make, set_global, is_for_host, leaf, onward, built_in, built, act, run_script, unread, stored, stored_of, proc_of, give, error_of};
 ghost use Rattle.tcl_eval.specs.Straight.{Alike, Straightly};
-ghost use Rattle.tcl_eval.specs.Engine.{Same, Keeps, Holds, HoldsTable, Counts, IsNoPage, Opens, Enters, Lower, credit, acted_next, AskedBy, after_writes};
+ghost use Rattle.tcl_eval.specs.Engine.{Same, Keeps, Holds, HoldsTable, Counts, IsNoPage, Opens, Lower, credit, AskedBy, after_writes};
 ghost use Rattle.tcl_eval.specs.Verbs.{IsRunning, ValueOf, made_by};
+ghost use Rattle.tcl_eval.specs.Clauses.{ActedIs, ActsAs};
 ghost use Rattle.tcl_host.specs.Answers.{RepliesTo};
 ghost use Rattle.tcl_eval.specs.declared.stack.Acted.{Acted};
 ghost use Rattle.tcl_eval.specs.declared.verb.Verb.{Verb};
@@ -209,9 +210,9 @@ impl<H: Host> Engine<H> {
         levels: u32,
     ) -> Result<Acted, NoMemory>
         ensures means { IfOk result (λ acted.
-            (names : Names) (said : Onward H) → RepliesTo reply self.old.host said
-            → Same names H.table self.new self.old
-            (acted_next names H.table acted self.new.question)
+            (names : Names) (said : Onward H)
+            → RepliesTo reply self.old.host said
+            → ActedIs names H.table acted self.new self.old
             (onward H.table (nested names H.table levels) words said)) }
         ensures lower { OnOk result (self.new.budget ≤ self.old.budget) }
         ensures credit { OnOk result (IsNoPage reply → credit self.new ≤ credit self.old + 1) }
@@ -255,9 +256,7 @@ impl<H: Host> Engine<H> {
     fn call_host(&mut self, words: Words, levels: u32) -> Result<Acted, NoMemory>
         ensures means { IfOk result (λ acted.
             (names : Names)
-            → Same names H.table self.new self.old
-            (acted_next names H.table acted self.new.question)
-            (λ k state.
+            → ActedIs names H.table acted self.new self.old (λ k state.
             leaf H.table (nested names H.table levels) words (H.table.calls words state.host) k
             state)) }
         ensures lower { OnOk result (Lower self.new self.old 1) }
@@ -396,9 +395,8 @@ impl<H: Host> Engine<H> {
     /// `eval word word*`.
     fn do_eval(&mut self, words: &Words, levels: u32) -> Result<Acted, NoMemory>
         ensures means { IfOk result (λ acted.
-            (names : Names) (opened : Option OpenQuestion)
-            → Same names H.table self.new self.old (acted_next names H.table acted opened)
-            (do_eval (nested names H.table levels) words.now)) }
+            ActsAs H.table acted self.new self.old
+            (λ names. do_eval (nested names H.table levels) words.now)) }
         ensures lower { OnOk result (Lower self.new self.old 1) }
         ensures opens { IfOk result (λ acted. Opens acted self.new self.old) }
         ensures holds { Holds self.new self.old }
@@ -419,9 +417,8 @@ impl<H: Host> Engine<H> {
         levels: u32,
     ) -> Result<Acted, NoMemory>
         ensures means { IfOk result (λ acted.
-            (names : Names) (opened : Option OpenQuestion)
-            → Same names H.table self.new self.old (acted_next names H.table acted opened) (λ k.
-            run_script names H.table levels (unread (arg words.now 1)) (catch_end name k))) }
+            ActsAs H.table acted self.new self.old (λ names.
+            λ k. run_script names H.table levels (unread (arg words.now 1)) (catch_end name k))) }
         ensures lower { OnOk result (Lower self.new self.old 1) }
         ensures opens { IfOk result (λ acted. Opens acted self.new self.old) }
         ensures holds { Holds self.new self.old }
@@ -435,9 +432,8 @@ impl<H: Host> Engine<H> {
     /// `catch script ?name?`.
     fn do_catch(&mut self, words: &Words, levels: u32) -> Result<Acted, NoMemory>
         ensures means { IfOk result (λ acted.
-            (names : Names) (opened : Option OpenQuestion)
-            → Same names H.table self.new self.old (acted_next names H.table acted opened)
-            (do_catch (nested names H.table levels) words.now)) }
+            ActsAs H.table acted self.new self.old
+            (λ names. do_catch (nested names H.table levels) words.now)) }
         ensures lower { OnOk result (Lower self.new self.old 1) }
         ensures opens { IfOk result (λ acted. Opens acted self.new self.old) }
         ensures holds { Holds self.new self.old }
@@ -522,8 +518,7 @@ impl<H: Host> Engine<H> {
         requires { IsRunning verb }
         ensures means { IfOk result (λ acted.
             (names : Names)
-            → Same names H.table self.new self.old
-            (acted_next names H.table acted self.new.question)
+            → ActedIs names H.table acted self.new self.old
             (built_in names H.table (nested names H.table levels) verb words)) }
         ensures lower { OnOk result (Lower self.new self.old 1) }
         ensures opens { IfOk result (λ acted. Opens acted self.new self.old) }
@@ -555,8 +550,7 @@ impl<H: Host> Engine<H> {
     ) -> Result<Acted, NoMemory>
         ensures means { IfOk result (λ acted.
             (names : Names)
-            → Same names H.table self.new self.old
-            (acted_next names H.table acted self.new.question)
+            → ActedIs names H.table acted self.new self.old
             (built_in names H.table (nested names H.table levels) verb words)) }
         ensures lower { OnOk result (Lower self.new self.old 1) }
         ensures opens { IfOk result (λ acted. Opens acted self.new self.old) }
@@ -582,8 +576,7 @@ impl<H: Host> Engine<H> {
         steps: &mut Steps<L>,
     ) -> Result<Acted, NoMemory>
         ensures means { IfOk result (λ acted.
-            Same (names_of natives.now) H.table self.new self.old
-            (acted_next (names_of natives.now) H.table acted self.new.question)
+            ActedIs (names_of natives.now) H.table acted self.new self.old
             (built (names_of natives.now) H.table (nested (names_of natives.now) H.table levels)
             words)) }
         ensures lower { OnOk result (Lower self.new self.old 1) }
@@ -636,9 +629,8 @@ impl<H: Host> Engine<H> {
         levels: u32,
     ) -> Result<Acted, NoMemory>
         ensures means { IfOk result (λ acted.
-            (names : Names) (opened : Option OpenQuestion)
-            → Same names H.table self.new self.old (acted_next names H.table acted opened)
-            (call_proc (nested names H.table levels) params.now body.now words.now)) }
+            ActsAs H.table acted self.new self.old
+            (λ names. call_proc (nested names H.table levels) params.now body.now words.now)) }
         ensures lower { OnOk result (Lower self.new self.old 1) }
         ensures opens { IfOk result (λ acted. Opens acted self.new self.old) }
         ensures holds { Holds self.new self.old }
@@ -667,8 +659,7 @@ impl<H: Host> Engine<H> {
         steps: &mut Steps<L>,
     ) -> Result<Acted, NoMemory>
         ensures means { IfOk result (λ acted.
-            Same (names_of natives.now) H.table self.new self.old
-            (acted_next (names_of natives.now) H.table acted self.new.question)
+            ActedIs (names_of natives.now) H.table acted self.new self.old
             (act (names_of natives.now) H.table (nested (names_of natives.now) H.table levels)
             words)) }
         ensures lower { OnOk result (Lower self.new self.old 1) }

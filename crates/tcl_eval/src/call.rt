@@ -7,10 +7,10 @@ ghost use Rattle.tcl_frame.specs.Frames.{popped};
 ghost use Rattle.txt_core.specs.Names.{Names};
 ghost use Rattle.tcl_eval.specs.Calls.{IsCalled};
 ghost use Rattle.tcl_eval.specs.Eval.{call_bound, call_proc, command, command_end, give, nested, proc_end, unread, write_all};
-ghost use Rattle.tcl_eval.specs.Stack.{step_next};
 ghost use Rattle.tcl_eval.specs.Straight.{Alike, Straightly};
 ghost use Rattle.tcl_eval.specs.Turns.{IsSet, ran_next};
-ghost use Rattle.tcl_eval.specs.Engine.{Holds, Nears, Remains, Same, Stays, credit, gone_next};
+ghost use Rattle.tcl_eval.specs.Engine.{Holds, Nears, Remains, Stays, credit};
+ghost use Rattle.tcl_eval.specs.Clauses.{GoneIs, StepIs};
 
 use crate::cost::command_cost;
 use crate::engine::Engine;
@@ -58,8 +58,7 @@ impl<H: Host> Engine<H> {
     ) -> Result<Gone, NoMemory>
         requires { IsCalled self.old.table.table words.now called }
         ensures means { IfOk result (λ gone.
-            Same (names_of natives.now) H.table self.new self.old
-            (gone_next (names_of natives.now) H.table gone)
+            GoneIs (names_of natives.now) H.table gone self.new self.old
             (command (names_of natives.now) H.table (nested (names_of natives.now) H.table levels)
             words.now)) }
         ensures nears { IfOk result (λ gone. Nears gone self.new (credit self.old)) }
@@ -82,8 +81,7 @@ impl<H: Host> Engine<H> {
         levels: u32,
     ) -> Result<Step, NoMemory>
         ensures means { IfOk result (λ step.
-            Same (names_of natives.now) H.table self.new self.old
-            (step_next (names_of natives.now) H.table step) (λ k.
+            StepIs (names_of natives.now) H.table step self.new self.old (λ k.
             call_proc (nested (names_of natives.now) H.table levels) called.now.params
             called.now.body words.now (command_end k))) }
         ensures keeps { IfOk result (λ step. Stays step self.new self.old) }
@@ -112,8 +110,7 @@ impl<H: Host> Engine<H> {
         levels: u32,
     ) -> Result<Step, NoMemory>
         ensures means { IfOk result (λ step.
-            Same (names_of natives.now) H.table self.new self.old
-            (step_next (names_of natives.now) H.table step) (λ k.
+            StepIs (names_of natives.now) H.table step self.new self.old (λ k.
             call_bound (nested (names_of natives.now) H.table levels) (Ok values) body.now
             (command_end k))) }
         ensures keeps { IfOk result (λ step. Stays step self.new self.old) }
@@ -157,8 +154,8 @@ impl<H: Host> Engine<H> {
         requires { IsSet ran }
         ensures means { IfOk result (λ step.
             (names : Names)
-            → Same names H.table self.new self.old (step_next names H.table step) (λ k.
-            ran_next names H.table ran (proc_end (command_end k)))) }
+            → StepIs names H.table step self.new self.old
+            (λ k. ran_next names H.table ran (proc_end (command_end k)))) }
         ensures keeps { IfOk result (λ step. Stays step self.new self.old) }
         ensures holds { Holds self.new self.old }
     {
@@ -208,8 +205,8 @@ impl<H: Host> Engine<H> {
     fn end_call(&mut self, value: Ended) -> Result<Step, NoMemory>
         ensures means { IfOk result (λ step.
             (names : Names)
-            → Same names H.table self.new self.old (step_next names H.table step) (λ k.
-            proc_end (command_end k) value.code value.result)) }
+            → StepIs names H.table step self.new self.old
+            (λ k. proc_end (command_end k) value.code value.result)) }
         ensures keeps { IfOk result (λ step. Stays step self.new self.old) }
         ensures holds { Holds self.new self.old }
     {

@@ -1,15 +1,16 @@
 //! An `if` for which nothing is put on the stack.
 
-ghost use Rattle.std.specs.Prelude.{◌≡◌, ◌≤◌, ℕ, suc, [], false, length, IfOk, IsTrue, OnOk};
+ghost use Rattle.std.specs.Prelude.{◌≡◌, ◌≤◌, ℕ, suc, [], false, IfOk, IsTrue, OnOk};
 ghost use Rattle.natives.specs.Names.{has_name, names_of};
-ghost use Rattle.tcl_parse.specs.Tree.{Words, command, no_commands, no_words};
+ghost use Rattle.tcl_parse.specs.Tree.{Words, command, no_commands};
 ghost use Rattle.tcl_varcmd.specs.Commands.{begins_var_command};
-ghost use Rattle.tcl_eval.specs.Eval.{arg, command_cost, do_if, nested, run_commands, run_script, run_words, unread, verb_of};
+ghost use Rattle.tcl_eval.specs.Eval.{arg, command_cost, do_if, nested, run_commands, run_script, unread, verb_of};
 ghost use Rattle.tcl_eval.specs.Branches.{choose};
 ghost use Rattle.tcl_eval.specs.Choices.{CameTo, IsIf};
-ghost use Rattle.tcl_eval.specs.Places.{command_at, tree_of, words_from, words_size};
-ghost use Rattle.tcl_eval.specs.Straight.{Alike, IsOwn, Straightly, tried_next, tried_size};
+ghost use Rattle.tcl_eval.specs.Places.{command_at, tree_of};
+ghost use Rattle.tcl_eval.specs.Straight.{IsOwn, Straightly};
 ghost use Rattle.tcl_eval.specs.Engine.{Holds};
+ghost use Rattle.tcl_eval.specs.Clauses.{IsLeftOf, Tries};
 ghost use Rattle.tcl_eval.specs.declared.verb.Verb.{Verb};
 
 use crate::branch::{Branches, read_branches};
@@ -187,16 +188,9 @@ impl<H: Host> Engine<H> {
         ensures means { IfOk result (λ tried.
             (levels : ℕ) (words : Words)
             → IsIf (names_of natives.now) self.old.table.table values
-            → words_from (length values) words ≡ no_words
-            → Alike self.new self.old
-            (tried_next (names_of natives.now) H.table
-            (nested (names_of natives.now) H.table (suc levels)) words tried)
-            (run_words (names_of natives.now) H.table
-            (nested (names_of natives.now) H.table (suc levels)) (words_from (length values) words)
-            values)) }
-        ensures size { IfOk result (λ tried.
-            (words : Words)
-            → tried_size words tried ≤ words_size (words_from (length values) words)) }
+            → Tries (names_of natives.now) H.table (suc levels) words values tried self.new
+            self.old) }
+        ensures size { IfOk result (λ tried. IsLeftOf values tried) }
         ensures straight { OnOk result (Straightly self.new self.old) }
         ensures holds { Holds self.new self.old }
     {
@@ -225,16 +219,9 @@ impl<H: Host> Engine<H> {
         levels: u32,
     ) -> Result<Tried, NoMemory>
         ensures means { IfOk result (λ tried.
-            (words : Words) → words_from (length values) words ≡ no_words
-            → Alike self.new self.old
-            (tried_next (names_of natives.now) H.table
-            (nested (names_of natives.now) H.table levels) words tried)
-            (run_words (names_of natives.now) H.table
-            (nested (names_of natives.now) H.table levels) (words_from (length values) words)
-            values)) }
-        ensures size { IfOk result (λ tried.
             (words : Words)
-            → tried_size words tried ≤ words_size (words_from (length values) words)) }
+            → Tries (names_of natives.now) H.table levels words values tried self.new self.old) }
+        ensures size { IfOk result (λ tried. IsLeftOf values tried) }
         ensures straight { OnOk result (Straightly self.new self.old) }
         ensures holds { Holds self.new self.old }
     {
@@ -261,16 +248,9 @@ impl<H: Host> Engine<H> {
         levels: u32,
     ) -> Result<Tried, NoMemory>
         ensures means { IfOk result (λ tried.
-            (words : Words) → words_from (length values) words ≡ no_words
-            → Alike self.new self.old
-            (tried_next (names_of natives.now) H.table
-            (nested (names_of natives.now) H.table levels) words tried)
-            (run_words (names_of natives.now) H.table
-            (nested (names_of natives.now) H.table levels) (words_from (length values) words)
-            values)) }
-        ensures size { IfOk result (λ tried.
             (words : Words)
-            → tried_size words tried ≤ words_size (words_from (length values) words)) }
+            → Tries (names_of natives.now) H.table levels words values tried self.new self.old) }
+        ensures size { IfOk result (λ tried. IsLeftOf values tried) }
         ensures straight { OnOk result (Straightly self.new self.old) }
         ensures holds { Holds self.new self.old }
     {

@@ -1,16 +1,15 @@
 //! `if` under way.
 
-ghost use Rattle.std.specs.Prelude.{◌≡◌, ◌<◌, ◌≤◌, ◌+◌, ℕ, IfOk, OnOk, Option, Some, drop, slice_get};
+ghost use Rattle.std.specs.Prelude.{◌≡◌, ◌<◌, ◌≤◌, ℕ, IfOk, OnOk, Some, drop, slice_get};
 ghost use Rattle.txt_core.specs.Names.{Names};
 ghost use Rattle.tcl_eval.specs.Eval.{nested, do_if};
 ghost use Rattle.tcl_eval.specs.Branches.{choose};
 ghost use Rattle.tcl_eval.specs.Chosen.{IsClause, chosen_next};
 ghost use Rattle.tcl_eval.specs.Choices.{PaidAlone};
 ghost use Rattle.tcl_eval.specs.Straight.{Alike, Straightly};
-ghost use Rattle.tcl_eval.specs.Stack.{branch_next, branch_free};
-ghost use Rattle.tcl_eval.specs.Engine.{Holds, Nears, Same, Opens, Enters, Lower, Remains, acted_next, credit, gone_next};
+ghost use Rattle.tcl_eval.specs.Engine.{Holds, Opens, Enters, Lower, Remains, credit};
+ghost use Rattle.tcl_eval.specs.Clauses.{ActsAs, GivesBranch, NearsBranch};
 ghost use Rattle.tcl_eval.specs.declared.branch.Branch.{Branch};
-ghost use Rattle.tcl_eval.specs.declared.engine.OpenQuestion.{OpenQuestion};
 
 use crate::branch::{Branch, Branches, place_behind, read_branches};
 use crate::engine::Engine;
@@ -94,9 +93,8 @@ impl<H: Host> Engine<H> {
     ) -> Result<Acted, NoMemory>
         requires { slice_get branches.value.clauses at ≡ Some (condition.now, body) }
         ensures means { IfOk result (λ acted.
-            (names : Names) (opened : Option OpenQuestion)
-            → Same names H.table self.new self.old (acted_next names H.table acted opened)
-            (choose (nested names H.table levels) (drop at branches.value.clauses)
+            ActsAs H.table acted self.new self.old (λ names.
+            choose (nested names H.table levels) (drop at branches.value.clauses)
             branches.value.last)) }
         ensures lower { OnOk result (Lower self.new self.old 1) }
         ensures opens { IfOk result (λ acted. Opens acted self.new self.old) }
@@ -117,9 +115,8 @@ impl<H: Host> Engine<H> {
     /// Goes on with the condition at a place, and where there is none with the last body.
     fn choose(&mut self, branches: Rc<Branches>, at: usize, levels: u32) -> Result<Acted, NoMemory>
         ensures means { IfOk result (λ acted.
-            (names : Names) (opened : Option OpenQuestion)
-            → Same names H.table self.new self.old (acted_next names H.table acted opened)
-            (choose (nested names H.table levels) (drop at branches.value.clauses)
+            ActsAs H.table acted self.new self.old (λ names.
+            choose (nested names H.table levels) (drop at branches.value.clauses)
             branches.value.last)) }
         ensures lower { OnOk result (Lower self.new self.old 1) }
         ensures opens { IfOk result (λ acted. Opens acted self.new self.old) }
@@ -157,12 +154,10 @@ impl<H: Host> Engine<H> {
     ) -> Result<Gone, NoMemory>
         ensures means { IfOk result (λ gone.
             (names : Names)
-            → Same names H.table self.new self.old (gone_next names H.table gone) (λ k.
-            branch_next names H.table (Branch.If body branches next levels) k value.code
-            value.result)) }
+            → GivesBranch names H.table gone (Branch.If body branches next levels) value self.new
+            self.old) }
         ensures nears { IfOk result (λ gone.
-            Nears gone self.new
-            (credit self.old + branch_free (Branch.If body branches next levels))) }
+            NearsBranch gone self.new self.old (Branch.If body branches next levels)) }
         ensures remains { OnOk result (Remains self.new self.old) }
         ensures holds { Holds self.new self.old }
     {
@@ -183,9 +178,8 @@ impl<H: Host> Engine<H> {
     /// `if c ?then? body`, any `elseif c ?then? body`, `?else? body`.
     pub(crate) fn do_if(&mut self, words: &Words, levels: u32) -> Result<Acted, NoMemory>
         ensures means { IfOk result (λ acted.
-            (names : Names) (opened : Option OpenQuestion)
-            → Same names H.table self.new self.old (acted_next names H.table acted opened)
-            (do_if (nested names H.table levels) words.now)) }
+            ActsAs H.table acted self.new self.old
+            (λ names. do_if (nested names H.table levels) words.now)) }
         ensures lower { OnOk result (Lower self.new self.old 1) }
         ensures opens { IfOk result (λ acted. Opens acted self.new self.old) }
         ensures holds { Holds self.new self.old }

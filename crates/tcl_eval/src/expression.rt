@@ -9,11 +9,11 @@ ghost use Rattle.tcl_eval.specs.Messages.{no_boolean};
 ghost use Rattle.tcl_eval.specs.Eval.{nested, ended, error_of, give};
 ghost use Rattle.tcl_eval.specs.Expressions.{behind_left, run_expression, evaluate, do_expr, whole_value};
 ghost use Rattle.tcl_eval.specs.Places.{tree_size};
-ghost use Rattle.tcl_eval.specs.Stack.{frame_next, step_next, frame_weight, stack_weight, step_weight, frame_free, step_free};
-ghost use Rattle.tcl_eval.specs.Engine.{Holds, Same, Stays, Keeps, Opens, Enters, Lower, acted_next, credit};
+ghost use Rattle.tcl_eval.specs.Stack.{frame_next, step_next, frame_weight, step_weight, frame_free, step_free};
+ghost use Rattle.tcl_eval.specs.Engine.{Holds, Same, Stays, Keeps, Opens, Enters, Lower, credit};
+ghost use Rattle.tcl_eval.specs.Clauses.{ActsAs, GivesFrame, IsLighter, IsNoHeavier, StepIs};
 ghost use Rattle.tcl_eval.specs.declared.stack.Frame.{Frame};
 ghost use Rattle.tcl_eval.specs.declared.stack.Step.{Step};
-ghost use Rattle.tcl_eval.specs.declared.engine.OpenQuestion.{OpenQuestion};
 
 use crate::cost::EVALUATION_COST;
 use crate::engine::Engine;
@@ -85,12 +85,11 @@ impl<H: Host> Engine<H> {
     fn enter_part(&mut self, frame: Frame, part: Rc<Expr>, levels: u32) -> Result<Step, NoMemory>
         ensures means { IfOk result (λ step.
             (names : Names)
-            → Same names H.table self.new self.old (step_next names H.table step) (λ k.
+            → StepIs names H.table step self.new self.old (λ k.
             run_expression (nested names H.table levels) (tree_of part.value)
             (frame_next names H.table frame k))) }
         ensures weighs { IfOk result (λ step.
-            stack_weight self.new.stack.items + step_weight step ≤ stack_weight self.old.stack.items
-            +
+            IsNoHeavier step self.new self.old
             (frame_weight frame + tree_size (tree_of part.value))) }
         ensures keeps { IfOk result (λ step. frame_free frame ≡ 0 → Stays step self.new self.old) }
         ensures holds { Holds self.new self.old }
@@ -116,13 +115,12 @@ impl<H: Host> Engine<H> {
     ) -> Result<Step, NoMemory>
         ensures means { IfOk result (λ step.
             (names : Names)
-            → Same names H.table self.new self.old (step_next names H.table step)
+            → StepIs names H.table step self.new self.old
             (run_expression (nested names H.table levels)
             (binary op (tree_of left.now.value) (tree_of right.now.value)))) }
         ensures weighs { IfOk result (λ step.
-            stack_weight self.new.stack.items + step_weight step < stack_weight self.old.stack.items
-            + tree_size
-            (binary op (tree_of left.now.value) (tree_of right.now.value))) }
+            IsLighter step self.new self.old
+            (tree_size (binary op (tree_of left.now.value) (tree_of right.now.value)))) }
         ensures keeps { IfOk result (λ step. Stays step self.new self.old) }
         ensures holds { Holds self.new self.old }
     {
@@ -142,15 +140,15 @@ impl<H: Host> Engine<H> {
     ) -> Result<Step, NoMemory>
         ensures means { IfOk result (λ step.
             (names : Names)
-            → Same names H.table self.new self.old (step_next names H.table step)
+            → StepIs names H.table step self.new self.old
             (run_expression (nested names H.table levels)
-            (choice (tree_of test.now.value) (tree_of first.now.value)
-            (tree_of second.now.value)))) }
+            (choice (tree_of test.now.value) (tree_of first.now.value) (tree_of
+            second.now.value)))) }
         ensures weighs { IfOk result (λ step.
-            stack_weight self.new.stack.items + step_weight step < stack_weight self.old.stack.items
-            + tree_size
-            (choice (tree_of test.now.value) (tree_of first.now.value)
-            (tree_of second.now.value))) }
+            IsLighter step self.new self.old
+            (tree_size
+            (choice (tree_of test.now.value) (tree_of first.now.value) (tree_of
+            second.now.value)))) }
         ensures keeps { IfOk result (λ step. Stays step self.new self.old) }
         ensures holds { Holds self.new self.old }
     {
@@ -173,11 +171,10 @@ impl<H: Host> Engine<H> {
     ) -> Result<Step, NoMemory>
         ensures means { IfOk result (λ step.
             (names : Names)
-            → Same names H.table self.new self.old (step_next names H.table step) (λ k.
-            frame_next names H.table (Frame.Expression expr levels) k value.code value.result)) }
+            → GivesFrame names H.table step (Frame.Expression expr levels) value self.new
+            self.old) }
         ensures falls { IfOk result (λ step.
-            stack_weight self.new.stack.items + step_weight step < stack_weight self.old.stack.items
-            + frame_weight (Frame.Expression expr levels)) }
+            IsLighter step self.new self.old (frame_weight (Frame.Expression expr levels))) }
         ensures keeps { IfOk result (λ step. Stays step self.new self.old) }
         ensures holds { Holds self.new self.old }
     {
@@ -213,8 +210,7 @@ impl<H: Host> Engine<H> {
     pub(crate) fn give_operation(&self, op: Op, value: Ended) -> Result<Step, NoMemory>
         ensures means { IfOk result (λ step.
             (names : Names)
-            → Same names H.table self.now self.now (step_next names H.table step) (λ k.
-            frame_next names H.table (Frame.Operation op) k value.code value.result)) }
+            → GivesFrame names H.table step (Frame.Operation op) value self.now self.now) }
         ensures light { IfOk result (λ step. step_weight step + step_free step ≡ 0) }
     {
         if value.code != OK {
@@ -233,12 +229,11 @@ impl<H: Host> Engine<H> {
     ) -> Result<Step, NoMemory>
         ensures means { IfOk result (λ step.
             (names : Names)
-            → Same names H.table self.new self.old (step_next names H.table step) (λ k.
+            → StepIs names H.table step self.new self.old (λ k.
             run_expression (nested names H.table levels) (tree_of right.value)
             (frame_next names H.table (Frame.Right op left) k))) }
         ensures weighs { IfOk result (λ step.
-            stack_weight self.new.stack.items + step_weight step < stack_weight self.old.stack.items
-            + frame_weight (Frame.Left op right levels)) }
+            IsLighter step self.new self.old (frame_weight (Frame.Left op right levels))) }
         ensures keeps { IfOk result (λ step. Stays step self.new self.old) }
         ensures holds { Holds self.new self.old }
     {
@@ -273,14 +268,12 @@ impl<H: Host> Engine<H> {
     ) -> Result<Step, NoMemory>
         ensures means { IfOk result (λ step.
             (names : Names)
-            → Same names H.table self.new self.old (step_next names H.table step) (λ k.
+            → StepIs names H.table step self.new self.old (λ k.
             behind_left way left
             (run_expression (nested names H.table levels) (tree_of right.value)
-            (frame_next names H.table (Frame.Right op left) k))
-            k)) }
+            (frame_next names H.table (Frame.Right op left) k)) k)) }
         ensures weighs { IfOk result (λ step.
-            stack_weight self.new.stack.items + step_weight step < stack_weight self.old.stack.items
-            + frame_weight (Frame.Left op right levels)) }
+            IsLighter step self.new self.old (frame_weight (Frame.Left op right levels))) }
         ensures keeps { IfOk result (λ step. Stays step self.new self.old) }
         ensures holds { Holds self.new self.old }
     {
@@ -330,11 +323,9 @@ impl<H: Host> Engine<H> {
     ) -> Result<Step, NoMemory>
         ensures means { IfOk result (λ step.
             (names : Names)
-            → Same names H.table self.new self.old (step_next names H.table step) (λ k.
-            frame_next names H.table (Frame.Left op right levels) k value.code value.result)) }
+            → GivesFrame names H.table step (Frame.Left op right levels) value self.new self.old) }
         ensures falls { IfOk result (λ step.
-            stack_weight self.new.stack.items + step_weight step < stack_weight self.old.stack.items
-            + frame_weight (Frame.Left op right levels)) }
+            IsLighter step self.new self.old (frame_weight (Frame.Left op right levels))) }
         ensures keeps { IfOk result (λ step. Stays step self.new self.old) }
         ensures holds { Holds self.new self.old }
     {
@@ -349,8 +340,7 @@ impl<H: Host> Engine<H> {
     pub(crate) fn give_right(&self, op: Op, left: Text, value: Ended) -> Result<Step, NoMemory>
         ensures means { IfOk result (λ step.
             (names : Names)
-            → Same names H.table self.now self.now (step_next names H.table step) (λ k.
-            frame_next names H.table (Frame.Right op left) k value.code value.result)) }
+            → GivesFrame names H.table step (Frame.Right op left) value self.now self.now) }
         ensures light { IfOk result (λ step. step_weight step + step_free step ≡ 0) }
     {
         if value.code != OK {
@@ -363,11 +353,10 @@ impl<H: Host> Engine<H> {
     fn enter_chosen(&mut self, part: Rc<Expr>, levels: u32) -> Result<Step, NoMemory>
         ensures means { IfOk result (λ step.
             (names : Names)
-            → Same names H.table self.new self.old (step_next names H.table step)
+            → StepIs names H.table step self.new self.old
             (run_expression (nested names H.table levels) (tree_of part.value))) }
         ensures weighs { IfOk result (λ step.
-            stack_weight self.new.stack.items + step_weight step ≤ stack_weight self.old.stack.items
-            + tree_size (tree_of part.value)) }
+            IsNoHeavier step self.new self.old (tree_size (tree_of part.value))) }
         ensures keeps { IfOk result (λ step. Stays step self.new self.old) }
         ensures holds { Holds self.new self.old }
     {
@@ -385,12 +374,10 @@ impl<H: Host> Engine<H> {
     ) -> Result<Step, NoMemory>
         ensures means { IfOk result (λ step.
             (names : Names)
-            → Same names H.table self.new self.old (step_next names H.table step) (λ k.
-            frame_next names H.table (Frame.Choice first second levels) k value.code
-            value.result)) }
+            → GivesFrame names H.table step (Frame.Choice first second levels) value self.new
+            self.old) }
         ensures falls { IfOk result (λ step.
-            stack_weight self.new.stack.items + step_weight step < stack_weight self.old.stack.items
-            + frame_weight (Frame.Choice first second levels)) }
+            IsLighter step self.new self.old (frame_weight (Frame.Choice first second levels))) }
         ensures keeps { IfOk result (λ step. Stays step self.new self.old) }
         ensures holds { Holds self.new self.old }
     {
@@ -417,8 +404,7 @@ impl<H: Host> Engine<H> {
     pub(crate) fn give_value(&self, value: Ended) -> Result<Step, NoMemory>
         ensures means { IfOk result (λ step.
             (names : Names)
-            → Same names H.table self.now self.now (step_next names H.table step) (λ k.
-            frame_next names H.table Frame.Value k value.code value.result)) }
+            → GivesFrame names H.table step Frame.Value value self.now self.now) }
         ensures light { IfOk result (λ step. step_weight step + step_free step ≡ 0) }
     {
         Ok(Step::Value(value_ended(self.alloc, value)?))
@@ -428,9 +414,8 @@ impl<H: Host> Engine<H> {
     /// has ended at once.
     pub(crate) fn evaluate_read(&mut self, text: &ReadExpr, levels: u32) -> Result<Acted, NoMemory>
         ensures means { IfOk result (λ acted.
-            (names : Names) (opened : Option OpenQuestion)
-            → Same names H.table self.new self.old (acted_next names H.table acted opened)
-            (evaluate (nested names H.table levels) text.now)) }
+            ActsAs H.table acted self.new self.old
+            (λ names. evaluate (nested names H.table levels) text.now)) }
         ensures lower { OnOk result (Lower self.new self.old 0) }
         ensures opens { IfOk result (λ acted. Opens acted self.new self.old) }
         ensures enters { IfOk result (λ acted.
@@ -476,9 +461,8 @@ impl<H: Host> Engine<H> {
     /// Pays for the evaluation of a text as an expression, which is read where it isn't kept, and begins.
     pub(crate) fn evaluate(&mut self, text: &Text, levels: u32) -> Result<Acted, NoMemory>
         ensures means { IfOk result (λ acted.
-            (names : Names) (opened : Option OpenQuestion)
-            → Same names H.table self.new self.old (acted_next names H.table acted opened)
-            (evaluate (nested names H.table levels) text.now)) }
+            ActsAs H.table acted self.new self.old
+            (λ names. evaluate (nested names H.table levels) text.now)) }
         ensures lower { OnOk result (Lower self.new self.old 0) }
         ensures opens { IfOk result (λ acted. Opens acted self.new self.old) }
         ensures enters { IfOk result (λ acted.
@@ -493,9 +477,8 @@ impl<H: Host> Engine<H> {
     /// `expr word word*`.
     pub(crate) fn do_expr(&mut self, words: &Words, levels: u32) -> Result<Acted, NoMemory>
         ensures means { IfOk result (λ acted.
-            (names : Names) (opened : Option OpenQuestion)
-            → Same names H.table self.new self.old (acted_next names H.table acted opened)
-            (do_expr (nested names H.table levels) words.now)) }
+            ActsAs H.table acted self.new self.old
+            (λ names. do_expr (nested names H.table levels) words.now)) }
         ensures lower { OnOk result (Lower self.new self.old 1) }
         ensures opens { IfOk result (λ acted. Opens acted self.new self.old) }
         ensures holds { Holds self.new self.old }

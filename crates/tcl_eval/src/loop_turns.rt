@@ -1,6 +1,6 @@
 //! Turns of loops for which nothing is put on the stack.
 
-ghost use Rattle.std.specs.Prelude.{◌≡◌, ℕ, [], IfOk, IfSome, OnOk, Some};
+ghost use Rattle.std.specs.Prelude.{ℕ, [], IfOk, IfSome, OnOk, Some};
 ghost use Rattle.natives.specs.Names.{names_of};
 ghost use Rattle.txt_core.specs.Names.{Bytes, Names};
 ghost use Rattle.parse_cache.specs.Readings.{IsReading};
@@ -11,10 +11,10 @@ ghost use Rattle.tcl_eval.specs.Choices.{PaidAlone};
 ghost use Rattle.tcl_eval.specs.Expressions.{test};
 ghost use Rattle.tcl_eval.specs.Loops.{between, in_loop, turn_body, turns};
 ghost use Rattle.tcl_eval.specs.Places.{tree_of};
-ghost use Rattle.tcl_eval.specs.Stack.{step_next};
 ghost use Rattle.tcl_eval.specs.Straight.{Alike, Straightly};
 ghost use Rattle.tcl_eval.specs.Turns.{IsBehind, IsSet, IsTested, IsTruth, IsTurnSet, Leads, TestPays, TurnPays, ran_next, tested_next, turn_next};
-ghost use Rattle.tcl_eval.specs.Engine.{Holds, Same, Stays};
+ghost use Rattle.tcl_eval.specs.Engine.{Holds, Stays};
+ghost use Rattle.tcl_eval.specs.Clauses.{StepIs};
 ghost use Rattle.tcl_eval.specs.declared.branch.Turning.{Turning};
 
 use crate::branch::Turning;
@@ -163,8 +163,7 @@ impl<H: Host> Engine<H> {
         requires { IsSet ran }
         ensures means { IfOk result (λ step.
             (names : Names)
-            → Same names H.table self.new self.old (step_next names H.table step)
-            (ran_next names H.table ran)) }
+            → StepIs names H.table step self.new self.old (ran_next names H.table ran)) }
         ensures keeps { IfOk result (λ step. Stays step self.new self.old) }
         ensures holds { Holds self.new self.old }
     {

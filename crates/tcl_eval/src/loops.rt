@@ -1,18 +1,17 @@
 //! Loops under way.
 
-ghost use Rattle.std.specs.Prelude.{◌≡◌, ◌<◌, ◌≤◌, ◌+◌, ℕ, IfOk, IfSome, OnOk, Option, Some, drop, length};
+ghost use Rattle.std.specs.Prelude.{◌≡◌, ◌<◌, ◌+◌, IfOk, IfSome, OnOk, Option, Some, drop, length};
 ghost use Rattle.natives.specs.Names.{names_of};
 ghost use Rattle.txt_core.specs.Names.{Names};
 ghost use Rattle.tcl_eval.specs.State.{Next};
 ghost use Rattle.tcl_eval.specs.Eval.{nested, do_while, do_for, do_foreach};
 ghost use Rattle.tcl_eval.specs.Loops.{assigned, turns, turn_on, walk_on, walk_all};
 ghost use Rattle.tcl_eval.specs.LoopsSeen.{flow_of};
-ghost use Rattle.tcl_eval.specs.Stack.{branch_next, branch_free};
 ghost use Rattle.tcl_eval.specs.Turns.{IsEachSet, IsTurnSet, each_free, each_next, option_free, turn_free, turn_next};
-ghost use Rattle.tcl_eval.specs.Engine.{Holds, Nears, Same, Opens, Lower, Remains, acted_next, credit, gone_next};
+ghost use Rattle.tcl_eval.specs.Engine.{Holds, Nears, Opens, Lower, Remains, credit};
+ghost use Rattle.tcl_eval.specs.Clauses.{ActsAs, GivesBranch, GoneIs, NearsBranch, NearsMost};
 ghost use Rattle.tcl_eval.specs.declared.branch.Branch.{Branch};
 ghost use Rattle.tcl_eval.specs.declared.loop_turns.Turn.TheVariants.{Whole};
-ghost use Rattle.tcl_eval.specs.declared.engine.OpenQuestion.{OpenQuestion};
 
 use crate::branch::{Branch, Turning, Walk};
 use crate::engine::Engine;
@@ -85,9 +84,8 @@ impl<H: Host> Engine<H> {
     /// left.
     fn begin_turns(&mut self, turning: Turning, levels: u32) -> Result<Acted, NoMemory>
         ensures means { IfOk result (λ acted.
-            (names : Names) (opened : Option OpenQuestion)
-            → Same names H.table self.new self.old (acted_next names H.table acted opened)
-            (turn_on (nested names H.table levels) turning)) }
+            ActsAs H.table acted self.new self.old
+            (λ names. turn_on (nested names H.table levels) turning)) }
         ensures lower { OnOk result (Lower self.new self.old 1) }
         ensures opens { IfOk result (λ acted. Opens acted self.new self.old) }
         ensures holds { Holds self.new self.old }
@@ -105,9 +103,8 @@ impl<H: Host> Engine<H> {
     /// `while c body`.
     pub(crate) fn do_while(&mut self, words: &Words, levels: u32) -> Result<Acted, NoMemory>
         ensures means { IfOk result (λ acted.
-            (names : Names) (opened : Option OpenQuestion)
-            → Same names H.table self.new self.old (acted_next names H.table acted opened)
-            (do_while (nested names H.table levels) words.now)) }
+            ActsAs H.table acted self.new self.old
+            (λ names. do_while (nested names H.table levels) words.now)) }
         ensures lower { OnOk result (Lower self.new self.old 1) }
         ensures opens { IfOk result (λ acted. Opens acted self.new self.old) }
         ensures holds { Holds self.new self.old }
@@ -129,9 +126,8 @@ impl<H: Host> Engine<H> {
     /// `for start c next body`.
     pub(crate) fn do_for(&mut self, words: &Words, levels: u32) -> Result<Acted, NoMemory>
         ensures means { IfOk result (λ acted.
-            (names : Names) (opened : Option OpenQuestion)
-            → Same names H.table self.new self.old (acted_next names H.table acted opened)
-            (do_for (nested names H.table levels) words.now)) }
+            ActsAs H.table acted self.new self.old
+            (λ names. do_for (nested names H.table levels) words.now)) }
         ensures lower { OnOk result (Lower self.new self.old 1) }
         ensures opens { IfOk result (λ acted. Opens acted self.new self.old) }
         ensures holds { Holds self.new self.old }
@@ -166,11 +162,10 @@ impl<H: Host> Engine<H> {
         requires { IsTurnSet turn }
         ensures means { IfOk result (λ gone.
             (names : Names)
-            → Same names H.table self.new self.old (gone_next names H.table gone) (λ k.
+            → GoneIs names H.table gone self.new self.old (λ k.
             turn_next names H.table (nested names H.table levels) turning.value (Some turn)
             (turns (nested names H.table levels) turning.value left k) k)) }
-        ensures nears { IfOk result (λ gone.
-            (most : ℕ) → credit self.old + turn_free turn < most → Nears gone self.new most) }
+        ensures nears { IfOk result (λ gone. NearsMost gone self.new self.old (turn_free turn)) }
         ensures remains { OnOk result (Remains self.new self.old) }
         ensures holds { Holds self.new self.old }
     {
@@ -211,7 +206,7 @@ impl<H: Host> Engine<H> {
     ) -> Result<Gone, NoMemory>
         ensures means { IfOk result (λ gone.
             (names : Names)
-            → Same names H.table self.new self.old (gone_next names H.table gone) (λ k.
+            → GoneIs names H.table gone self.new self.old (λ k.
             turn_next names H.table (nested names H.table levels) turning.value (Some Whole)
             (turns (nested names H.table levels) turning.value left k) k)) }
         ensures nears { IfOk result (λ gone. Nears gone self.new (credit self.old)) }
@@ -237,8 +232,7 @@ impl<H: Host> Engine<H> {
         levels: u32,
     ) -> Result<Gone, NoMemory>
         ensures means { IfOk result (λ gone.
-            Same (names_of natives.now) H.table self.new self.old
-            (gone_next (names_of natives.now) H.table gone)
+            GoneIs (names_of natives.now) H.table gone self.new self.old
             (turns (nested (names_of natives.now) H.table levels) turning.value left)) }
         ensures nears { IfOk result (λ gone. Nears gone self.new (credit self.old + 1)) }
         ensures remains { OnOk result (Remains self.new self.old) }
@@ -260,13 +254,11 @@ impl<H: Host> Engine<H> {
     ) -> Result<Gone, NoMemory>
         requires { IfSome turn IsTurnSet }
         ensures means { IfOk result (λ gone.
-            Same (names_of natives.now) H.table self.new self.old
-            (gone_next (names_of natives.now) H.table gone) (λ k.
-            turn_next (names_of natives.now) H.table
-            (nested (names_of natives.now) H.table levels) turning.value turn
+            GoneIs (names_of natives.now) H.table gone self.new self.old (λ k.
+            turn_next (names_of natives.now) H.table (nested (names_of natives.now) H.table levels)
+            turning.value turn
             (turns (nested (names_of natives.now) H.table levels) turning.value left k) k)) }
-        ensures nears { IfOk result (λ gone.
-            (most : ℕ) → credit self.old + option_free turn < most → Nears gone self.new most) }
+        ensures nears { IfOk result (λ gone. NearsMost gone self.new self.old (option_free turn)) }
         ensures remains { OnOk result (Remains self.new self.old) }
         ensures holds { Holds self.new self.old }
     {
@@ -291,13 +283,10 @@ impl<H: Host> Engine<H> {
         value: Ended,
     ) -> Result<Gone, NoMemory>
         ensures means { IfOk result (λ gone.
-            Same (names_of natives.now) H.table self.new self.old
-            (gone_next (names_of natives.now) H.table gone) (λ k.
-            branch_next (names_of natives.now) H.table (Branch.Start turning levels) k value.code
-            value.result)) }
+            GivesBranch (names_of natives.now) H.table gone (Branch.Start turning levels) value
+            self.new self.old) }
         ensures nears { IfOk result (λ gone.
-            Nears gone self.new
-            (credit self.old + branch_free (Branch.Start turning levels))) }
+            NearsBranch gone self.new self.old (Branch.Start turning levels)) }
         ensures remains { OnOk result (Remains self.new self.old) }
         ensures holds { Holds self.new self.old }
     {
@@ -319,13 +308,10 @@ impl<H: Host> Engine<H> {
         value: Ended,
     ) -> Result<Gone, NoMemory>
         ensures means { IfOk result (λ gone.
-            Same (names_of natives.now) H.table self.new self.old
-            (gone_next (names_of natives.now) H.table gone) (λ k.
-            branch_next (names_of natives.now) H.table (Branch.Condition turning left levels) k
-            value.code value.result)) }
+            GivesBranch (names_of natives.now) H.table gone (Branch.Condition turning left levels)
+            value self.new self.old) }
         ensures nears { IfOk result (λ gone.
-            Nears gone self.new
-            (credit self.old + branch_free (Branch.Condition turning left levels))) }
+            NearsBranch gone self.new self.old (Branch.Condition turning left levels)) }
         ensures remains { OnOk result (Remains self.new self.old) }
         ensures holds { Holds self.new self.old }
     {
@@ -351,13 +337,10 @@ impl<H: Host> Engine<H> {
         value: Ended,
     ) -> Result<Gone, NoMemory>
         ensures means { IfOk result (λ gone.
-            Same (names_of natives.now) H.table self.new self.old
-            (gone_next (names_of natives.now) H.table gone) (λ k.
-            branch_next (names_of natives.now) H.table (Branch.Body turning left levels) k
-            value.code value.result)) }
+            GivesBranch (names_of natives.now) H.table gone (Branch.Body turning left levels) value
+            self.new self.old) }
         ensures nears { IfOk result (λ gone.
-            Nears gone self.new
-            (credit self.old + branch_free (Branch.Body turning left levels))) }
+            NearsBranch gone self.new self.old (Branch.Body turning left levels)) }
         ensures remains { OnOk result (Remains self.new self.old) }
         ensures holds { Holds self.new self.old }
     {
@@ -376,13 +359,10 @@ impl<H: Host> Engine<H> {
         value: Ended,
     ) -> Result<Gone, NoMemory>
         ensures means { IfOk result (λ gone.
-            Same (names_of natives.now) H.table self.new self.old
-            (gone_next (names_of natives.now) H.table gone) (λ k.
-            branch_next (names_of natives.now) H.table (Branch.Next turning left levels) k
-            value.code value.result)) }
+            GivesBranch (names_of natives.now) H.table gone (Branch.Next turning left levels) value
+            self.new self.old) }
         ensures nears { IfOk result (λ gone.
-            Nears gone self.new
-            (credit self.old + branch_free (Branch.Next turning left levels))) }
+            NearsBranch gone self.new self.old (Branch.Next turning left levels)) }
         ensures remains { OnOk result (Remains self.new self.old) }
         ensures holds { Holds self.new self.old }
     {
@@ -408,12 +388,11 @@ impl<H: Host> Engine<H> {
         requires { IsEachSet each }
         ensures means { IfOk result (λ gone.
             (names : Names)
-            → Same names H.table self.new self.old (gone_next names H.table gone) (λ k.
+            → GoneIs names H.table gone self.new self.old (λ k.
             each_next names H.table (Some each)
             (walk_on (nested names H.table levels) walk.value.names walk.value.body left
             (drop at walk.value.values) k) k)) }
-        ensures nears { IfOk result (λ gone.
-            (most : ℕ) → credit self.old + each_free each < most → Nears gone self.new most) }
+        ensures nears { IfOk result (λ gone. NearsMost gone self.new self.old (each_free each)) }
         ensures remains { OnOk result (Remains self.new self.old) }
         ensures holds { Holds self.new self.old }
     {
@@ -443,8 +422,7 @@ impl<H: Host> Engine<H> {
         levels: u32,
     ) -> Result<Gone, NoMemory>
         ensures means { IfOk result (λ gone.
-            Same (names_of natives.now) H.table self.new self.old
-            (gone_next (names_of natives.now) H.table gone)
+            GoneIs (names_of natives.now) H.table gone self.new self.old
             (walk_on (nested (names_of natives.now) H.table levels) walk.value.names walk.value.body
             left (drop at walk.value.values))) }
         ensures nears { IfOk result (λ gone. Nears gone self.new (credit self.old + 1)) }
@@ -467,13 +445,10 @@ impl<H: Host> Engine<H> {
         value: Ended,
     ) -> Result<Gone, NoMemory>
         ensures means { IfOk result (λ gone.
-            Same (names_of natives.now) H.table self.new self.old
-            (gone_next (names_of natives.now) H.table gone) (λ k.
-            branch_next (names_of natives.now) H.table (Branch.Each walk at left levels) k
-            value.code value.result)) }
+            GivesBranch (names_of natives.now) H.table gone (Branch.Each walk at left levels) value
+            self.new self.old) }
         ensures nears { IfOk result (λ gone.
-            Nears gone self.new
-            (credit self.old + branch_free (Branch.Each walk at left levels))) }
+            NearsBranch gone self.new self.old (Branch.Each walk at left levels)) }
         ensures remains { OnOk result (Remains self.new self.old) }
         ensures holds { Holds self.new self.old }
     {
@@ -491,9 +466,8 @@ impl<H: Host> Engine<H> {
     fn begin_walk(&mut self, walk: Walk, levels: u32) -> Result<Acted, NoMemory>
         requires { 0 < length walk.names }
         ensures means { IfOk result (λ acted.
-            (names : Names) (opened : Option OpenQuestion)
-            → Same names H.table self.new self.old (acted_next names H.table acted opened)
-            (walk_all (nested names H.table levels) walk.names walk.values walk.body)) }
+            ActsAs H.table acted self.new self.old
+            (λ names. walk_all (nested names H.table levels) walk.names walk.values walk.body)) }
         ensures lower { OnOk result (Lower self.new self.old 1) }
         ensures opens { IfOk result (λ acted. Opens acted self.new self.old) }
         ensures holds { Holds self.new self.old }
@@ -512,9 +486,8 @@ impl<H: Host> Engine<H> {
     /// `foreach names list body`.
     pub(crate) fn do_foreach(&mut self, words: &Words, levels: u32) -> Result<Acted, NoMemory>
         ensures means { IfOk result (λ acted.
-            (names : Names) (opened : Option OpenQuestion)
-            → Same names H.table self.new self.old (acted_next names H.table acted opened)
-            (do_foreach (nested names H.table levels) words.now)) }
+            ActsAs H.table acted self.new self.old
+            (λ names. do_foreach (nested names H.table levels) words.now)) }
         ensures lower { OnOk result (Lower self.new self.old 1) }
         ensures opens { IfOk result (λ acted. Opens acted self.new self.old) }
         ensures holds { Holds self.new self.old }
@@ -563,11 +536,8 @@ impl<H: Host> Engine<H> {
         value: Ended,
     ) -> Result<Gone, NoMemory>
         ensures means { IfOk result (λ gone.
-            Same (names_of natives.now) H.table self.new self.old
-            (gone_next (names_of natives.now) H.table gone) (λ k.
-            branch_next (names_of natives.now) H.table branch k value.code value.result)) }
-        ensures nears { IfOk result (λ gone.
-            Nears gone self.new (credit self.old + branch_free branch)) }
+            GivesBranch (names_of natives.now) H.table gone branch value self.new self.old) }
+        ensures nears { IfOk result (λ gone. NearsBranch gone self.new self.old branch) }
         ensures remains { OnOk result (Remains self.new self.old) }
         ensures holds { Holds self.new self.old }
     {

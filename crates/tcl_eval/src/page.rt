@@ -1,13 +1,12 @@
 //! Pages under way.
 
-ghost use Rattle.std.specs.Prelude.{◌≡◌, ◌<◌, ◌≤◌, ◌+◌, IfOk, OnOk, Option, drop, length};
+ghost use Rattle.std.specs.Prelude.{◌≡◌, ◌<◌, ◌≤◌, ◌+◌, IfOk, OnOk, drop, length};
 ghost use Rattle.txt_core.specs.Names.{Names};
 ghost use Rattle.tcl_eval.specs.Eval.{nested, give};
 ghost use Rattle.tcl_eval.specs.Pages.{words_script, page_end, text_end, run_piece, run_pieces, run_page};
-ghost use Rattle.tcl_eval.specs.Stack.{branch_next, branch_free};
-ghost use Rattle.tcl_eval.specs.Engine.{Same, Keeps, Holds, Nears, Opens, Enters, Lower, Remains, acted_next, credit, gone_next};
+ghost use Rattle.tcl_eval.specs.Engine.{Same, Keeps, Holds, Opens, Enters, Lower, Remains, credit};
+ghost use Rattle.tcl_eval.specs.Clauses.{ActsAs, GivesBranch, NearsBranch};
 ghost use Rattle.tcl_eval.specs.declared.branch.Branch.{Branch};
-ghost use Rattle.tcl_eval.specs.declared.engine.OpenQuestion.{OpenQuestion};
 
 use crate::branch::{Branch, place_behind};
 use crate::engine::Engine;
@@ -43,9 +42,8 @@ impl<H: Host> Engine<H> {
     /// Begins a page, in a frame of variables of its own.
     pub(crate) fn enter_page(&mut self, pieces: Pieces, levels: u32) -> Result<Acted, NoMemory>
         ensures means { IfOk result (λ acted.
-            (names : Names) (opened : Option OpenQuestion)
-            → Same names H.table self.new self.old (acted_next names H.table acted opened)
-            (run_page H.table (nested names H.table levels) pieces)) }
+            ActsAs H.table acted self.new self.old
+            (λ names. run_page H.table (nested names H.table levels) pieces)) }
         ensures lower { OnOk result (self.new.budget ≤ self.old.budget) }
         ensures opens { IfOk result (λ acted. Opens acted self.new self.old) }
         ensures host { OnOk result (self.new.host ≡ self.old.host) }
@@ -85,9 +83,8 @@ impl<H: Host> Engine<H> {
     /// Runs a piece of a page.
     fn run_piece(&mut self, piece: Piece, levels: u32) -> Result<Acted, NoMemory>
         ensures means { IfOk result (λ acted.
-            (names : Names) (opened : Option OpenQuestion)
-            → Same names H.table self.new self.old (acted_next names H.table acted opened)
-            (run_piece H.table (nested names H.table levels) piece)) }
+            ActsAs H.table acted self.new self.old
+            (λ names. run_piece H.table (nested names H.table levels) piece)) }
         ensures lower { OnOk result (Lower self.new self.old 0) }
         ensures opens { IfOk result (λ acted. Opens acted self.new self.old) }
         ensures enters { IfOk result (λ acted. Enters acted (credit self.new ≤ credit self.old)) }
@@ -112,9 +109,7 @@ impl<H: Host> Engine<H> {
 
     /// Ends a page with this code. Its frame of variables goes.
     fn end_page(&mut self, code: u8) -> Acted
-        ensures means { (names : Names) (opened : Option OpenQuestion)
-            → Same names H.table self.new self.old (acted_next names H.table result opened)
-            (page_end code) }
+        ensures means { ActsAs H.table result self.new self.old (λ names. page_end code) }
         ensures lower { Lower self.new self.old 0 }
         ensures opens { Opens result self.new self.old }
         ensures enters { Enters result (credit self.new ≤ credit self.old) }
@@ -134,9 +129,8 @@ impl<H: Host> Engine<H> {
     /// Goes on with the piece at a place of a page; where none is there, the page ends.
     fn run_pieces(&mut self, pieces: PieceList, at: usize, levels: u32) -> Result<Acted, NoMemory>
         ensures means { IfOk result (λ acted.
-            (names : Names) (opened : Option OpenQuestion)
-            → Same names H.table self.new self.old (acted_next names H.table acted opened)
-            (run_pieces H.table (nested names H.table levels) (drop at pieces))) }
+            ActsAs H.table acted self.new self.old
+            (λ names. run_pieces H.table (nested names H.table levels) (drop at pieces))) }
         ensures lower { OnOk result (self.new.budget ≤ self.old.budget) }
         ensures opens { IfOk result (λ acted. Opens acted self.new self.old) }
         ensures enters { IfOk result (λ acted.
@@ -172,11 +166,10 @@ impl<H: Host> Engine<H> {
     ) -> Result<Gone, NoMemory>
         ensures means { IfOk result (λ gone.
             (names : Names)
-            → Same names H.table self.new self.old (gone_next names H.table gone) (λ k.
-            branch_next names H.table (Branch.Page pieces next levels) k value.code value.result)) }
+            → GivesBranch names H.table gone (Branch.Page pieces next levels) value self.new
+            self.old) }
         ensures nears { IfOk result (λ gone.
-            Nears gone self.new
-            (credit self.old + branch_free (Branch.Page pieces next levels))) }
+            NearsBranch gone self.new self.old (Branch.Page pieces next levels)) }
         ensures remains { OnOk result (Remains self.new self.old) }
         ensures holds { Holds self.new self.old }
     {

@@ -1,14 +1,14 @@
 //! What an engine keeps of the texts that it read.
 
-ghost use Rattle.std.specs.Prelude.{◌≡◌, ◌≤◌, IfOk, OnOk, Option, drop, length};
-ghost use Rattle.txt_core.specs.Names.{Bytes, Names};
+ghost use Rattle.std.specs.Prelude.{◌≡◌, ◌≤◌, IfOk, OnOk, Option, drop};
+ghost use Rattle.txt_core.specs.Names.{Bytes};
 ghost use Rattle.parse_cache.specs.Readings.{IsReading};
 ghost use Rattle.tcl_eval.specs.Eval.{arg, run_script, unread};
-ghost use Rattle.tcl_eval.specs.Engine.{Same, Holds, Enters, Opens, Lower, credit, acted_next};
+ghost use Rattle.tcl_eval.specs.Engine.{Holds, Enters, Opens, Lower, credit};
 ghost use Rattle.tcl_eval.specs.Parameters.{bound};
 ghost use Rattle.tcl_eval.specs.ParametersSeen.{ValuesAre};
 ghost use Rattle.tcl_eval.specs.Short.{IsShort};
-ghost use Rattle.tcl_eval.specs.declared.engine.OpenQuestion.{OpenQuestion};
+ghost use Rattle.tcl_eval.specs.Clauses.{ActsAs};
 
 use crate::engine::Engine;
 use crate::expression_cache::{Expressions, MOST_KEPT, is_short};
@@ -227,10 +227,10 @@ impl<H: Host> Engine<H> {
     /// Runs what a text is as a script.
     fn enter_reading(&mut self, reading: Reading, levels: u32) -> Result<Acted, NoMemory>
         ensures means { IfOk result (λ acted.
-            (text : Bytes) → IsReading text reading
-            → (names : Names) (opened : Option OpenQuestion)
-            → Same names H.table self.new self.old (acted_next names H.table acted opened)
-            (run_script names H.table levels (unread text))) }
+            (text : Bytes)
+            → IsReading text reading
+            → ActsAs H.table acted self.new self.old
+            (λ names. run_script names H.table levels (unread text))) }
         ensures lower { OnOk result (Lower self.new self.old 0) }
         ensures enters { IfOk result (λ acted. Enters acted (credit self.new ≤ credit self.old)) }
         ensures opens { IfOk result (λ acted. Opens acted self.new self.old) }
@@ -258,9 +258,8 @@ impl<H: Host> Engine<H> {
     /// Runs a text as a script.
     pub(crate) fn enter_text(&mut self, text: &Text, levels: u32) -> Result<Acted, NoMemory>
         ensures means { IfOk result (λ acted.
-            (names : Names) (opened : Option OpenQuestion)
-            → Same names H.table self.new self.old (acted_next names H.table acted opened)
-            (run_script names H.table levels (unread text.now))) }
+            ActsAs H.table acted self.new self.old
+            (λ names. run_script names H.table levels (unread text.now))) }
         ensures lower { OnOk result (Lower self.new self.old 0) }
         ensures enters { IfOk result (λ acted. Enters acted (credit self.new ≤ credit self.old)) }
         ensures opens { IfOk result (λ acted. Opens acted self.new self.old) }

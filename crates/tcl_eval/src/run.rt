@@ -1,6 +1,6 @@
 //! A run, from one text that is run to the next.
 
-ghost use Rattle.std.specs.Prelude.{◌≡◌, ◌<◌, ◌≤◌, [], ◌∷◌, IfOk, OnOk, OnErr, IsSome, None};
+ghost use Rattle.std.specs.Prelude.{◌≡◌, ◌<◌, ◌≤◌, [], ◌∷◌, IfOk, OnErr, IsSome, None};
 ghost use Rattle.txt_core.specs.Limits.{most_nested};
 ghost use Rattle.natives.specs.Names.{names_of};
 ghost use Rattle.outside.specs.declared.question.Answer.{Answer};
@@ -10,6 +10,7 @@ ghost use Rattle.tcl_eval.specs.Stack.{step_next};
 ghost use Rattle.tcl_eval.specs.Engine.{Same, Counts, Opens, IsIdle, Leaves, Stands, AnsweredAt, Falls, state_of, acted_next, outcome_next, PaidFor, Fell, FellTo, FellFrom, Begins, gives, comes_to};
 ghost use Rattle.tcl_eval.specs.Laws.{state_in, IsFront};
 ghost use Rattle.tcl_eval.specs.State.{Given};
+ghost use Rattle.tcl_eval.specs.Clauses.{ActedIs};
 ghost use Rattle.tcl_eval.specs.declared.outcome.Outcome.TheVariants.{Asks};
 
 use crate::act::MOST_LEVELS;
@@ -35,8 +36,7 @@ impl<H: Host> Engine<H> {
         steps: &mut Steps<L>,
     ) -> Result<Acted, NoMemory>
         ensures means { IfOk result (λ acted.
-            Same (names_of natives.now) H.table self.new self.old
-            (acted_next (names_of natives.now) H.table acted self.new.question)
+            ActedIs (names_of natives.now) H.table acted self.new self.old
             (command (names_of natives.now) H.table (nested (names_of natives.now) H.table levels)
             words)) }
         ensures pays { IfOk result (λ acted. PaidFor acted self.new self.old) }
@@ -155,8 +155,7 @@ impl<H: Host> Engine<H> {
         requires least { 1 ≤ depth }
         requires most { depth ≤ most_nested }
         ensures means { IfOk result (λ acted.
-            Same (names_of natives.now) H.table self.new self.old
-            (acted_next (names_of natives.now) H.table acted self.new.question)
+            ActedIs (names_of natives.now) H.table acted self.new self.old
             (run_work (names_of natives.now) H.table depth work)) }
         ensures fell { IfOk result (λ acted. Fell acted self.new self.old.budget) }
         ensures opens { IfOk result (λ acted. Opens acted self.new self.old) }

@@ -1,6 +1,6 @@
 //! What goes on before the next text is run.
 
-ghost use Rattle.std.specs.Prelude.{◌≡◌, ◌<◌, ◌≤◌, ◌+◌, ◌^◌, ◌++◌, ◌∷◌, [], length, IfOk, OnOk};
+ghost use Rattle.std.specs.Prelude.{◌≡◌, ◌<◌, ◌≤◌, ◌+◌, ◌^◌, [], length, IfOk, OnOk};
 ghost use Rattle.txt_core.specs.Names.{Names};
 ghost use Rattle.natives.specs.Names.{names_of};
 ghost use Rattle.tcl_eval.specs.Eval.{give, read_as, read_variable, command_end, proc_end, catch_end, run_parts, run_words, run_script, nested, read};
@@ -10,6 +10,7 @@ ghost use Rattle.tcl_eval.specs.Places.{tree_of, command_at, commands_from, word
 ghost use Rattle.tcl_eval.specs.Stack.{frame_next, step_next, settled_next, frame_weight, stack_weight, step_weight, frame_free, stack_free, step_free, settled_free};
 ghost use Rattle.tcl_eval.specs.Straight.{IsWithin, behind_command, stand_next, stand_size};
 ghost use Rattle.tcl_eval.specs.Engine.{Holds, Keeps, Same, Pays, Stays, Remains, Emptied};
+ghost use Rattle.tcl_eval.specs.Clauses.{GivesFrame, IsLighter, IsNoHeavier, StepIs};
 ghost use Rattle.tcl_eval.specs.declared.stack.Frame.{Frame};
 
 use crate::engine::Engine;
@@ -50,7 +51,7 @@ impl<H: Host> Engine<H> {
         requires { frame_free waits ≡ 0 }
         ensures means { IfOk result (λ step.
             (names : Names)
-            → Same names H.table self.new self.old (step_next names H.table step) (λ k.
+            → StepIs names H.table step self.new self.old (λ k.
             run_parts (nested names H.table levels) (place_parts place) []
             (judged (frame_next names H.table waits k)))) }
         ensures weighs { IfOk result (λ step.
@@ -80,16 +81,15 @@ impl<H: Host> Engine<H> {
         requires { place.next < 2 ^ 63 }
         ensures means { IfOk result (λ step.
             (names : Names)
-            → Same names H.table self.new self.old (step_next names H.table step) (λ k.
+            → StepIs names H.table step self.new self.old (λ k.
             run_parts (nested names H.table levels) (inside (place_parts place)) []
             (judged
             (frame_next names H.table (Frame.Index array)
             (frame_next names H.table (Frame.Word (behind place) so_far levels) k))))) }
         ensures weighs { IfOk result (λ step.
-            stack_weight self.new.stack.items + step_weight step ≤ stack_weight self.old.stack.items
-            +
-            (parts_size (inside (place_parts place)) + parts_size (place_parts (behind place))
-            + 4)) }
+            IsNoHeavier step self.new self.old
+            (parts_size (inside (place_parts place)) + parts_size (place_parts (behind place)) +
+            4)) }
         ensures keeps { IfOk result (λ step. Stays step self.new self.old) }
         ensures holds { Holds self.new self.old }
     {
@@ -114,14 +114,12 @@ impl<H: Host> Engine<H> {
     ) -> Result<Step, NoMemory>
         requires { place.next < 2 ^ 63 }
         ensures means { IfOk result (λ step.
-            Same (names_of natives.now) H.table self.new self.old
-            (step_next (names_of natives.now) H.table step) (λ k.
+            StepIs (names_of natives.now) H.table step self.new self.old (λ k.
             run_script (names_of natives.now) H.table levels (read (tree_of script.value))
             (frame_next (names_of natives.now) H.table (Frame.Word (behind place) so_far levels)
             k))) }
         ensures weighs { IfOk result (λ step.
-            stack_weight self.new.stack.items + step_weight step ≤ stack_weight self.old.stack.items
-            +
+            IsNoHeavier step self.new self.old
             (commands_size (tree_of script.value) + parts_size (place_parts (behind place)) + 3)) }
         ensures keeps { IfOk result (λ step. Stays step self.new self.old) }
         ensures holds { Holds self.new self.old }
@@ -148,11 +146,10 @@ impl<H: Host> Engine<H> {
     ) -> Result<Step, NoMemory>
         ensures means { IfOk result (λ step.
             (names : Names)
-            → Same names H.table self.new self.old (step_next names H.table step) (λ k.
+            → StepIs names H.table step self.new self.old (λ k.
             read_variable name.now (frame_next names H.table (Frame.Word place so_far levels) k))) }
         ensures weighs { IfOk result (λ step.
-            stack_weight self.new.stack.items + step_weight step ≤ stack_weight self.old.stack.items
-            + (parts_size (place_parts place) + 1)) }
+            IsNoHeavier step self.new self.old (parts_size (place_parts place) + 1)) }
         ensures keeps { IfOk result (λ step. Stays step self.new self.old) }
         ensures holds { Holds self.new self.old }
     {
@@ -169,12 +166,10 @@ impl<H: Host> Engine<H> {
         levels: u32,
     ) -> Result<Step, NoMemory>
         ensures means { IfOk result (λ step.
-            Same (names_of natives.now) H.table self.new self.old
-            (step_next (names_of natives.now) H.table step)
+            StepIs (names_of natives.now) H.table step self.new self.old
             (run_kept (nested (names_of natives.now) H.table levels) (place_parts place) so_far)) }
         ensures falls { IfOk result (λ step.
-            stack_weight self.new.stack.items + step_weight step < stack_weight self.old.stack.items
-            + (parts_size (place_parts place) + 1)) }
+            IsLighter step self.new self.old (parts_size (place_parts place) + 1)) }
         ensures keeps { IfOk result (λ step. Stays step self.new self.old) }
         ensures holds { Holds self.new self.old }
     {
@@ -216,14 +211,12 @@ impl<H: Host> Engine<H> {
         levels: u32,
     ) -> Result<Step, NoMemory>
         ensures means { IfOk result (λ step.
-            Same (names_of natives.now) H.table self.new self.old
-            (step_next (names_of natives.now) H.table step)
+            StepIs (names_of natives.now) H.table step self.new self.old
             (run_words (names_of natives.now) H.table (nested (names_of natives.now) H.table levels)
             (words_from (length values) (command_at at (tree_of script.value))) values)) }
         ensures falls { IfOk result (λ step.
-            stack_weight self.new.stack.items + step_weight step ≤ stack_weight self.old.stack.items
-            + words_size
-            (words_from (length values) (command_at at (tree_of script.value)))) }
+            IsNoHeavier step self.new self.old
+            (words_size (words_from (length values) (command_at at (tree_of script.value))))) }
         ensures keeps { IfOk result (λ step. Stays step self.new self.old) }
         ensures holds { Holds self.new self.old }
     {
@@ -246,14 +239,12 @@ impl<H: Host> Engine<H> {
         levels: u32,
     ) -> Result<Step, NoMemory>
         ensures means { IfOk result (λ step.
-            Same (names_of natives.now) H.table self.new self.old
-            (step_next (names_of natives.now) H.table step)
+            StepIs (names_of natives.now) H.table step self.new self.old
             (run_words (names_of natives.now) H.table (nested (names_of natives.now) H.table levels)
             (words_from (length values) (command_at at (tree_of script.value))) values)) }
         ensures falls { IfOk result (λ step.
-            stack_weight self.new.stack.items + step_weight step ≤ stack_weight self.old.stack.items
-            + words_size
-            (words_from (length values) (command_at at (tree_of script.value)))) }
+            IsNoHeavier step self.new self.old
+            (words_size (words_from (length values) (command_at at (tree_of script.value))))) }
         ensures keeps { IfOk result (λ step. Stays step self.new self.old) }
         ensures holds { Holds self.new self.old }
     {
@@ -285,13 +276,12 @@ impl<H: Host> Engine<H> {
     ) -> Result<Step, NoMemory>
         ensures means { IfOk result (λ step.
             (names : Names)
-            → Same names H.table self.new self.old (step_next names H.table step)
+            → StepIs names H.table step self.new self.old
             (run_words names H.table (nested names H.table levels)
             (words_from (length values) (command_at at (tree_of script.value))) values)) }
         ensures falls { IfOk result (λ step.
-            stack_weight self.new.stack.items + step_weight step ≤ stack_weight self.old.stack.items
-            + words_size
-            (words_from (length values) (command_at at (tree_of script.value)))) }
+            IsNoHeavier step self.new self.old
+            (words_size (words_from (length values) (command_at at (tree_of script.value))))) }
         ensures keeps { IfOk result (λ step. Stays step self.new self.old) }
         ensures holds { Holds self.new self.old }
     {
@@ -324,13 +314,11 @@ impl<H: Host> Engine<H> {
         value: Ended,
     ) -> Result<Step, NoMemory>
         ensures means { IfOk result (λ step.
-            Same (names_of natives.now) H.table self.new self.old
-            (step_next (names_of natives.now) H.table step) (λ k.
-            frame_next (names_of natives.now) H.table (Frame.Command script at values levels) k
-            value.code value.result)) }
+            GivesFrame (names_of natives.now) H.table step (Frame.Command script at values levels)
+            value self.new self.old) }
         ensures falls { IfOk result (λ step.
-            stack_weight self.new.stack.items + step_weight step < stack_weight self.old.stack.items
-            + frame_weight (Frame.Command script at values levels)) }
+            IsLighter step self.new self.old (frame_weight (Frame.Command script at values
+            levels))) }
         ensures keeps { IfOk result (λ step. Stays step self.new self.old) }
         ensures holds { Holds self.new self.old }
     {
@@ -357,13 +345,12 @@ impl<H: Host> Engine<H> {
     ) -> Result<Step, NoMemory>
         ensures means { IfOk result (λ step.
             (names : Names)
-            → Same names H.table self.new self.old (step_next names H.table step)
+            → StepIs names H.table step self.new self.old
             (run_costly (nested names H.table levels)
             (words_from word (command_at at (tree_of script.value))))) }
         ensures falls { IfOk result (λ step.
-            stack_weight self.new.stack.items + step_weight step ≤ stack_weight self.old.stack.items
-            + words_size
-            (words_from word (command_at at (tree_of script.value)))) }
+            IsNoHeavier step self.new self.old
+            (words_size (words_from word (command_at at (tree_of script.value))))) }
         ensures keeps { IfOk result (λ step. Stays step self.new self.old) }
         ensures holds { Holds self.new self.old }
     {
@@ -393,12 +380,10 @@ impl<H: Host> Engine<H> {
     ) -> Result<Step, NoMemory>
         ensures means { IfOk result (λ step.
             (names : Names)
-            → Same names H.table self.new self.old (step_next names H.table step) (λ k.
-            frame_next names H.table (Frame.Costly script at next levels) k value.code
-            value.result)) }
+            → GivesFrame names H.table step (Frame.Costly script at next levels) value self.new
+            self.old) }
         ensures falls { IfOk result (λ step.
-            stack_weight self.new.stack.items + step_weight step < stack_weight self.old.stack.items
-            + frame_weight (Frame.Costly script at next levels)) }
+            IsLighter step self.new self.old (frame_weight (Frame.Costly script at next levels))) }
         ensures keeps { IfOk result (λ step. Stays step self.new self.old) }
         ensures holds { Holds self.new self.old }
     {
@@ -419,11 +404,10 @@ impl<H: Host> Engine<H> {
     ) -> Result<Step, NoMemory>
         ensures means { IfOk result (λ step.
             (names : Names)
-            → Same names H.table self.new self.old (step_next names H.table step) (λ k.
-            frame_next names H.table (Frame.Word place so_far levels) k value.code value.result)) }
+            → GivesFrame names H.table step (Frame.Word place so_far levels) value self.new
+            self.old) }
         ensures falls { IfOk result (λ step.
-            stack_weight self.new.stack.items + step_weight step < stack_weight self.old.stack.items
-            + frame_weight (Frame.Word place so_far levels)) }
+            IsLighter step self.new self.old (frame_weight (Frame.Word place so_far levels))) }
         ensures keeps { IfOk result (λ step. Stays step self.new self.old) }
         ensures holds { Holds self.new self.old }
     {
@@ -448,13 +432,10 @@ impl<H: Host> Engine<H> {
         value: Ended,
     ) -> Result<Step, NoMemory>
         ensures means { IfOk result (λ step.
-            Same (names_of natives.now) H.table self.new self.old
-            (step_next (names_of natives.now) H.table step) (λ k.
-            frame_next (names_of natives.now) H.table (Frame.Script script next levels) k value.code
-            value.result)) }
+            GivesFrame (names_of natives.now) H.table step (Frame.Script script next levels) value
+            self.new self.old) }
         ensures falls { IfOk result (λ step.
-            stack_weight self.new.stack.items + step_weight step < stack_weight self.old.stack.items
-            + frame_weight (Frame.Script script next levels)) }
+            IsLighter step self.new self.old (frame_weight (Frame.Script script next levels))) }
         ensures keeps { IfOk result (λ step. Stays step self.new self.old) }
         ensures holds { Holds self.new self.old }
     {
@@ -474,11 +455,10 @@ impl<H: Host> Engine<H> {
         requires { IsWithin stand }
         ensures means { IfOk result (λ step.
             (names : Names)
-            → Same names H.table self.new self.old (step_next names H.table step)
+            → StepIs names H.table step self.new self.old
             (stand_next names H.table (nested names H.table levels) (tree_of script.value) stand)) }
         ensures falls { IfOk result (λ step.
-            stack_weight self.new.stack.items + step_weight step ≤ stack_weight self.old.stack.items
-            + stand_size (tree_of script.value) stand) }
+            IsNoHeavier step self.new self.old (stand_size (tree_of script.value) stand)) }
         ensures keeps { IfOk result (λ step. Stays step self.new self.old) }
         ensures holds { Holds self.new self.old }
     {
@@ -531,16 +511,15 @@ impl<H: Host> Engine<H> {
         requires { at < 2 ^ 63 }
         ensures means { IfOk result (λ step.
             (names : Names)
-            → Same names H.table self.new self.old (step_next names H.table step) (λ k.
+            → StepIs names H.table step self.new self.old (λ k.
             run_words names H.table (nested names H.table levels)
             (words_from (length values) (command_at at (tree_of script.value))) values
             (behind_command names H.table (nested names H.table levels) (tree_of script.value) at
             k))) }
         ensures falls { IfOk result (λ step.
-            stack_weight self.new.stack.items + step_weight step ≤ stack_weight self.old.stack.items
-            +
-            (words_size (words_from (length values) (command_at at (tree_of script.value))) + 1
-            + commands_size (commands_from (at + 1) (tree_of script.value)))) }
+            IsNoHeavier step self.new self.old
+            (words_size (words_from (length values) (command_at at (tree_of script.value))) + 1 +
+            commands_size (commands_from (at + 1) (tree_of script.value)))) }
         ensures keeps { IfOk result (λ step. Stays step self.new self.old) }
         ensures holds { Holds self.new self.old }
     {
@@ -563,16 +542,15 @@ impl<H: Host> Engine<H> {
         requires { at < 2 ^ 63 }
         ensures means { IfOk result (λ step.
             (names : Names)
-            → Same names H.table self.new self.old (step_next names H.table step) (λ k.
+            → StepIs names H.table step self.new self.old (λ k.
             run_costly (nested names H.table levels)
             (words_from word (command_at at (tree_of script.value)))
             (behind_command names H.table (nested names H.table levels) (tree_of script.value) at
             k))) }
         ensures falls { IfOk result (λ step.
-            stack_weight self.new.stack.items + step_weight step ≤ stack_weight self.old.stack.items
-            +
-            (words_size (words_from word (command_at at (tree_of script.value))) + 1
-            + commands_size (commands_from (at + 1) (tree_of script.value)))) }
+            IsNoHeavier step self.new self.old
+            (words_size (words_from word (command_at at (tree_of script.value))) + 1 + commands_size
+            (commands_from (at + 1) (tree_of script.value)))) }
         ensures keeps { IfOk result (λ step. Stays step self.new self.old) }
         ensures holds { Holds self.new self.old }
     {
@@ -585,11 +563,9 @@ impl<H: Host> Engine<H> {
     fn give_index(&mut self, array: Text, value: Ended) -> Result<Step, NoMemory>
         ensures means { IfOk result (λ step.
             (names : Names)
-            → Same names H.table self.new self.old (step_next names H.table step) (λ k.
-            frame_next names H.table (Frame.Index array) k value.code value.result)) }
+            → GivesFrame names H.table step (Frame.Index array) value self.new self.old) }
         ensures falls { IfOk result (λ step.
-            stack_weight self.new.stack.items + step_weight step < stack_weight self.old.stack.items
-            + frame_weight (Frame.Index array)) }
+            IsLighter step self.new self.old (frame_weight (Frame.Index array))) }
         ensures keeps { IfOk result (λ step. Stays step self.new self.old) }
         ensures holds { Holds self.new self.old }
     {
@@ -607,8 +583,8 @@ impl<H: Host> Engine<H> {
     pub(crate) fn end_command(&mut self, value: Ended) -> Result<Step, NoMemory>
         ensures means { IfOk result (λ step.
             (names : Names)
-            → Same names H.table self.new self.old (step_next names H.table step) (λ k.
-            command_end k value.code value.result)) }
+            → StepIs names H.table step self.new self.old
+            (λ k. command_end k value.code value.result)) }
         ensures falls { IfOk result (λ step.
             stack_weight self.new.stack.items + step_weight step
             ≤ stack_weight self.old.stack.items) }
@@ -626,8 +602,8 @@ impl<H: Host> Engine<H> {
     fn end_procedure(&mut self, value: Ended) -> Result<Step, NoMemory>
         ensures means { IfOk result (λ step.
             (names : Names)
-            → Same names H.table self.new self.old (step_next names H.table step) (λ k.
-            proc_end k value.code value.result)) }
+            → StepIs names H.table step self.new self.old (λ k. proc_end k value.code
+            value.result)) }
         ensures falls { IfOk result (λ step.
             stack_weight self.new.stack.items + step_weight step
             ≤ stack_weight self.old.stack.items) }
@@ -643,8 +619,8 @@ impl<H: Host> Engine<H> {
     fn end_catch(&mut self, name: Option<Text>, value: Ended) -> Result<Step, NoMemory>
         ensures means { IfOk result (λ step.
             (names : Names)
-            → Same names H.table self.new self.old (step_next names H.table step) (λ k.
-            catch_end name k value.code value.result)) }
+            → StepIs names H.table step self.new self.old
+            (λ k. catch_end name k value.code value.result)) }
         ensures falls { IfOk result (λ step.
             stack_weight self.new.stack.items + step_weight step
             ≤ stack_weight self.old.stack.items) }
@@ -668,12 +644,9 @@ impl<H: Host> Engine<H> {
     #[tactic(auto, using(crate::proofs::Stacks::frees_push, crate::proofs::Tails::stays_remains, crate::proofs::Tails::stays_free))]
     fn give(&mut self, natives: &Natives, frame: Frame, value: Ended) -> Result<Step, NoMemory>
         ensures means { IfOk result (λ step.
-            Same (names_of natives.now) H.table self.new self.old
-            (step_next (names_of natives.now) H.table step) (λ k.
-            frame_next (names_of natives.now) H.table frame k value.code value.result)) }
+            GivesFrame (names_of natives.now) H.table step frame value self.new self.old) }
         ensures falls { IfOk result (λ step.
-            stack_weight self.new.stack.items + step_weight step < stack_weight self.old.stack.items
-            + frame_weight frame) }
+            IsLighter step self.new self.old (frame_weight frame)) }
         ensures keeps { OnOk result (Remains self.new self.old) }
         ensures free { IfOk result (λ step.
             stack_free self.new.stack.items + step_free step ≤ stack_free self.old.stack.items +

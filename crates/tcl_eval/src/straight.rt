@@ -1,18 +1,19 @@
 //! Commands that come to a value straight away, for which nothing is put on the stack.
 
-ghost use Rattle.std.specs.Prelude.{◌≡◌, ◌≤◌, ◌^◌, ◌+◌, ◌-◌, ℕ, [], drop, length, IfOk, IfSome, OnOk, IsTrue, true};
+ghost use Rattle.std.specs.Prelude.{◌≡◌, ◌≤◌, ◌+◌, ◌-◌, ℕ, drop, IfOk, IfSome, OnOk, IsTrue, true};
 ghost use Rattle.natives.specs.Names.{names_of};
 ghost use Rattle.tcl_expr.specs.Reading.{expression_of};
 ghost use Rattle.tcl_eval.specs.Expressions.{run_answer, value_end};
 ghost use Rattle.tcl_eval.specs.declared.verb.Verb.{Verb};
-ghost use Rattle.tcl_parse.specs.Tree.{Words, no_words};
+ghost use Rattle.tcl_parse.specs.Tree.{Words};
 ghost use Rattle.tcl_varcmd.specs.Commands.{begins_var_command, var_came};
 ghost use Rattle.txt_core.specs.Names.{Names};
 ghost use Rattle.tcl_eval.specs.State.{Given, Next};
-ghost use Rattle.tcl_eval.specs.Eval.{Inner, act, arg, built, built_in, came_next, joined, command_end, give, nested, on_ok, run_commands, run_words, verb_of};
-ghost use Rattle.tcl_eval.specs.Places.{tree_of, command_at, commands_from, commands_size, words_from, words_size};
+ghost use Rattle.tcl_eval.specs.Eval.{Inner, act, arg, built, built_in, came_next, joined, command_end, give, nested, on_ok, run_commands, verb_of};
+ghost use Rattle.tcl_eval.specs.Places.{tree_of, command_at, commands_from, commands_size, words_size};
 ghost use Rattle.tcl_eval.specs.Straight.{Alike, Does, IfExpr, IfGives, IfLeft, IsDone, IsExpr, IsNamedExpr, IsOwn, IsWithin, LeftAlone, Straightly, paid_next, tried_next, tried_size, stand_next, stand_size};
 ghost use Rattle.tcl_eval.specs.Engine.{Holds, state_of};
+ghost use Rattle.tcl_eval.specs.Clauses.{IsLeftOf, Tries, TriesWhole};
 
 use crate::bracket::Passed;
 use crate::cost::{EVALUATION_COST, result_cost};
@@ -287,14 +288,8 @@ impl<H: Host> Engine<H> {
         ensures means { IfOk result (λ tried.
             (names : Names) (levels : ℕ) (words : Words)
             → IsExpr names self.old.table.table values
-            → words_from (length values) words ≡ no_words
-            → Alike self.new self.old
-            (tried_next names H.table (nested names H.table levels) words tried)
-            (run_words names H.table (nested names H.table levels)
-            (words_from (length values) words) values)) }
-        ensures size { IfOk result (λ tried.
-            (words : Words)
-            → tried_size words tried ≤ words_size (words_from (length values) words)) }
+            → Tries names H.table levels words values tried self.new self.old) }
+        ensures size { IfOk result (λ tried. IsLeftOf values tried) }
         ensures alone { IfOk result (λ tried. LeftAlone tried self.new self.old) }
         ensures straight { OnOk result (Straightly self.new self.old) }
         ensures holds { Holds self.new self.old }
@@ -324,16 +319,9 @@ impl<H: Host> Engine<H> {
         values: Gathered,
     ) -> Result<Tried, NoMemory>
         ensures means { IfOk result (λ tried.
-            (levels : ℕ) (words : Words) → words_from (length values) words ≡ no_words
-            → Alike self.new self.old
-            (tried_next (names_of natives.now) H.table
-            (nested (names_of natives.now) H.table levels) words tried)
-            (run_words (names_of natives.now) H.table
-            (nested (names_of natives.now) H.table levels) (words_from (length values) words)
-            values)) }
-        ensures size { IfOk result (λ tried.
-            (words : Words)
-            → tried_size words tried ≤ words_size (words_from (length values) words)) }
+            (levels : ℕ) (words : Words)
+            → Tries (names_of natives.now) H.table levels words values tried self.new self.old) }
+        ensures size { IfOk result (λ tried. IsLeftOf values tried) }
         ensures alone { IfOk result (λ tried. LeftAlone tried self.new self.old) }
         ensures straight { OnOk result (Straightly self.new self.old) }
         ensures holds { Holds self.new self.old }
@@ -367,13 +355,8 @@ impl<H: Host> Engine<H> {
     ) -> Result<Tried, NoMemory>
         ensures means { IfOk result (λ tried.
             (levels : ℕ)
-            → Alike self.new self.old
-            (tried_next (names_of natives.now) H.table
-            (nested (names_of natives.now) H.table levels) (command_at at (tree_of script.now))
-            tried)
-            (run_words (names_of natives.now) H.table
-            (nested (names_of natives.now) H.table levels) (command_at at (tree_of script.now))
-            [])) }
+            → TriesWhole (names_of natives.now) H.table levels (command_at at (tree_of script.now))
+            tried self.new self.old) }
         ensures size { IfOk result (λ tried.
             tried_size (command_at at (tree_of script.now)) tried
             ≤ words_size (command_at at (tree_of script.now))) }
@@ -405,13 +388,8 @@ impl<H: Host> Engine<H> {
         levels: u32,
     ) -> Result<Tried, NoMemory>
         ensures means { IfOk result (λ tried.
-            Alike self.new self.old
-            (tried_next (names_of natives.now) H.table
-            (nested (names_of natives.now) H.table levels) (command_at at (tree_of script.now))
-            tried)
-            (run_words (names_of natives.now) H.table
-            (nested (names_of natives.now) H.table levels) (command_at at (tree_of script.now))
-            [])) }
+            TriesWhole (names_of natives.now) H.table levels (command_at at (tree_of script.now))
+            tried self.new self.old) }
         ensures size { IfOk result (λ tried.
             tried_size (command_at at (tree_of script.now)) tried
             ≤ words_size (command_at at (tree_of script.now))) }

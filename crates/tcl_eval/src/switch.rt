@@ -2,13 +2,12 @@
 
 ghost use Rattle.std.specs.Prelude.{◌≡◌, ◌-◌, IfOk, OnOk, Option, false, length, bytes_eq, codes};
 ghost use Rattle.std.specs.Option.{option_copied};
-ghost use Rattle.txt_core.specs.Names.{Names};
 ghost use Rattle.tcl_eval.specs.Words.{arg};
 ghost use Rattle.tcl_eval.specs.Eval.{nested, do_switch};
 ghost use Rattle.tcl_eval.specs.Switch.{options, fits, body_or_next, body_for, by_pairs, by_words};
-ghost use Rattle.tcl_eval.specs.Engine.{Holds, Same, Opens, Lower, acted_next};
-ghost use Rattle.tcl_eval.specs.declared.engine.OpenQuestion.{OpenQuestion};
+ghost use Rattle.tcl_eval.specs.Engine.{Holds, Opens, Lower};
 ghost use Rattle.tcl_eval.specs.SwitchSeen.{OptionsAre};
+ghost use Rattle.tcl_eval.specs.Clauses.{ActsAs};
 
 use crate::engine::Engine;
 use crate::stack::Acted;
@@ -115,9 +114,8 @@ impl<H: Host> Engine<H> {
         levels: u32,
     ) -> Result<Acted, NoMemory>
         ensures means { IfOk result (λ acted.
-            (names : Names) (opened : Option OpenQuestion)
-            → Same names H.table self.new self.old (acted_next names H.table acted opened)
-            (by_pairs (nested names H.table levels) globs text.now pairs.now)) }
+            ActsAs H.table acted self.new self.old
+            (λ names. by_pairs (nested names H.table levels) globs text.now pairs.now)) }
         ensures lower { OnOk result (Lower self.new self.old 1) }
         ensures opens { IfOk result (λ acted. Opens acted self.new self.old) }
         ensures holds { Holds self.new self.old }
@@ -145,9 +143,8 @@ impl<H: Host> Engine<H> {
         levels: u32,
     ) -> Result<Acted, NoMemory>
         ensures means { IfOk result (λ acted.
-            (names : Names) (opened : Option OpenQuestion)
-            → Same names H.table self.new self.old (acted_next names H.table acted opened)
-            (by_words (nested names H.table levels) globs text.now behind.now words.now)) }
+            ActsAs H.table acted self.new self.old (λ names.
+            by_words (nested names H.table levels) globs text.now behind.now words.now)) }
         ensures lower { OnOk result (Lower self.new self.old 1) }
         ensures opens { IfOk result (λ acted. Opens acted self.new self.old) }
         ensures holds { Holds self.new self.old }
@@ -183,9 +180,8 @@ impl<H: Host> Engine<H> {
     /// `switch ?-exact? ?-glob? ?--? text pairs`.
     pub(crate) fn do_switch(&mut self, words: &Words, levels: u32) -> Result<Acted, NoMemory>
         ensures means { IfOk result (λ acted.
-            (names : Names) (opened : Option OpenQuestion)
-            → Same names H.table self.new self.old (acted_next names H.table acted opened)
-            (do_switch (nested names H.table levels) words.now)) }
+            ActsAs H.table acted self.new self.old
+            (λ names. do_switch (nested names H.table levels) words.now)) }
         ensures lower { OnOk result (Lower self.new self.old 1) }
         ensures opens { IfOk result (λ acted. Opens acted self.new self.old) }
         ensures holds { Holds self.new self.old }
