@@ -1,8 +1,11 @@
 -- Commands that come to a value straight away.
-use Rattle.std.proofs.Common.{◌≡◌, ◌≢◌, ◌≤◌, ℕ, zero, suc, ◌+◌, ◌-◌, List, [], ◌∷◌, ◌++◌, drop, length, Bool, true, false, cond, Option, Some, refl, sym, ap, ◌∙◌, arith}
+use Rattle.std.proofs.Common.{◌≡◌, ◌≢◌, ◌≤◌, ℕ, zero, suc, ◌+◌, ◌-◌, List, [], ◌∷◌, ◌++◌, drop, length, Bool, true, false, cond, Option, Some, refl, sym, ap, ◌∙◌, arith, subst}
+use Rattle.std.specs.Prelude.{slice_get, unwrap_or}
 use Rattle.txt_core.specs.Names.{Names}
 use Rattle.tcl_parse.specs.Tree.{Words, no_words, Commands}
+use Rattle.cmd_table.specs.Table.{Table, command_of}
 use Rattle.cmd_table.specs.declared.command.Cmd.{Cmd}
+use Rattle.cmd_table.specs.declared.command.Cmd.TheVariants.{Built}
 use Rattle.natives.specs.Names.{has_name}
 use Rattle.tcl_varcmd.specs.Commands.{begins_var_command, var_came}
 use Rattle.tcl_eval.specs.State.{State, LeafTable, Given, Out, Rest, Next}
@@ -37,6 +40,12 @@ use Rattle.tcl_eval.proofs.AtOnce.{expression_gives}
 use Rattle.tcl_eval.proofs.Alike.{Runs, run_words_alike}
 use Rattle.tcl_eval.proofs.Stacks.{pushed}
 use Rattle.tcl_eval.proofs.Steps.{other_code, handed_on}
+
+-- a first word that is a built-in's own name
+pub own_first : (commands : Table) (ws : List (List ℕ)) (first : List ℕ) → Some first ≡ slice_get ws 0 → command_of commands first ≡ Some (Built first) → IsOwn commands ws
+own_first commands [] first there own = absurd (cc)
+own_first commands (w ∷ ws) first there own =
+    (subst (λ (n : List ℕ). command_of commands n ≡ Some (Built n)) (ap (λ (o : Option (List ℕ)). unwrap_or o first) there) own, refl)
 
 -- what is known of a value is known in another way
 pub same_gives : (what : Straight) (known wanted : Ended → Type 0) → ((v : Ended) → known v → wanted v) → IfGives what known → IfGives what wanted

@@ -162,12 +162,16 @@ impl<H: Host> Engine<H> {
         Ok(straight)
     }
 
-    /// Notes that the name of a command is looked up, which changes nothing that a run can tell.
-    fn note_name(&mut self, words: &Words)
-        ensures { self.new ≡ self.old }
+    /// Whether words call a built-in by its own name, as `is_own` says. It notes that this name is looked up,
+    /// which changes nothing that a run can tell.
+    fn notes_own(&mut self, words: &Words) -> bool
+        ensures own { IsTrue result → IsOwn self.old.table.table words.now }
+        ensures same { self.new ≡ self.old }
     {
-        let empty = Text::empty(self.alloc);
-        self.table.note(first_word(words, &empty));
+        match words.get(0) {
+            Some(first) => self.table.is_own(first),
+            None => false,
+        }
     }
 
     /// Does a command for which nothing is put on the stack.
@@ -183,7 +187,7 @@ impl<H: Host> Engine<H> {
         ensures rest { OnOk result (self.new ≡ record self.old { frames = self.new.frames }) }
         ensures holds { Holds self.new self.old }
     {
-        if !self.is_own(words) {
+        if !self.notes_own(words) {
             return Ok(Straight::Other);
         }
         let straight = self.built_value(natives, words)?;
@@ -330,7 +334,6 @@ impl<H: Host> Engine<H> {
         if (self.budget as u128) < cost {
             return Ok(Tried::Left(values));
         }
-        self.note_name(values.words());
         match self.straight_value(natives, values.words())? {
             Straight::Other => Ok(Tried::Left(values)),
             Straight::Expr => {
