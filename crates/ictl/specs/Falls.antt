@@ -179,8 +179,12 @@ inner_number (Some inner) = define_number inner.defining.questions inner.definin
 abbrev pub settling_number : Settling → ℕ
 settling_number s = per_question * s.questions + inner_number s.inner
 
+-- what a run counts for at the question for a first page: a script behind it may still ask
+abbrev pub part_number : Settling → ℕ
+part_number s = per_question * s.questions + 2
+
 abbrev pub task_number : Task → Settling → ℕ
-task_number (PageAsked path budget) s = per_question * s.questions + 2
+task_number (PageAsked path budget) s = part_number s
 task_number (Define defining) s = define_number defining.questions defining.value
 task_number New s = settling_number s
 task_number (Preauth next) s = settling_number s
@@ -215,6 +219,10 @@ SettlingFalls (stops.Asks question) s before = settling_number s < before
 SettlingFalls stops.Spent s before = Unit {0}
 SettlingFalls stops.TooDeep s before = Unit {0}
 
+-- a script that goes on asks with less than what all the questions count for that it may ask
+abbrev pub ScriptFalls : Stop → Settling → Settling → Type 0
+ScriptFalls stop new old = (before : ℕ) → per_question * old.questions ≤ before → SettlingFalls stop new before
+
 abbrev pub StepFalls : Step → Settling → ℕ → Type 0
 StepFalls (steps.Goes stop) s before = per_question * s.questions ≤ before
 StepFalls (steps.Stops stop) s before = SettlingFalls stop s before
@@ -230,16 +238,16 @@ abbrev pub EndFalls : Task → Settling → ℕ → Type 0
 EndFalls Procedure s before = Unit {0}
 EndFalls Page s before = Unit {0}
 EndFalls Script s before = Unit {0}
-EndFalls New s before = per_question * s.questions + 2 < before
-EndFalls (Preauth next) s before = per_question * s.questions + 2 < before
-EndFalls Authorise s before = per_question * s.questions + 2 < before
-EndFalls (Postauth next) s before = per_question * s.questions + 2 < before
-EndFalls (PageAsked path budget) s before = per_question * s.questions + 2 < before
-EndFalls (Writing ending) s before = per_question * s.questions + 2 < before
-EndFalls (Trace next ending) s before = per_question * s.questions + 2 < before
-EndFalls (Cleanup next ending) s before = per_question * s.questions + 2 < before
-EndFalls (Define defining) s before = per_question * s.questions + 2 < before
-EndFalls Over s before = per_question * s.questions + 2 < before
+EndFalls New s before = part_number s < before
+EndFalls (Preauth next) s before = part_number s < before
+EndFalls Authorise s before = part_number s < before
+EndFalls (Postauth next) s before = part_number s < before
+EndFalls (PageAsked path budget) s before = part_number s < before
+EndFalls (Writing ending) s before = part_number s < before
+EndFalls (Trace next ending) s before = part_number s < before
+EndFalls (Cleanup next ending) s before = part_number s < before
+EndFalls (Define defining) s before = part_number s < before
+EndFalls Over s before = part_number s < before
 
 abbrev pub StopFalls : Stop → Task → Settling → ℕ → Type 0
 StopFalls (stops.Ended code result) task s before = EndFalls task s before
@@ -250,3 +258,7 @@ StopFalls stops.TooDeep task s before = Unit {0}
 abbrev pub MoveFalls : Move → Interp → ℕ → Type 0
 MoveFalls (moves.Goes stop) i before = StopFalls stop i.task i.settling before
 MoveFalls (moves.Stops next) i before = Falls next i before
+
+-- a part of a run that begins so asks with no more than what a run counts for at the question for a first page
+abbrev pub PartFalls : Move → Interp → Interp → Type 0
+PartFalls step new old = (before : ℕ) → part_number old.settling < before → MoveFalls step new before

@@ -1,27 +1,32 @@
 -- What an interpreter is, and what it stands for.
-use Rattle.std.specs.Prelude.{◌≡◌, ◌≤◌, ℕ, ◌+◌, ◌-◌, List, [], ◌∷◌, ◌++◌, drop, Option, Some, None}
+use Rattle.std.specs.Prelude.{◌≡◌, ◌≤◌, ℕ, ◌+◌, ◌-◌, ◌*◌, List, [], ◌∷◌, ◌++◌, drop, Bool, Option, Some, None}
 use Rattle.std.specs.Option.{option_map}
-use Rattle.txt_core.specs.Names.{Names}
+use Rattle.txt_core.specs.Names.{Names, Moment}
 use Rattle.outside.specs.declared.question.Answer.{Answer}
 use Rattle.outside.specs.declared.question.Question.{Question}
 use Rattle.cmd_table.specs.Table.{mark_of, table_at}
 use Rattle.cmd_table.specs.Commands.{Commands, Writes}
+use Rattle.cmd_table.specs.declared.definition.Def.{Def}
+use Rattle.blueprint.specs.States.{first_misfit}
+use Rattle.http_req.specs.declared.request.Request.{Request}
 use Rattle.url_tables.specs.Tables.{IsBuiltOf}
 use Rattle.server_host.specs.declared.edition.Edition.{Edition}
-use Rattle.server_host.specs.Hosts.{HostState, with_blueprint}
+use Rattle.server_host.specs.Hosts.{HostState, with_blueprint, added}
 use Rattle.tcl_eval.specs.State.{State}
 use Rattle.tcl_eval.specs.Engine.{Lasts, IsIdle}
 use Rattle.tcl_eval.specs.declared.outcome.Outcome.TheVariants as outcomes
 use Rattle.ictl.specs.Fresh.{fresh_but_marked, keeps_of}
 use Rattle.ictl.specs.Settle.{account_of, Settled}
 use Rattle.ictl.specs.Replies.{verdict, access}
-use Rattle.ictl.specs.Visits.{cleanups_of, is_authorised, no_visit}
-use Rattle.ictl.specs.Main.{Stretch, Progress, asks, writes, ends, main_on, after_on, filter_end, access_end, procedure_end, page_end, trace_end, script_end, defined_end, page_asked, serve, filters_from, authorised, unauthorised, traces_from, cleanups_from}
+use Rattle.ictl.specs.Visits.{cleanups_of, is_authorised, no_visit, visit_of}
+use Rattle.ictl.specs.Main.{Stretch, Progress, asks, writes, ends, main_on, after_on, filter_end, access_end, procedure_end, page_end, trace_end, script_end, defined_end, page_asked, serve, filters_from, authorised, unauthorised, traces_from, cleanups_from, behind}
 use Rattle.ictl.specs.Standing.{state_of, define_at, settling_gives, written}
 use Rattle.ictl.specs.declared.running.Stop.{Stop}
 use Rattle.ictl.specs.declared.running.Stop.TheVariants as stops
 use Rattle.ictl.specs.declared.ending.Ending.{Ending}
 use Rattle.ictl.specs.declared.ending.Ending.TheVariants.{Answered}
+use Rattle.ictl.specs.declared.ending.Verdict.{Verdict}
+use Rattle.ictl.specs.declared.ending.Access.{Access}
 use Rattle.ictl.specs.declared.task.Task.{Task}
 use Rattle.ictl.specs.declared.task.Task.TheVariants.{New, Preauth, Authorise, Postauth, PageAsked, Procedure, Page, Writing, Trace, Cleanup, Script, Define, Over}
 use Rattle.ictl.specs.declared.task.Move.{Move}
@@ -98,6 +103,32 @@ pub record IsFresh (names : Names) (interp : Interp) : Type 0 where
 abbrev pub IsNew : Names → Interp → Type 0
 IsNew names interp = IsSound names interp × IsFresh names interp
 
+-- it is as newly made, on natives of some names
+abbrev pub IsNewOnSome : Interp → Type 0
+IsNewOnSome interp = (names : Names) × IsNew names interp
+
+-- where it was as newly made, so it is now
+abbrev pub StaysNew : Interp → Interp → Type 0
+StaysNew new old = (names : Names) → IsNew names old → IsNew names new
+
+-- where it was sound, so it is now
+abbrev pub StaysSound : Interp → Interp → Type 0
+StaysSound new old = (names : Names) → IsSound names old → IsSound names new
+
+-- ---- later epochs
+
+-- these definitions apply one after the other behind those that stand
+abbrev pub AllApply : List Def → Interp → Type 0
+AllApply defs interp = first_misfit interp.settling.run.engine.table.table defs ≡ None
+
+-- its blueprint is the one of before with these definitions added, and has this epoch
+abbrev pub IsUpdated : ℕ → List Def → Interp → Interp → Type 0
+IsUpdated epoch defs new old = new.blueprint.value ≡ added old.blueprint.value epoch defs
+
+-- how many steps an update counts at most: each entry is written, and where memory wants it is taken back
+abbrev pub update_steps : List Def → ℕ
+update_steps defs = 2 * Writes defs
+
 -- ---- what stays
 
 -- What no run changes, also where memory wants: of its engine the marks of the table with the entries above them, and the base
@@ -109,6 +140,10 @@ pub record Holds (new old : Interp) : Type 0 where
   pub routes : new.routes ≡ old.routes
   pub cleanups : new.cleanups ≡ old.cleanups
   pub authorises : new.authorises ≡ old.authorises
+
+-- the mark of the last run stays
+abbrev pub KeepsMark : Interp → Interp → Type 0
+KeepsMark new old = new.settling.run.engine.host.marked ≡ old.settling.run.engine.host.marked
 
 -- Within one run the request's filters, its authorisation and what serves it stay, and so do the moment and the spare blueprint.
 pub record IsSameRun (new old : Interp) : Type 0 where
@@ -149,6 +184,10 @@ pub record IsWithin (written before after : ℕ) (new : Interp) (run : Progress)
   pub all : after + written ≤ before + all_written run
   pub own : Writes (interp_state new).made ≤ own_written run
 
+-- a run that begins stays within what it writes
+abbrev pub BeginsWithin : (List Answer → Progress) → ℕ → ℕ → Interp → Type 0
+BeginsWithin run after before new = IsWithin 0 before after new (run [])
+
 -- ---- what it stands for
 
 -- whatever is answered but want of memory
@@ -163,24 +202,53 @@ module _ (names : Names) where
   abbrev pub served : Interp → Stretch
   served i = serve names i.blueprint.value i.moment i.visit.serving
 
+  -- its postauth filters from a place on, and what is behind them
+  abbrev pub postauth_from : Interp → ℕ → Stretch
+  postauth_from i next = filters_from names i.blueprint.value i.moment (drop next i.visit.postauth) (served i)
+
+  -- its authorisation, and what is behind it
+  abbrev pub access_from : Interp → Stretch
+  access_from i = unauthorised names i.blueprint.value i.moment i.visit
+
+  -- its preauth filters from a place on, and what is behind them
+  abbrev pub preauth_from : Interp → ℕ → Stretch
+  preauth_from i next = filters_from names i.blueprint.value i.moment (drop next i.visit.preauth) (access_from i)
+
+  -- its trace filters from a place on, and its cleanup scripts
+  abbrev pub trace_from : Interp → ℕ → Ending → Stretch
+  trace_from i next ending = traces_from names i.blueprint.value i.moment (drop next i.visit.trace) i.cleanups ending
+
   -- its cleanup scripts from a place on
   abbrev pub cleaned : Interp → ℕ → Ending → Stretch
   cleaned i next ending = cleanups_from names i.blueprint.value i.moment (drop next i.cleanups) ending
 
+  -- what comes of a preauth filter that said so, behind which stands the one at this place
+  abbrev pub preauth_ended : Interp → ℕ → Verdict → Stretch
+  preauth_ended i next said = filter_end (preauth_from i next) (access_from i) said
+
+  -- of the authorisation
+  abbrev pub access_ended : Interp → Access → Stretch
+  access_ended i said = access_end (authorised names i.blueprint.value i.moment i.visit) said
+
+  -- of a postauth filter
+  abbrev pub postauth_ended : Interp → ℕ → Verdict → Stretch
+  postauth_ended i next said = filter_end (postauth_from i next) (served i) said
+
+  -- of a trace filter
+  abbrev pub trace_ended : Interp → ℕ → Ending → Verdict → Stretch
+  trace_ended i next ending said = trace_end (trace_from i next ending) (cleaned i 0 ending) said
+
   -- What comes of a script in the task under way. Where no script can run, this is never met.
   abbrev pub task_end : Interp → Task → Settled → Progress
   task_end i New x = main_on x procedure_end
-  task_end i (Preauth next) x = main_on x (λ code result.
-      filter_end (filters_from names i.blueprint.value i.moment (drop next i.visit.preauth) (unauthorised names i.blueprint.value i.moment i.visit)) (unauthorised names i.blueprint.value i.moment i.visit) (verdict code result))
-  task_end i Authorise x = main_on x (λ code result. access_end (authorised names i.blueprint.value i.moment i.visit) (access code result))
-  task_end i (Postauth next) x = main_on x (λ code result.
-      filter_end (filters_from names i.blueprint.value i.moment (drop next i.visit.postauth) (served i)) (served i) (verdict code result))
+  task_end i (Preauth next) x = main_on x (λ code result. preauth_ended i next (verdict code result))
+  task_end i Authorise x = main_on x (λ code result. access_ended i (access code result))
+  task_end i (Postauth next) x = main_on x (λ code result. postauth_ended i next (verdict code result))
   task_end i (PageAsked path budget) x = main_on x procedure_end
   task_end i Procedure x = main_on x procedure_end
   task_end i Page x = main_on x page_end
   task_end i (Writing ending) x = main_on x procedure_end
-  task_end i (Trace next ending) x = after_on ending x (λ code result.
-      trace_end (traces_from names i.blueprint.value i.moment (drop next i.visit.trace) i.cleanups ending) (cleaned i 0 ending) (verdict code result))
+  task_end i (Trace next ending) x = after_on ending x (λ code result. trace_ended i next ending (verdict code result))
   task_end i (Cleanup next ending) x = after_on ending x (λ code result. cleaned i next ending)
   task_end i Script x = script_end x
   task_end i (Define defining) x = main_on x procedure_end
@@ -226,12 +294,41 @@ module _ (names : Names) where
   Stands run next inside i given =
       UnlessNoMemory next ((further : List Answer) → run (given ++ further) ≡ gives next inside i further)
 
+  -- A run begins in an interpreter that was as newly made: it stands for that run, to which nothing was given yet.
+  abbrev pub Begins : (List Answer → Progress) → Next → ℕ → ℕ → Interp → Interp → Type 0
+  Begins run next after before new old = Stands run next (taken names after before new old) new []
+
+  -- what comes behind the response at which it stands, which was written whole or not
+  abbrev pub behind_of : Interp → Bool → Request → ℕ → List Answer → Progress
+  behind_of i whole request inside answers =
+      behind names i.blueprint.value i.moment whole request (ending_of i.task) (interp_state i) inside answers
+
+  -- It goes on behind its response: of whichever request it went through, it stands for what comes behind that one's response.
+  abbrev pub GoesBehind : Bool → Next → ℕ → ℕ → Interp → Interp → Type 0
+  GoesBehind whole next after before new old =
+      (request : Request) → IsSound names old → old.visit ≡ visit_of names old.blueprint.value request → (inside : ℕ)
+      → Stands (behind_of old whole request inside) next (inside + taken names after before new old) new []
+
+  -- no more steps are counted there than what comes behind the response writes
+  abbrev pub BehindWithin : Bool → ℕ → ℕ → Interp → Interp → Type 0
+  BehindWithin whole after before new old =
+      (request : Request) → IsSound names old → old.visit ≡ visit_of names old.blueprint.value request → (inside : ℕ)
+      → IsWithin (inside + Writes (interp_state old).made) before after new (behind_of old whole request inside [])
+
+  -- its visit is that of this request, and its moment is this
+  abbrev pub IsVisitOf : Request → Moment → Interp → Interp → Type 0
+  IsVisitOf request moment new old = (new.visit ≡ visit_of names old.blueprint.value request) × (new.moment ≡ moment)
+
   -- What comes of an answer: what the new interpreter gives on further answers is what the old one, at its question, gives on the
   -- answer and those behind it. In the call the runs inside that ended took so many steps.
+  abbrev pub Continues : Next → ℕ → Interp → Interp → Answer → Type 0
+  Continues next took new old answer =
+      (question : Question) (inside : ℕ) (further : List Answer)
+      → gives next (inside + took) new further ≡ gives (Asks question) inside old (answer ∷ further)
+
+  -- the same unless memory wants
   abbrev pub GoesOn : Next → ℕ → Interp → Interp → Answer → Type 0
-  GoesOn next took new old answer =
-      UnlessNoMemory next ((question : Question) (inside : ℕ) (further : List Answer)
-      → gives next (inside + took) new further ≡ gives (Asks question) inside old (answer ∷ further))
+  GoesOn next took new old answer = UnlessNoMemory next (Continues next took new old answer)
 
   -- The same of all that was given since the start: where the old interpreter, at its question, stood for a run and a list, the new
   -- one stands for that run and the list followed by the answer.
@@ -239,3 +336,9 @@ module _ (names : Names) where
   StandsOn next took new old answer =
       (question : Question) (inside : ℕ) (run : List Answer → Progress) (given : List Answer)
       → Stands run (Asks question) inside old given → Stands run next (inside + took) new (given ++ answer ∷ [])
+
+  -- no more steps are counted with an answer than what comes of it writes
+  abbrev pub AnswerWithin : Answer → ℕ → ℕ → Interp → Interp → Type 0
+  AnswerWithin answer after before new old =
+      (question : Question) (inside : ℕ)
+      → IsWithin (inside + interp_written names old) before after new (gives (Asks question) inside old (answer ∷ []))

@@ -14,3 +14,4 @@ pub mod Laws
 pub mod CameCode
 pub mod Steps
 pub mod Within
+pub mod Ways

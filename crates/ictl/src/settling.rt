@@ -1,6 +1,6 @@
 //! A script with its runs inside. The only error of each call is want of memory.
 
-ghost use Rattle.std.specs.Prelude.{◌≡◌, ◌<◌, ◌≤◌, ◌+◌, ◌-◌, ◌*◌, ◌∷◌, [], ℕ, List, Some, None, IfOk, OnErr};
+ghost use Rattle.std.specs.Prelude.{◌≡◌, ◌≤◌, ◌+◌, ◌-◌, ◌*◌, ℕ, Some, None, IfOk, OnErr};
 ghost use Rattle.natives.specs.Names.{names_of};
 ghost use Rattle.outside.specs.declared.question.Answer.{Answer};
 ghost use Rattle.outside.specs.declared.question.Question.{Question};
@@ -8,14 +8,12 @@ ghost use Rattle.outside.specs.declared.question.Service.TheVariants as service;
 ghost use Rattle.server_host.specs.Leaf.{host_table};
 ghost use Rattle.tcl_eval.specs.Eval.{eval};
 ghost use Rattle.tcl_eval.specs.Engine.{at_global, IsOpenTo, Lasts};
-ghost use Rattle.ictl.specs.Fresh.{build_steps};
-ghost use Rattle.ictl.specs.Settle.{account_of, behind_inner, settle};
-ghost use Rattle.ictl.specs.Defines.{inner_runs, inner_run};
+ghost use Rattle.ictl.specs.Defines.{inner_run};
 ghost use Rattle.ictl.specs.Main.{first_depth};
-ghost use Rattle.ictl.specs.Standing.{state_of, comes_to, define_gives, onward, settling_at, settling_gives, written, inner_written};
-ghost use Rattle.ictl.specs.Steps.{step_gives, Stays, GoesLower};
-ghost use Rattle.ictl.specs.Within.{SettledWithin};
-ghost use Rattle.ictl.specs.Falls.{IsReady, Suffices, StopAsks, DefineStopAsks, DefineFalls, askable, SettlingAsks, SettlingAt, StepAt, per_question, settling_number, SettlingFalls, StepFalls};
+ghost use Rattle.ictl.specs.Standing.{state_of, define_gives, written};
+ghost use Rattle.ictl.specs.Steps.{Stays, GoesLower};
+ghost use Rattle.ictl.specs.Falls.{IsReady, Suffices, StopAsks, DefineStopAsks, DefineFalls, askable, SettlingAsks, SettlingAt, StepAt, per_question, settling_number, SettlingFalls, StepFalls, ScriptFalls};
+ghost use Rattle.ictl.specs.Ways.{written_with, settle_way, stopped_way, answer_way, inner_way, ScriptCounts, ScriptWithin, StopsAlong, StepsAlong};
 
 use crate::defining::DefineStop;
 use crate::inner::InnerRun;
@@ -88,33 +86,24 @@ impl Settling {
         ensures gives { let names = names_of natives.now in
             let published = blueprint.now.value in
             IfOk result (λ stop.
-            (inside : ℕ) (further : List Answer)
-            → settling_gives names published moment stop self.new
-            (inside +
-            ((steps.new + written names published self.old) -
-            (steps.old + written names published self.new)))
-            further
-            ≡ settle (inner_runs names published moment) self.old.questions inside
-            (eval names host_table first_depth work (at_global (state_of self.old.run)) budget)
-            further) }
+            StopsAlong names published moment stop steps.new steps.old self.new
+            (written names published self.old)
+            (settle_way names published moment self.old.questions
+            (eval names host_table first_depth work (at_global (state_of self.old.run)) budget))) }
         ensures counts { let names = names_of natives.now in
             let published = blueprint.now.value in
-            steps.old + written names published self.new ≤ steps.new + written names published
-            self.old }
+            ScriptCounts names published steps.new steps.old self.new
+            (written names published self.old) }
         ensures most { let names = names_of natives.now in
             let published = blueprint.now.value in
             OnErr result
-            ((inside : ℕ)
-            → SettledWithin (inside + written names published self.old) steps.old steps.new self.new
-            (settle (inner_runs names published moment) self.old.questions inside
-            (eval names host_table first_depth work (at_global (state_of self.old.run)) budget)
-            [])) }
+            (ScriptWithin steps.new steps.old self.new (written names published self.old)
+            (settle_way names published moment self.old.questions
+            (eval names host_table first_depth work (at_global (state_of self.old.run)) budget))) }
         ensures lasts { Lasts self.new.run.engine self.old.run.engine }
         ensures at { IfOk result (λ stop. SettlingAt stop self.new) }
         ensures lower { self.new.questions ≤ self.old.questions }
-        ensures falls { IfOk result (λ stop.
-            (before : ℕ) → per_question * self.old.questions ≤ before
-            → SettlingFalls stop self.new before) }
+        ensures falls { IfOk result (λ stop. ScriptFalls stop self.new self.old) }
     {
         let came = self.run.start(natives, work, budget, FIRST_DEPTH, steps)?;
         let stop = self.go_on(natives, blueprint, moment, came, steps)?;
@@ -134,25 +123,20 @@ impl Settling {
         ensures gives { let names = names_of natives.now in
             let published = blueprint.now.value in
             IfOk result (λ stop.
-            (question : Question) (inside : ℕ) (further : List Answer)
-            → settling_gives names published moment stop self.new
-            (inside +
-            ((steps.new + written names published self.old) -
-            (steps.old + written names published self.new)))
-            further
-            ≡ settling_at names published moment question self.old self.old.inner inside
-            (answer ∷ further)) }
+            (question : Question)
+            → StopsAlong names published moment stop steps.new steps.old self.new
+            (written names published self.old)
+            (answer_way names published moment question self.old answer)) }
         ensures counts { let names = names_of natives.now in
             let published = blueprint.now.value in
-            steps.old + written names published self.new ≤ steps.new + written names published
-            self.old }
+            ScriptCounts names published steps.new steps.old self.new
+            (written names published self.old) }
         ensures most { let names = names_of natives.now in
             let published = blueprint.now.value in
             OnErr result
-            ((question : Question) (inside : ℕ)
-            → SettledWithin (inside + written names published self.old) steps.old steps.new self.new
-            (settling_at names published moment question self.old self.old.inner inside
-            (answer ∷ []))) }
+            ((question : Question)
+            → ScriptWithin steps.new steps.old self.new (written names published self.old)
+            (answer_way names published moment question self.old answer)) }
         ensures lasts { Lasts self.new.run.engine self.old.run.engine }
         ensures at { IfOk result (λ stop. SettlingAt stop self.new) }
         ensures lower { self.new.questions ≤ self.old.questions }
@@ -199,31 +183,22 @@ impl Settling {
         ensures gives { let names = names_of natives.now in
             let published = blueprint.now.value in
             IfOk result (λ last.
-            (inside : ℕ) (further : List Answer)
-            → settling_gives names published moment last self.new
-            (inside +
-            ((steps.new + written names published self.old) -
-            (steps.old + written names published self.new)))
-            further
-            ≡ settle (inner_runs names published moment) self.old.questions inside
-            (comes_to names stop self.old.run) further) }
+            StopsAlong names published moment last steps.new steps.old self.new
+            (written names published self.old)
+            (stopped_way names published moment stop self.old)) }
         ensures counts { let names = names_of natives.now in
             let published = blueprint.now.value in
-            steps.old + written names published self.new ≤ steps.new + written names published
-            self.old }
+            ScriptCounts names published steps.new steps.old self.new
+            (written names published self.old) }
         ensures most { let names = names_of natives.now in
             let published = blueprint.now.value in
             OnErr result
-            ((inside : ℕ)
-            → SettledWithin (inside + written names published self.old) steps.old steps.new self.new
-            (settle (inner_runs names published moment) self.old.questions inside
-            (comes_to names stop self.old.run) [])) }
+            (ScriptWithin steps.new steps.old self.new (written names published self.old)
+            (stopped_way names published moment stop self.old)) }
         ensures lasts { Lasts self.new.run.engine self.old.run.engine }
         ensures at { IfOk result (λ last. SettlingAt last self.new) }
         ensures lower { self.new.questions ≤ self.old.questions }
-        ensures falls { IfOk result (λ last.
-            (before : ℕ) → per_question * self.old.questions ≤ before
-            → SettlingFalls last self.new before) }
+        ensures falls { IfOk result (λ last. ScriptFalls last self.new self.old) }
     {
         'runs: loop {
             let step = self.step(natives, blueprint, moment, stop, steps)?;
@@ -249,25 +224,18 @@ impl Settling {
         ensures gives { let names = names_of natives.now in
             let published = blueprint.now.value in
             IfOk result (λ step.
-            (inside : ℕ) (further : List Answer)
-            → step_gives names published moment step self.new
-            (inside +
-            ((steps.new + written names published self.old) -
-            (steps.old + written names published self.new)))
-            further
-            ≡ settle (inner_runs names published moment) self.old.questions inside
-            (comes_to names stop self.old.run) further) }
+            StepsAlong names published moment step steps.new steps.old self.new
+            (written names published self.old)
+            (stopped_way names published moment stop self.old)) }
         ensures counts { let names = names_of natives.now in
             let published = blueprint.now.value in
-            steps.old + written names published self.new ≤ steps.new + written names published
-            self.old }
+            ScriptCounts names published steps.new steps.old self.new
+            (written names published self.old) }
         ensures most { let names = names_of natives.now in
             let published = blueprint.now.value in
             OnErr result
-            ((inside : ℕ)
-            → SettledWithin (inside + written names published self.old) steps.old steps.new self.new
-            (settle (inner_runs names published moment) self.old.questions inside
-            (comes_to names stop self.old.run) [])) }
+            (ScriptWithin steps.new steps.old self.new (written names published self.old)
+            (stopped_way names published moment stop self.old)) }
         ensures goes { IfOk result (λ step. GoesLower step self.new self.old) }
         ensures lower { self.new.questions ≤ self.old.questions }
         ensures lasts { Lasts self.new.run.engine self.old.run.engine }
@@ -308,33 +276,24 @@ impl Settling {
         ensures gives { let names = names_of natives.now in
             let published = blueprint.now.value in
             IfOk result (λ step.
-            (asked : Question) (inside : ℕ) (further : List Answer)
-            → step_gives names published moment step self.new
-            (inside +
-            ((steps.new + written names published self.old) -
-            (steps.old + written names published self.new)))
-            further
-            ≡ behind_inner (build_steps names published.defs)
+            (asked : Question)
+            → StepsAlong names published moment step steps.new steps.old self.new
+            (written names published self.old)
+            (inner_way names published moment asked self.old
             (inner_run names published moment question.words self.old.run.engine.budget
-            self.old.questions further)
-            (state_of self.old.run)
-            (account_of self.old.run.engine.budget self.old.questions inside)
-            (onward names published moment asked self.old)) }
+            self.old.questions))) }
         ensures counts { let names = names_of natives.now in
             let published = blueprint.now.value in
-            steps.old + written names published self.new ≤ steps.new + written names published
-            self.old }
+            ScriptCounts names published steps.new steps.old self.new
+            (written names published self.old) }
         ensures most { let names = names_of natives.now in
             let published = blueprint.now.value in
             OnErr result
-            ((asked : Question) (inside : ℕ)
-            → SettledWithin (inside + written names published self.old) steps.old steps.new self.new
-            (behind_inner (build_steps names published.defs)
+            ((asked : Question)
+            → ScriptWithin steps.new steps.old self.new (written names published self.old)
+            (inner_way names published moment asked self.old
             (inner_run names published moment question.words self.old.run.engine.budget
-            self.old.questions [])
-            (state_of self.old.run)
-            (account_of self.old.run.engine.budget self.old.questions inside)
-            (onward names published moment asked self.old))) }
+            self.old.questions))) }
         ensures stays { IfOk result (λ step. Stays step self.new self.old) }
         ensures same { self.new.questions ≡ self.old.questions }
         ensures lasts { Lasts self.new.run.engine self.old.run.engine }
@@ -375,36 +334,23 @@ impl Settling {
         ensures gives { let names = names_of natives.now in
             let published = blueprint.now.value in
             IfOk result (λ step.
-            (question : Question) (inside : ℕ) (further : List Answer)
-            → step_gives names published moment step self.new
-            (inside +
-            ((steps.new +
-            (written names published self.old + inner_written names published (Some inner)))
-            -
-            (steps.old + written names published self.new)))
-            further
-            ≡ behind_inner (build_steps names published.defs)
-            (define_gives names published moment stop inner.run inner.defining further)
-            (state_of self.old.run)
-            (account_of self.old.run.engine.budget self.old.questions inside)
-            (onward names published moment question self.old)) }
+            (question : Question)
+            → StepsAlong names published moment step steps.new steps.old self.new
+            (written_with names published self.old inner)
+            (inner_way names published moment question self.old
+            (define_gives names published moment stop inner.run inner.defining))) }
         ensures counts { let names = names_of natives.now in
             let published = blueprint.now.value in
-            steps.old + written names published self.new ≤ steps.new +
-            (written names published self.old + inner_written names published (Some inner)) }
+            ScriptCounts names published steps.new steps.old self.new
+            (written_with names published self.old inner) }
         ensures most { let names = names_of natives.now in
             let published = blueprint.now.value in
             OnErr result
-            ((question : Question) (inside : ℕ)
-            → SettledWithin
-            (inside +
-            (written names published self.old + inner_written names published (Some inner)))
-            steps.old steps.new self.new
-            (behind_inner (build_steps names published.defs)
-            (define_gives names published moment stop inner.run inner.defining [])
-            (state_of self.old.run)
-            (account_of self.old.run.engine.budget self.old.questions inside)
-            (onward names published moment question self.old))) }
+            ((question : Question)
+            → ScriptWithin steps.new steps.old self.new
+            (written_with names published self.old inner)
+            (inner_way names published moment question self.old
+            (define_gives names published moment stop inner.run inner.defining))) }
         ensures stays { IfOk result (λ step. Stays step self.new self.old) }
         ensures same { self.new.questions ≡ self.old.questions }
         ensures lasts { Lasts self.new.run.engine self.old.run.engine }
