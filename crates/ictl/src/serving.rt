@@ -1,18 +1,16 @@
 //! The run of a request up to its response.
 
-ghost use Rattle.std.specs.Prelude.{◌≡◌, ◌≤◌, ◌<◌, ◌+◌, ◌-◌, ◌*◌, ◌^◌, ◌∷◌, [], ℕ, List, IfOk, OnOk, OnErr, drop, length, MatchOption};
+ghost use Rattle.std.specs.Prelude.{◌≡◌, ◌≤◌, ◌<◌, ◌+◌, ◌-◌, ◌*◌, ◌^◌, ◌∷◌, [], ℕ, IfOk, OnOk, OnErr, drop, length, MatchOption};
 ghost use Rattle.txt_core.specs.Names.{Bytes};
 ghost use Rattle.natives.specs.Names.{names_of};
 ghost use Rattle.outside.specs.declared.question.Answer.{Answer};
-ghost use Rattle.tcl_eval.specs.Engine.{at_global};
 ghost use Rattle.ictl.specs.Fresh.{outset};
-ghost use Rattle.ictl.specs.Settle.{account_of};
 ghost use Rattle.ictl.specs.Replies.{given_or_failed, failed, procedure_reply, page_reply, verdict, access};
-ghost use Rattle.ictl.specs.Main.{runs, calls, filters_from, filter_end, access_end, authorised, unauthorised, serve, page_question, page_words, visited};
-ghost use Rattle.ictl.specs.Interps.{Holds, IsSameRun, interp_state, interp_written, IsWithin, taken, Counts, task_end, asking_gives, move_gives};
+ghost use Rattle.ictl.specs.Main.{serve, page_question, page_words};
+ghost use Rattle.ictl.specs.Interps.{Holds, IsSameRun, interp_state, Counts, served, preauth_from, access_from, postauth_from, preauth_ended, access_ended, postauth_ended};
 ghost use Rattle.ictl.specs.Steps.{Lowers, scripts_left, asked_path, EntersNone, EntersBy};
-ghost use Rattle.ictl.specs.declared.task.Task.{Task as Tasks};
-ghost use Rattle.ictl.specs.Falls.{IsReady, MoveStandsAt, IsScriptTask, MoveFalls, EndFalls, per_question};
+ghost use Rattle.ictl.specs.Falls.{IsReady, MoveStandsAt, IsScriptTask, MoveFalls, EndFalls, per_question, PartFalls};
+ghost use Rattle.ictl.specs.Ways.{ChangesTask, IsToWrite, way_from, way_on, visit_from, run_way, call_way, page_way, MovesAlong, WayWithin};
 
 use crate::ending::{Access, Ending, Verdict, access_of, verdict_of};
 use crate::interp::Interp;
@@ -127,22 +125,13 @@ impl Interp {
         requires script { IsScriptTask task }
         ensures gives { let names = names_of natives.now in
             IfOk result (λ step.
-            (inside : ℕ) (further : List Answer)
-            → move_gives names step (inside + taken names steps.new steps.old self.new self.old)
-            self.new further
-            ≡ task_end names self.old task
-            (runs names self.old.blueprint.value self.old.moment work
-            (at_global (interp_state self.old))
-            (account_of budget self.old.settling.questions inside) further)) }
+            MovesAlong names step steps.new steps.old self.new self.old
+            (run_way names self.old task work budget)) }
         ensures counts { Counts (names_of natives.now) steps.new steps.old self.new self.old }
         ensures most { let names = names_of natives.now in
             OnErr result
-            ((inside : ℕ)
-            → IsWithin (inside + interp_written names self.old) steps.old steps.new self.new
-            (task_end names self.old task
-            (runs names self.old.blueprint.value self.old.moment work
-            (at_global (interp_state self.old))
-            (account_of budget self.old.settling.questions inside) []))) }
+            (WayWithin names steps.new steps.old self.new self.old
+            (run_way names self.old task work budget)) }
         ensures lowers { IfOk result (λ step.
             (before : ℕ) → scripts_left self.old.visit self.old.cleanups task < before
             → Lowers step self.new before) }
@@ -175,29 +164,20 @@ impl Interp {
         requires script { IsScriptTask task }
         ensures gives { let names = names_of natives.now in
             IfOk result (λ step.
-            (inside : ℕ) (further : List Answer)
-            → move_gives names step (inside + taken names steps.new steps.old self.new self.old)
-            self.new further
-            ≡ task_end names self.old task
-            (calls names self.old.blueprint.value self.old.moment words (interp_state self.old)
-            (account_of budget self.old.settling.questions inside) further)) }
+            MovesAlong names step steps.new steps.old self.new self.old
+            (call_way names self.old task words budget)) }
         ensures counts { Counts (names_of natives.now) steps.new steps.old self.new self.old }
         ensures most { let names = names_of natives.now in
             OnErr result
-            ((inside : ℕ)
-            → IsWithin (inside + interp_written names self.old) steps.old steps.new self.new
-            (task_end names self.old task
-            (calls names self.old.blueprint.value self.old.moment words (interp_state self.old)
-            (account_of budget self.old.settling.questions inside) []))) }
+            (WayWithin names steps.new steps.old self.new self.old
+            (call_way names self.old task words budget)) }
         ensures lowers { IfOk result (λ step.
             (before : ℕ) → scripts_left self.old.visit self.old.cleanups task < before
             → Lowers step self.new before) }
         ensures same { IsSameRun self.new self.old }
         ensures holds { Holds self.new self.old }
         ensures next { IfOk result (λ step. MoveStandsAt step self.new) }
-        ensures falls { IfOk result (λ step.
-            (before : ℕ) → per_question * self.old.settling.questions + 2 < before
-            → MoveFalls step self.new before) }
+        ensures falls { IfOk result (λ step. PartFalls step self.new self.old) }
     {
         self.settling.run.set_out();
         self.run(natives, task, Work::Call(words), budget, steps)
@@ -214,25 +194,17 @@ impl Interp {
         requires { IsReady budget self.old.settling }
         ensures gives { let names = names_of natives.now in
             IfOk result (λ step.
-            (inside : ℕ) (further : List Answer)
-            → move_gives names step (inside + taken names steps.new steps.old self.new self.old)
-            self.new further
-            ≡ visited names self.old.blueprint.value self.old.moment self.old.visit
-            (interp_state self.old) (account_of budget self.old.settling.questions inside)
-            further) }
+            MovesAlong names step steps.new steps.old self.new self.old
+            (way_from self.old budget (visit_from names self.old))) }
         ensures counts { Counts (names_of natives.now) steps.new steps.old self.new self.old }
         ensures most { let names = names_of natives.now in
             OnErr result
-            ((inside : ℕ)
-            → IsWithin (inside + interp_written names self.old) steps.old steps.new self.new
-            (visited names self.old.blueprint.value self.old.moment self.old.visit
-            (interp_state self.old) (account_of budget self.old.settling.questions inside) [])) }
+            (WayWithin names steps.new steps.old self.new self.old
+            (way_from self.old budget (visit_from names self.old))) }
         ensures same { IsSameRun self.new self.old }
         ensures holds { Holds self.new self.old }
         ensures next { IfOk result (λ step. MoveStandsAt step self.new) }
-        ensures falls { IfOk result (λ step.
-            (before : ℕ) → per_question * self.old.settling.questions + 2 < before
-            → MoveFalls step self.new before) }
+        ensures falls { IfOk result (λ step. PartFalls step self.new self.old) }
     {
         if self.visit.is_plain() {
             return self.serve(natives, budget, steps);
@@ -251,32 +223,20 @@ impl Interp {
         requires { IsReady budget self.old.settling }
         ensures gives { let names = names_of natives.now in
             IfOk result (λ step.
-            (inside : ℕ) (further : List Answer)
-            → move_gives names step (inside + taken names steps.new steps.old self.new self.old)
-            self.new further
-            ≡ filters_from names self.old.blueprint.value self.old.moment
-            (drop next self.old.visit.preauth)
-            (unauthorised names self.old.blueprint.value self.old.moment self.old.visit)
-            (interp_state self.old) (account_of budget self.old.settling.questions inside)
-            further) }
+            MovesAlong names step steps.new steps.old self.new self.old
+            (way_from self.old budget (preauth_from names self.old next))) }
         ensures counts { Counts (names_of natives.now) steps.new steps.old self.new self.old }
         ensures most { let names = names_of natives.now in
             OnErr result
-            ((inside : ℕ)
-            → IsWithin (inside + interp_written names self.old) steps.old steps.new self.new
-            (filters_from names self.old.blueprint.value self.old.moment
-            (drop next self.old.visit.preauth)
-            (unauthorised names self.old.blueprint.value self.old.moment self.old.visit)
-            (interp_state self.old) (account_of budget self.old.settling.questions inside) [])) }
+            (WayWithin names steps.new steps.old self.new self.old
+            (way_from self.old budget (preauth_from names self.old next))) }
         ensures lowers { IfOk result (λ step.
             Lowers step self.new
             ((length self.old.visit.preauth - next) + length self.old.visit.postauth + 3)) }
         ensures same { IsSameRun self.new self.old }
         ensures holds { Holds self.new self.old }
         ensures next { IfOk result (λ step. MoveStandsAt step self.new) }
-        ensures falls { IfOk result (λ step.
-            (before : ℕ) → per_question * self.old.settling.questions + 2 < before
-            → MoveFalls step self.new before) }
+        ensures falls { IfOk result (λ step. PartFalls step self.new self.old) }
     {
         made_grows::<RunHost>();
         let found = words_at(self.alloc, &self.visit.preauth, next)?;
@@ -305,39 +265,20 @@ impl Interp {
         requires { IsReady self.old.settling.run.engine.budget self.old.settling }
         ensures gives { let names = names_of natives.now in
             IfOk result (λ step.
-            (inside : ℕ) (further : List Answer)
-            → move_gives names step (inside + taken names steps.new steps.old self.new self.old)
-            self.new further
-            ≡ filter_end
-            (filters_from names self.old.blueprint.value self.old.moment
-            (drop next self.old.visit.preauth)
-            (unauthorised names self.old.blueprint.value self.old.moment self.old.visit))
-            (unauthorised names self.old.blueprint.value self.old.moment self.old.visit)
-            (verdict code value) (interp_state self.old)
-            (account_of self.old.settling.run.engine.budget self.old.settling.questions inside)
-            further) }
+            MovesAlong names step steps.new steps.old self.new self.old
+            (way_on self.old (preauth_ended names self.old next (verdict code value)))) }
         ensures counts { Counts (names_of natives.now) steps.new steps.old self.new self.old }
         ensures most { let names = names_of natives.now in
             OnErr result
-            ((inside : ℕ)
-            → IsWithin (inside + interp_written names self.old) steps.old steps.new self.new
-            (filter_end
-            (filters_from names self.old.blueprint.value self.old.moment
-            (drop next self.old.visit.preauth)
-            (unauthorised names self.old.blueprint.value self.old.moment self.old.visit))
-            (unauthorised names self.old.blueprint.value self.old.moment self.old.visit)
-            (verdict code value) (interp_state self.old)
-            (account_of self.old.settling.run.engine.budget self.old.settling.questions inside)
-            [])) }
+            (WayWithin names steps.new steps.old self.new self.old
+            (way_on self.old (preauth_ended names self.old next (verdict code value)))) }
         ensures lowers { IfOk result (λ step.
             Lowers step self.new
             ((length self.old.visit.preauth - next) + length self.old.visit.postauth + 3)) }
         ensures same { IsSameRun self.new self.old }
         ensures holds { Holds self.new self.old }
         ensures next { IfOk result (λ step. MoveStandsAt step self.new) }
-        ensures falls { IfOk result (λ step.
-            (before : ℕ) → per_question * self.old.settling.questions + 2 < before
-            → MoveFalls step self.new before) }
+        ensures falls { IfOk result (λ step. PartFalls step self.new self.old) }
     {
         let budget = self.settling.run.engine.left();
         let said = verdict_of(code, &value);
@@ -359,27 +300,19 @@ impl Interp {
         requires { IsReady budget self.old.settling }
         ensures gives { let names = names_of natives.now in
             IfOk result (λ step.
-            (inside : ℕ) (further : List Answer)
-            → move_gives names step (inside + taken names steps.new steps.old self.new self.old)
-            self.new further
-            ≡ unauthorised names self.old.blueprint.value self.old.moment self.old.visit
-            (interp_state self.old) (account_of budget self.old.settling.questions inside)
-            further) }
+            MovesAlong names step steps.new steps.old self.new self.old
+            (way_from self.old budget (access_from names self.old))) }
         ensures counts { Counts (names_of natives.now) steps.new steps.old self.new self.old }
         ensures most { let names = names_of natives.now in
             OnErr result
-            ((inside : ℕ)
-            → IsWithin (inside + interp_written names self.old) steps.old steps.new self.new
-            (unauthorised names self.old.blueprint.value self.old.moment self.old.visit
-            (interp_state self.old) (account_of budget self.old.settling.questions inside) [])) }
+            (WayWithin names steps.new steps.old self.new self.old
+            (way_from self.old budget (access_from names self.old))) }
         ensures lowers { IfOk result (λ step.
             Lowers step self.new (length self.old.visit.postauth + 3)) }
         ensures same { IsSameRun self.new self.old }
         ensures holds { Holds self.new self.old }
         ensures next { IfOk result (λ step. MoveStandsAt step self.new) }
-        ensures falls { IfOk result (λ step.
-            (before : ℕ) → per_question * self.old.settling.questions + 2 < before
-            → MoveFalls step self.new before) }
+        ensures falls { IfOk result (λ step. PartFalls step self.new self.old) }
     {
         made_grows::<RunHost>();
         let call = copy_call(self.alloc, &self.visit.authorisation)?;
@@ -401,30 +334,19 @@ impl Interp {
         requires { IsReady self.old.settling.run.engine.budget self.old.settling }
         ensures gives { let names = names_of natives.now in
             IfOk result (λ step.
-            (inside : ℕ) (further : List Answer)
-            → move_gives names step (inside + taken names steps.new steps.old self.new self.old)
-            self.new further
-            ≡ access_end (authorised names self.old.blueprint.value self.old.moment self.old.visit)
-            (access code value) (interp_state self.old)
-            (account_of self.old.settling.run.engine.budget self.old.settling.questions inside)
-            further) }
+            MovesAlong names step steps.new steps.old self.new self.old
+            (way_on self.old (access_ended names self.old (access code value)))) }
         ensures counts { Counts (names_of natives.now) steps.new steps.old self.new self.old }
         ensures most { let names = names_of natives.now in
             OnErr result
-            ((inside : ℕ)
-            → IsWithin (inside + interp_written names self.old) steps.old steps.new self.new
-            (access_end (authorised names self.old.blueprint.value self.old.moment self.old.visit)
-            (access code value) (interp_state self.old)
-            (account_of self.old.settling.run.engine.budget self.old.settling.questions inside)
-            [])) }
+            (WayWithin names steps.new steps.old self.new self.old
+            (way_on self.old (access_ended names self.old (access code value)))) }
         ensures lowers { IfOk result (λ step.
             Lowers step self.new (length self.old.visit.postauth + 2)) }
         ensures same { IsSameRun self.new self.old }
         ensures holds { Holds self.new self.old }
         ensures next { IfOk result (λ step. MoveStandsAt step self.new) }
-        ensures falls { IfOk result (λ step.
-            (before : ℕ) → per_question * self.old.settling.questions + 2 < before
-            → MoveFalls step self.new before) }
+        ensures falls { IfOk result (λ step. PartFalls step self.new self.old) }
     {
         let budget = self.settling.run.engine.left();
         let said = access_of(code, &value);
@@ -453,31 +375,19 @@ impl Interp {
         requires { IsReady budget self.old.settling }
         ensures gives { let names = names_of natives.now in
             IfOk result (λ step.
-            (inside : ℕ) (further : List Answer)
-            → move_gives names step (inside + taken names steps.new steps.old self.new self.old)
-            self.new further
-            ≡ filters_from names self.old.blueprint.value self.old.moment
-            (drop next self.old.visit.postauth)
-            (serve names self.old.blueprint.value self.old.moment self.old.visit.serving)
-            (interp_state self.old) (account_of budget self.old.settling.questions inside)
-            further) }
+            MovesAlong names step steps.new steps.old self.new self.old
+            (way_from self.old budget (postauth_from names self.old next))) }
         ensures counts { Counts (names_of natives.now) steps.new steps.old self.new self.old }
         ensures most { let names = names_of natives.now in
             OnErr result
-            ((inside : ℕ)
-            → IsWithin (inside + interp_written names self.old) steps.old steps.new self.new
-            (filters_from names self.old.blueprint.value self.old.moment
-            (drop next self.old.visit.postauth)
-            (serve names self.old.blueprint.value self.old.moment self.old.visit.serving)
-            (interp_state self.old) (account_of budget self.old.settling.questions inside) [])) }
+            (WayWithin names steps.new steps.old self.new self.old
+            (way_from self.old budget (postauth_from names self.old next))) }
         ensures lowers { IfOk result (λ step.
             Lowers step self.new ((length self.old.visit.postauth - next) + 1)) }
         ensures same { IsSameRun self.new self.old }
         ensures holds { Holds self.new self.old }
         ensures next { IfOk result (λ step. MoveStandsAt step self.new) }
-        ensures falls { IfOk result (λ step.
-            (before : ℕ) → per_question * self.old.settling.questions + 2 < before
-            → MoveFalls step self.new before) }
+        ensures falls { IfOk result (λ step. PartFalls step self.new self.old) }
     {
         made_grows::<RunHost>();
         let found = words_at(self.alloc, &self.visit.postauth, next)?;
@@ -506,38 +416,19 @@ impl Interp {
         requires { IsReady self.old.settling.run.engine.budget self.old.settling }
         ensures gives { let names = names_of natives.now in
             IfOk result (λ step.
-            (inside : ℕ) (further : List Answer)
-            → move_gives names step (inside + taken names steps.new steps.old self.new self.old)
-            self.new further
-            ≡ filter_end
-            (filters_from names self.old.blueprint.value self.old.moment
-            (drop next self.old.visit.postauth)
-            (serve names self.old.blueprint.value self.old.moment self.old.visit.serving))
-            (serve names self.old.blueprint.value self.old.moment self.old.visit.serving)
-            (verdict code value) (interp_state self.old)
-            (account_of self.old.settling.run.engine.budget self.old.settling.questions inside)
-            further) }
+            MovesAlong names step steps.new steps.old self.new self.old
+            (way_on self.old (postauth_ended names self.old next (verdict code value)))) }
         ensures counts { Counts (names_of natives.now) steps.new steps.old self.new self.old }
         ensures most { let names = names_of natives.now in
             OnErr result
-            ((inside : ℕ)
-            → IsWithin (inside + interp_written names self.old) steps.old steps.new self.new
-            (filter_end
-            (filters_from names self.old.blueprint.value self.old.moment
-            (drop next self.old.visit.postauth)
-            (serve names self.old.blueprint.value self.old.moment self.old.visit.serving))
-            (serve names self.old.blueprint.value self.old.moment self.old.visit.serving)
-            (verdict code value) (interp_state self.old)
-            (account_of self.old.settling.run.engine.budget self.old.settling.questions inside)
-            [])) }
+            (WayWithin names steps.new steps.old self.new self.old
+            (way_on self.old (postauth_ended names self.old next (verdict code value)))) }
         ensures lowers { IfOk result (λ step.
             Lowers step self.new ((length self.old.visit.postauth - next) + 1)) }
         ensures same { IsSameRun self.new self.old }
         ensures holds { Holds self.new self.old }
         ensures next { IfOk result (λ step. MoveStandsAt step self.new) }
-        ensures falls { IfOk result (λ step.
-            (before : ℕ) → per_question * self.old.settling.questions + 2 < before
-            → MoveFalls step self.new before) }
+        ensures falls { IfOk result (λ step. PartFalls step self.new self.old) }
     {
         let budget = self.settling.run.engine.left();
         let said = verdict_of(code, &value);
@@ -559,26 +450,18 @@ impl Interp {
         requires { IsReady budget self.old.settling }
         ensures gives { let names = names_of natives.now in
             IfOk result (λ step.
-            (inside : ℕ) (further : List Answer)
-            → move_gives names step (inside + taken names steps.new steps.old self.new self.old)
-            self.new further
-            ≡ serve names self.old.blueprint.value self.old.moment self.old.visit.serving
-            (interp_state self.old) (account_of budget self.old.settling.questions inside)
-            further) }
+            MovesAlong names step steps.new steps.old self.new self.old
+            (way_from self.old budget (served names self.old))) }
         ensures counts { Counts (names_of natives.now) steps.new steps.old self.new self.old }
         ensures most { let names = names_of natives.now in
             OnErr result
-            ((inside : ℕ)
-            → IsWithin (inside + interp_written names self.old) steps.old steps.new self.new
-            (serve names self.old.blueprint.value self.old.moment self.old.visit.serving
-            (interp_state self.old) (account_of budget self.old.settling.questions inside) [])) }
+            (WayWithin names steps.new steps.old self.new self.old
+            (way_from self.old budget (served names self.old))) }
         ensures lowers { IfOk result (λ step. Lowers step self.new (1)) }
         ensures same { IsSameRun self.new self.old }
         ensures holds { Holds self.new self.old }
         ensures next { IfOk result (λ step. MoveStandsAt step self.new) }
-        ensures falls { IfOk result (λ step.
-            (before : ℕ) → per_question * self.old.settling.questions + 2 < before
-            → MoveFalls step self.new before) }
+        ensures falls { IfOk result (λ step. PartFalls step self.new self.old) }
     {
         made_grows::<RunHost>();
         let serving = copy_serving(self.alloc, &self.visit.serving)?;
@@ -607,18 +490,13 @@ impl Interp {
             × IsReady budget self.old.settling }
         ensures gives { let names = names_of natives.now in
             IfOk result (λ step.
-            (inside : ℕ) (further : List Answer)
-            → move_gives names step (inside + taken names steps.new steps.old self.new self.old)
-            self.new further
-            ≡ asking_gives names (page_question (asked_path self.old.task)) self.old.task inside
-            self.old (answer ∷ further)) }
+            MovesAlong names step steps.new steps.old self.new self.old
+            (page_way names self.old answer)) }
         ensures counts { Counts (names_of natives.now) steps.new steps.old self.new self.old }
         ensures most { let names = names_of natives.now in
             OnErr result
-            ((inside : ℕ)
-            → IsWithin (inside + interp_written names self.old) steps.old steps.new self.new
-            (asking_gives names (page_question (asked_path self.old.task)) self.old.task inside
-            self.old (answer ∷ []))) }
+            (WayWithin names steps.new steps.old self.new self.old
+            (page_way names self.old answer)) }
         ensures lowers { IfOk result (λ step. Lowers step self.new (1)) }
         ensures same { IsSameRun self.new self.old }
         ensures holds { Holds self.new self.old }
@@ -685,9 +563,8 @@ impl Interp {
             step
             ≡ Move.Stops
             (Next.Write (given_or_failed (interp_state self.old).host.conn.response))) }
-        ensures task { IfOk result (λ _.
-            self.new ≡ record self.old { task = Task.Writing Ending.Answered }) }
-        ensures rest { (task : Tasks) × (self.new ≡ record self.old { task = task }) }
+        ensures task { IfOk result (λ _. IsToWrite self.new self.old) }
+        ensures rest { ChangesTask self.new self.old }
         ensures same { IsSameRun self.new self.old }
         ensures holds { Holds self.new self.old }
     {
@@ -699,9 +576,8 @@ impl Interp {
     #[inline(never)]
     fn fail(&mut self) -> Result<Move, NoMemory>
         ensures stops { IfOk result (λ step. step ≡ Move.Stops (Next.Write failed)) }
-        ensures task { IfOk result (λ _.
-            self.new ≡ record self.old { task = Task.Writing Ending.Answered }) }
-        ensures rest { (task : Tasks) × (self.new ≡ record self.old { task = task }) }
+        ensures task { IfOk result (λ _. IsToWrite self.new self.old) }
+        ensures rest { ChangesTask self.new self.old }
         ensures same { IsSameRun self.new self.old }
         ensures holds { Holds self.new self.old }
     {
@@ -715,9 +591,8 @@ impl Interp {
             step
             ≡ Move.Stops
             (Next.Write (procedure_reply code (interp_state self.old).host.conn.response))) }
-        ensures task { IfOk result (λ _.
-            self.new ≡ record self.old { task = Task.Writing Ending.Answered }) }
-        ensures rest { (task : Tasks) × (self.new ≡ record self.old { task = task }) }
+        ensures task { IfOk result (λ _. IsToWrite self.new self.old) }
+        ensures rest { ChangesTask self.new self.old }
         ensures same { IsSameRun self.new self.old }
         ensures holds { Holds self.new self.old }
     {
@@ -731,9 +606,8 @@ impl Interp {
     pub(crate) fn end_page(&mut self) -> Result<Move, NoMemory>
         ensures stops { IfOk result (λ step.
             step ≡ Move.Stops (Next.Write (page_reply (interp_state self.old).host))) }
-        ensures task { IfOk result (λ _.
-            self.new ≡ record self.old { task = Task.Writing Ending.Answered }) }
-        ensures rest { (task : Tasks) × (self.new ≡ record self.old { task = task }) }
+        ensures task { IfOk result (λ _. IsToWrite self.new self.old) }
+        ensures rest { ChangesTask self.new self.old }
         ensures same { IsSameRun self.new self.old }
         ensures holds { Holds self.new self.old }
     {

@@ -1,6 +1,6 @@
 //! The run of a request behind its response, and the runs without a connection.
 
-ghost use Rattle.std.specs.Prelude.{◌≡◌, ◌≤◌, ◌<◌, ◌+◌, ◌-◌, ◌*◌, ◌^◌, ◌++◌, ◌∷◌, [], ℕ, List, None, true, IsTrue, IfOk, OnErr, drop, length, MatchOption};
+ghost use Rattle.std.specs.Prelude.{◌≡◌, ◌≤◌, ◌<◌, ◌+◌, ◌-◌, ◌^◌, ◌∷◌, [], ℕ, List, None, true, IsTrue, IfOk, OnErr, drop, length, MatchOption};
 ghost use Rattle.txt_core.specs.Names.{Names};
 ghost use Rattle.natives.specs.Names.{names_of};
 ghost use Rattle.outside.specs.declared.question.Answer.{Answer};
@@ -8,15 +8,13 @@ ghost use Rattle.outside.specs.declared.question.Question.{Question};
 ghost use Rattle.http_req.specs.declared.request.Request.{Request};
 ghost use Rattle.cmd_table.specs.Commands.{Writes};
 ghost use Rattle.ictl.specs.Fresh.{script_state};
-ghost use Rattle.ictl.specs.Settle.{account_of};
 ghost use Rattle.ictl.specs.Replies.{verdict};
-ghost use Rattle.ictl.specs.Visits.{visit_of};
-ghost use Rattle.ictl.specs.Main.{run_questions, Main, Script, Define, behind, both, answered, outcome_of, traces_from, cleanups_from, trace_end, first_depth};
-ghost use Rattle.ictl.specs.Interps.{IsSound, IsNew, Holds, IsSameRun, ending_of, interp_state, interp_written, IsWithin, spare_of, taken, Counts, move_gives, gives};
+ghost use Rattle.ictl.specs.Main.{run_questions, Main, Script, Define, both, answered, outcome_of, first_depth};
+ghost use Rattle.ictl.specs.Interps.{IsNew, Holds, IsSameRun, ending_of, interp_state, spare_of, taken, Counts, gives, trace_from, cleaned, trace_ended, IsVisitOf, BeginsWithin, AnswerWithin, BehindWithin};
 ghost use Rattle.ictl.specs.Steps.{Lowers, defined_gives};
 ghost use Rattle.ictl.specs.declared.defining.DefineRun.{DefineRun as Defining};
-ghost use Rattle.ictl.specs.declared.task.Task.{Task as Tasks};
-ghost use Rattle.ictl.specs.Falls.{IsReady, DefineStopAsks, DefineFalls, IsAsking, IsWriting, GoesOut, MoveStandsAt, Falls, MoveFalls, number_of, first_number, per_question};
+ghost use Rattle.ictl.specs.Falls.{IsReady, DefineStopAsks, DefineFalls, IsAsking, IsWriting, GoesOut, MoveStandsAt, Falls, number_of, first_number, PartFalls};
+ghost use Rattle.ictl.specs.Ways.{ChangesTask, way_from, way_on, MovesAlong, WayWithin, ComesTo, ComesBehind};
 
 use crate::defining::{DefineRun, DefineStop};
 use crate::ending::{Ending, Verdict, answered, both, verdict_of};
@@ -103,18 +101,15 @@ impl Interp {
         requires { IsNew (names_of natives.now) self.old }
         ensures stands { let names = names_of natives.now in
             IfOk result (λ next.
-            (further : List Answer)
-            → Main names self.old.blueprint.value request moment further
-            ≡ gives names next (taken names steps.new steps.old self.new self.old) self.new
-            further) }
+            ComesTo names (Main names self.old.blueprint.value request moment) next
+            (taken names steps.new steps.old self.new self.old) self.new) }
         ensures counts { Counts (names_of natives.now) steps.new steps.old self.new self.old }
         ensures most { let names = names_of natives.now in
             OnErr result
-            (IsWithin 0 steps.old steps.new self.new
-            (Main names self.old.blueprint.value request moment [])) }
+            (BeginsWithin (Main names self.old.blueprint.value request moment) steps.new steps.old
+            self.new) }
         ensures visit { IfOk result (λ _.
-            (self.new.visit ≡ visit_of (names_of natives.now) self.old.blueprint.value request)
-            × (self.new.moment ≡ moment)) }
+            IsVisitOf (names_of natives.now) request moment self.new self.old) }
         ensures spare { spare_of self.new ≡ spare_of self.old }
         ensures holds { Holds self.new self.old }
         ensures next { IfOk result (λ next. GoesOut next self.new) }
@@ -146,15 +141,13 @@ impl Interp {
         requires { IsNew (names_of natives.now) self.old }
         ensures stands { let names = names_of natives.now in
             IfOk result (λ next.
-            (further : List Answer)
-            → Script names self.old.blueprint.value script.now moment further
-            ≡ gives names next (taken names steps.new steps.old self.new self.old) self.new
-            further) }
+            ComesTo names (Script names self.old.blueprint.value script.now moment) next
+            (taken names steps.new steps.old self.new self.old) self.new) }
         ensures counts { Counts (names_of natives.now) steps.new steps.old self.new self.old }
         ensures most { let names = names_of natives.now in
             OnErr result
-            (IsWithin 0 steps.old steps.new self.new
-            (Script names self.old.blueprint.value script.now moment [])) }
+            (BeginsWithin (Script names self.old.blueprint.value script.now moment) steps.new
+            steps.old self.new) }
         ensures spare { spare_of self.new ≡ spare_of self.old }
         ensures holds { Holds self.new self.old }
         ensures next { IfOk result (λ next. GoesOut next self.new) }
@@ -182,15 +175,13 @@ impl Interp {
         requires inner { self.old.settling.inner ≡ None }
         ensures stands { let names = names_of natives.now in
             IfOk result (λ next.
-            (further : List Answer)
-            → Script names self.old.blueprint.value script self.old.moment further
-            ≡ gives names next (taken names steps.new steps.old self.new self.old) self.new
-            further) }
+            ComesTo names (Script names self.old.blueprint.value script self.old.moment) next
+            (taken names steps.new steps.old self.new self.old) self.new) }
         ensures counts { Counts (names_of natives.now) steps.new steps.old self.new self.old }
         ensures most { let names = names_of natives.now in
             OnErr result
-            (IsWithin 0 steps.old steps.new self.new
-            (Script names self.old.blueprint.value script self.old.moment [])) }
+            (BeginsWithin (Script names self.old.blueprint.value script self.old.moment) steps.new
+            steps.old self.new) }
         ensures same { IsSameRun self.new self.old }
         ensures holds { Holds self.new self.old }
         ensures next { IfOk result (λ next. GoesOut next self.new) }
@@ -220,15 +211,14 @@ impl Interp {
         requires { IsNew (names_of natives.now) self.old }
         ensures stands { let names = names_of natives.now in
             IfOk result (λ next.
-            (further : List Answer)
-            → Define names self.old.blueprint.value script.now moment further
-            ≡ gives names next 0 self.new further) }
+            ComesTo names (Define names self.old.blueprint.value script.now moment) next 0
+            self.new) }
         ensures steps { steps.new + Writes self.old.settling.run.engine.made
             ≡ steps.old + Writes self.new.settling.run.engine.made }
         ensures most { let names = names_of natives.now in
             OnErr result
-            (IsWithin 0 steps.old steps.new self.new
-            (Define names self.old.blueprint.value script.now moment [])) }
+            (BeginsWithin (Define names self.old.blueprint.value script.now moment) steps.new
+            steps.old self.new) }
         ensures spare { spare_of self.new ≡ spare_of self.old }
         ensures holds { Holds self.new self.old }
         ensures next { IfOk result (λ next. GoesOut next self.new) }
@@ -267,10 +257,7 @@ impl Interp {
         ensures steps { steps.new + Writes self.old.settling.run.engine.made
             ≡ steps.old + Writes self.new.settling.run.engine.made }
         ensures most { let names = names_of natives.now in
-            OnErr result
-            ((question : Question) (inside : ℕ)
-            → IsWithin (inside + interp_written names self.old) steps.old steps.new self.new
-            (gives names (Next.Asks question) inside self.old (answer ∷ []))) }
+            OnErr result (AnswerWithin names answer steps.new steps.old self.new self.old) }
         ensures inner { self.new.settling.inner ≡ self.old.settling.inner }
         ensures same { IsSameRun self.new self.old }
         ensures holds { Holds self.new self.old }
@@ -294,7 +281,7 @@ impl Interp {
             → gives names result inside self.new further
             ≡ defined_gives names stop defining inside self.old further }
         ensures next { GoesOut result self.new }
-        ensures task { (task : Tasks) × (self.new ≡ record self.old { task = task }) }
+        ensures task { ChangesTask self.new self.old }
         ensures falls { (before : ℕ) → DefineFalls stop defining before
             → Falls result self.new before }
     {
@@ -350,23 +337,10 @@ impl Interp {
     ) -> Result<Next, NoMemory>
         requires { IsWriting self.old }
         ensures stands { let names = names_of natives.now in
-            IfOk result (λ next.
-            (request : Request) → IsSound names self.old
-            → self.old.visit ≡ visit_of names self.old.blueprint.value request
-            → (inside : ℕ) (further : List Answer)
-            → behind names self.old.blueprint.value self.old.moment true request
-            (ending_of self.old.task) (interp_state self.old) inside further
-            ≡ gives names next (inside + taken names steps.new steps.old self.new self.old) self.new
-            further) }
+            IfOk result (λ next. ComesBehind names next steps.new steps.old self.new self.old) }
         ensures counts { Counts (names_of natives.now) steps.new steps.old self.new self.old }
         ensures most { let names = names_of natives.now in
-            OnErr result
-            ((request : Request) → IsSound names self.old
-            → self.old.visit ≡ visit_of names self.old.blueprint.value request
-            → (inside : ℕ)
-            → IsWithin (inside + Writes (interp_state self.old).made) steps.old steps.new self.new
-            (behind names self.old.blueprint.value self.old.moment true request
-            (ending_of self.old.task) (interp_state self.old) inside [])) }
+            OnErr result (BehindWithin names true steps.new steps.old self.new self.old) }
         ensures same { IsSameRun self.new self.old }
         ensures holds { Holds self.new self.old }
         ensures next { IfOk result (λ next. GoesOut next self.new) }
@@ -388,23 +362,10 @@ impl Interp {
     ) -> Result<Next, NoMemory>
         requires { IsWriting self.old }
         ensures stands { let names = names_of natives.now in
-            IfOk result (λ next.
-            (request : Request) → IsSound names self.old
-            → self.old.visit ≡ visit_of names self.old.blueprint.value request
-            → (inside : ℕ) (further : List Answer)
-            → behind names self.old.blueprint.value self.old.moment true request
-            (ending_of self.old.task) (interp_state self.old) inside further
-            ≡ gives names next (inside + taken names steps.new steps.old self.new self.old) self.new
-            further) }
+            IfOk result (λ next. ComesBehind names next steps.new steps.old self.new self.old) }
         ensures counts { Counts (names_of natives.now) steps.new steps.old self.new self.old }
         ensures most { let names = names_of natives.now in
-            OnErr result
-            ((request : Request) → IsSound names self.old
-            → self.old.visit ≡ visit_of names self.old.blueprint.value request
-            → (inside : ℕ)
-            → IsWithin (inside + Writes (interp_state self.old).made) steps.old steps.new self.new
-            (behind names self.old.blueprint.value self.old.moment true request
-            (ending_of self.old.task) (interp_state self.old) inside [])) }
+            OnErr result (BehindWithin names true steps.new steps.old self.new self.old) }
         ensures same { IsSameRun self.new self.old }
         ensures holds { Holds self.new self.old }
         ensures next { IfOk result (λ next. GoesOut next self.new) }
@@ -429,29 +390,20 @@ impl Interp {
         requires { IsReady budget self.old.settling }
         ensures gives { let names = names_of natives.now in
             IfOk result (λ step.
-            (inside : ℕ) (further : List Answer)
-            → move_gives names step (inside + taken names steps.new steps.old self.new self.old)
-            self.new further
-            ≡ traces_from names self.old.blueprint.value self.old.moment
-            (drop next self.old.visit.trace) self.old.cleanups ending (interp_state self.old)
-            (account_of budget self.old.settling.questions inside) further) }
+            MovesAlong names step steps.new steps.old self.new self.old
+            (way_from self.old budget (trace_from names self.old next ending))) }
         ensures counts { Counts (names_of natives.now) steps.new steps.old self.new self.old }
         ensures most { let names = names_of natives.now in
             OnErr result
-            ((inside : ℕ)
-            → IsWithin (inside + interp_written names self.old) steps.old steps.new self.new
-            (traces_from names self.old.blueprint.value self.old.moment
-            (drop next self.old.visit.trace) self.old.cleanups ending (interp_state self.old)
-            (account_of budget self.old.settling.questions inside) [])) }
+            (WayWithin names steps.new steps.old self.new self.old
+            (way_from self.old budget (trace_from names self.old next ending))) }
         ensures lowers { IfOk result (λ step.
             Lowers step self.new
             ((length self.old.visit.trace - next) + length self.old.cleanups + 1)) }
         ensures same { IsSameRun self.new self.old }
         ensures holds { Holds self.new self.old }
         ensures next { IfOk result (λ step. MoveStandsAt step self.new) }
-        ensures falls { IfOk result (λ step.
-            (before : ℕ) → per_question * self.old.settling.questions + 2 < before
-            → MoveFalls step self.new before) }
+        ensures falls { IfOk result (λ step. PartFalls step self.new self.old) }
     {
         made_grows::<RunHost>();
         let found = words_at(self.alloc, &self.visit.trace, next)?;
@@ -481,37 +433,20 @@ impl Interp {
         requires { IsReady self.old.settling.run.engine.budget self.old.settling }
         ensures gives { let names = names_of natives.now in
             IfOk result (λ step.
-            (inside : ℕ) (further : List Answer)
-            → move_gives names step (inside + taken names steps.new steps.old self.new self.old)
-            self.new further
-            ≡ trace_end
-            (traces_from names self.old.blueprint.value self.old.moment
-            (drop next self.old.visit.trace) self.old.cleanups ending)
-            (cleanups_from names self.old.blueprint.value self.old.moment self.old.cleanups ending)
-            (verdict code value) (interp_state self.old)
-            (account_of self.old.settling.run.engine.budget self.old.settling.questions inside)
-            further) }
+            MovesAlong names step steps.new steps.old self.new self.old
+            (way_on self.old (trace_ended names self.old next ending (verdict code value)))) }
         ensures counts { Counts (names_of natives.now) steps.new steps.old self.new self.old }
         ensures most { let names = names_of natives.now in
             OnErr result
-            ((inside : ℕ)
-            → IsWithin (inside + interp_written names self.old) steps.old steps.new self.new
-            (trace_end
-            (traces_from names self.old.blueprint.value self.old.moment
-            (drop next self.old.visit.trace) self.old.cleanups ending)
-            (cleanups_from names self.old.blueprint.value self.old.moment self.old.cleanups ending)
-            (verdict code value) (interp_state self.old)
-            (account_of self.old.settling.run.engine.budget self.old.settling.questions inside)
-            [])) }
+            (WayWithin names steps.new steps.old self.new self.old
+            (way_on self.old (trace_ended names self.old next ending (verdict code value)))) }
         ensures lowers { IfOk result (λ step.
             Lowers step self.new
             ((length self.old.visit.trace - next) + length self.old.cleanups + 1)) }
         ensures same { IsSameRun self.new self.old }
         ensures holds { Holds self.new self.old }
         ensures next { IfOk result (λ step. MoveStandsAt step self.new) }
-        ensures falls { IfOk result (λ step.
-            (before : ℕ) → per_question * self.old.settling.questions + 2 < before
-            → MoveFalls step self.new before) }
+        ensures falls { IfOk result (λ step. PartFalls step self.new self.old) }
     {
         let budget = self.settling.run.engine.left();
         let said = verdict_of(code, &value);
@@ -536,28 +471,19 @@ impl Interp {
         requires { IsReady budget self.old.settling }
         ensures gives { let names = names_of natives.now in
             IfOk result (λ step.
-            (inside : ℕ) (further : List Answer)
-            → move_gives names step (inside + taken names steps.new steps.old self.new self.old)
-            self.new further
-            ≡ cleanups_from names self.old.blueprint.value self.old.moment
-            (drop next self.old.cleanups) ending (interp_state self.old)
-            (account_of budget self.old.settling.questions inside) further) }
+            MovesAlong names step steps.new steps.old self.new self.old
+            (way_from self.old budget (cleaned names self.old next ending))) }
         ensures counts { Counts (names_of natives.now) steps.new steps.old self.new self.old }
         ensures most { let names = names_of natives.now in
             OnErr result
-            ((inside : ℕ)
-            → IsWithin (inside + interp_written names self.old) steps.old steps.new self.new
-            (cleanups_from names self.old.blueprint.value self.old.moment
-            (drop next self.old.cleanups) ending (interp_state self.old)
-            (account_of budget self.old.settling.questions inside) [])) }
+            (WayWithin names steps.new steps.old self.new self.old
+            (way_from self.old budget (cleaned names self.old next ending))) }
         ensures lowers { IfOk result (λ step.
             Lowers step self.new (length self.old.cleanups - next)) }
         ensures same { IsSameRun self.new self.old }
         ensures holds { Holds self.new self.old }
         ensures next { IfOk result (λ step. MoveStandsAt step self.new) }
-        ensures falls { IfOk result (λ step.
-            (before : ℕ) → per_question * self.old.settling.questions + 2 < before
-            → MoveFalls step self.new before) }
+        ensures falls { IfOk result (λ step. PartFalls step self.new self.old) }
     {
         made_grows::<RunHost>();
         let found = text_at(self.alloc, &self.cleanups, next)?;
