@@ -1,13 +1,11 @@
 //! Interpreters at a place of their own in memory.
 
-ghost use Rattle.std.specs.Prelude.{◌≡◌, ◌≤◌, ◌+◌, ◌*◌, None, IfOk, OnOk, OnErr, false};
+ghost use Rattle.std.specs.Prelude.{◌≡◌, ◌≤◌, ◌+◌, IfOk, OnOk, OnErr, false};
 ghost use Rattle.txt_core.specs.Names.{Names};
 ghost use Rattle.cmd_table.specs.Commands.{Writes};
-ghost use Rattle.blueprint.specs.States.{first_misfit};
 ghost use Rattle.natives.specs.Names.{names_of};
-ghost use Rattle.server_host.specs.Hosts.{added};
 ghost use Rattle.ictl.specs.Fresh.{build_steps};
-ghost use Rattle.ictl.specs.Interps.{IsSound, IsNew};
+ghost use Rattle.ictl.specs.Interps.{IsSound, IsNew, IsNewOnSome, StaysNew, AllApply, IsUpdated, update_steps, KeepsMark};
 
 use crate::interp::Interp;
 use cmd_table::{Defs, Steps};
@@ -94,8 +92,7 @@ impl BoxedInterp {
         ensures steps { (names : Names) → IsSound names self.old
             → steps.new ≡ steps.old + Writes self.old.settling.run.engine.made }
         ensures blueprint { self.new.blueprint.value ≡ self.old.blueprint.value }
-        ensures marked { self.new.settling.run.engine.host.marked
-            ≡ self.old.settling.run.engine.host.marked }
+        ensures marked { KeepsMark self.new self.old }
     {
         self.interp.reset(steps);
     }
@@ -110,18 +107,15 @@ impl BoxedInterp {
         defs: &Defs,
         steps: &mut Steps<L>,
     ) -> Result<(), NoMemory>
-        requires is_new { (names : Names) × IsNew names self.old }
-        requires applies { first_misfit self.old.settling.run.engine.table.table defs.now ≡ None }
-        ensures ok { OnOk result ((names : Names) → IsNew names self.old → IsNew names self.new) }
-        ensures blueprint { OnOk result
-            (self.new.blueprint.value ≡ added self.old.blueprint.value epoch defs.now) }
+        requires is_new { IsNewOnSome self.old }
+        requires applies { AllApply defs.now self.old }
+        ensures ok { OnOk result (StaysNew self.new self.old) }
+        ensures blueprint { OnOk result (IsUpdated epoch defs.now self.new self.old) }
         ensures err { OnErr result
-            (((names : Names) → IsNew names self.old → IsNew names self.new)
-            × (self.new.blueprint.value ≡ self.old.blueprint.value)) }
-        ensures marked { self.new.settling.run.engine.host.marked
-            ≡ self.old.settling.run.engine.host.marked }
+            (StaysNew self.new self.old × (self.new.blueprint.value ≡ self.old.blueprint.value)) }
+        ensures marked { KeepsMark self.new self.old }
         ensures steps { OnOk result (steps.new ≡ steps.old + Writes defs.now) }
-        ensures most { steps.new ≤ steps.old + 2 * Writes defs.now }
+        ensures most { steps.new ≤ steps.old + update_steps defs.now }
     {
         self.interp.update(epoch, defs, steps)
     }

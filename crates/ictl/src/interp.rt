@@ -1,25 +1,22 @@
 //! Interpreters.
 
-ghost use Rattle.std.specs.Prelude.{◌≡◌, ◌≤◌, ◌<◌, ◌+◌, ◌-◌, ◌*◌, ◌++◌, ◌∷◌, [], ℕ, List, Some, None, false, IfOk, OnOk, OnErr, MatchResult, length, take};
+ghost use Rattle.std.specs.Prelude.{◌≡◌, ◌≤◌, ◌+◌, [], ℕ, List, Some, None, false, IfOk, OnOk, OnErr, MatchResult};
 ghost use Rattle.txt_core.specs.Names.{Names};
 ghost use Rattle.cmd_table.specs.Commands.{Writes};
-ghost use Rattle.blueprint.specs.States.{first_misfit};
 ghost use Rattle.natives.specs.Names.{names_of};
 ghost use Rattle.outside.specs.declared.question.Answer.{Answer};
-ghost use Rattle.outside.specs.declared.question.Question.{Question};
 ghost use Rattle.http_req.specs.declared.request.Request.{Request};
 ghost use Rattle.server_host.specs.Hosts.{added};
 ghost use Rattle.ictl.specs.Fresh.{build_steps, updated};
-ghost use Rattle.tcl_frame.specs.Base.{IsAtBase};
-ghost use Rattle.tcl_eval.specs.Engine.{state_of, IsIdle};
+ghost use Rattle.tcl_eval.specs.Engine.{IsIdle};
 ghost use Rattle.url_tables.specs.Tables.{IsBuiltOf};
-ghost use Rattle.ictl.specs.Visits.{cleanups_of, visit_of};
+ghost use Rattle.ictl.specs.Visits.{cleanups_of};
 ghost use Rattle.ictl.specs.Steps.{cut_stop, cut_reply};
-ghost use Rattle.ictl.specs.Main.{Main, Script, Define, behind, both, answered};
-ghost use Rattle.ictl.specs.Interps.{IsSound, IsNew, Holds, IsSameRun, ending_of, interp_state, interp_written, IsWithin, spare_of, restored, taken, Counts, goes_to, gives, move_gives, UnlessNoMemory, Stands, GoesOn, StandsOn};
+ghost use Rattle.ictl.specs.Main.{Main, Script, Define, both, answered};
+ghost use Rattle.ictl.specs.Interps.{IsSound, IsNew, Holds, IsSameRun, ending_of, interp_state, spare_of, restored, taken, Counts, goes_to, gives, move_gives, UnlessNoMemory, Stands, GoesOn, StandsOn, IsNewOnSome, StaysNew, StaysSound, AllApply, IsUpdated, update_steps, KeepsMark, Begins, BeginsWithin, GoesBehind, BehindWithin, IsVisitOf, Continues, AnswerWithin};
 ghost use Rattle.ictl.specs.Steps.{Lowers, scripts_left};
-ghost use Rattle.ictl.specs.declared.task.Task.{Task as Tasks};
 ghost use Rattle.ictl.specs.Falls.{IsAsking, IsWriting, StandsAt, GoesOut, MoveStandsAt, IsScriptTask, SettlingAt, number_of, first_number, Falls, MoveFalls, StopFalls, EndFalls};
+ghost use Rattle.ictl.specs.Ways.{ChangesTask, stop_way, move_way, MovesAlong, AnswersAlong, WayWithin};
 
 use crate::building::{Tables, copy_edition, define_all, engine_on, has_procedure, tables_of};
 use crate::ending::{Ending, both};
@@ -196,17 +193,16 @@ impl Interp {
     ) -> Next
         requires { IsNew (names_of natives.now) self.old }
         ensures stands { let names = names_of natives.now in
-            Stands names (Main names self.old.blueprint.value request moment) result
-            (taken names steps.new steps.old self.new self.old) self.new [] }
+            Begins names (Main names self.old.blueprint.value request moment) result steps.new
+            steps.old self.new self.old }
         ensures counts { Counts (names_of natives.now) steps.new steps.old self.new self.old }
         ensures most { let names = names_of natives.now in
-            IsWithin 0 steps.old steps.new self.new
-            (Main names self.old.blueprint.value request moment []) }
+            BeginsWithin (Main names self.old.blueprint.value request moment) steps.new steps.old
+            self.new }
         ensures visit { UnlessNoMemory result
-            ((self.new.visit ≡ visit_of (names_of natives.now) self.old.blueprint.value request)
-            × (self.new.moment ≡ moment)) }
+            (IsVisitOf (names_of natives.now) request moment self.new self.old) }
         ensures holds { Holds self.new self.old }
-        ensures sound { (names : Names) → IsSound names self.old → IsSound names self.new }
+        ensures sound { StaysSound self.new self.old }
         ensures next { StandsAt result self.new }
         ensures falls { Falls result self.new first_number }
     {
@@ -226,14 +222,14 @@ impl Interp {
     ) -> Next
         requires { IsNew (names_of natives.now) self.old }
         ensures stands { let names = names_of natives.now in
-            Stands names (Script names self.old.blueprint.value script.now moment) result
-            (taken names steps.new steps.old self.new self.old) self.new [] }
+            Begins names (Script names self.old.blueprint.value script.now moment) result steps.new
+            steps.old self.new self.old }
         ensures counts { Counts (names_of natives.now) steps.new steps.old self.new self.old }
         ensures most { let names = names_of natives.now in
-            IsWithin 0 steps.old steps.new self.new
-            (Script names self.old.blueprint.value script.now moment []) }
+            BeginsWithin (Script names self.old.blueprint.value script.now moment) steps.new
+            steps.old self.new }
         ensures holds { Holds self.new self.old }
-        ensures sound { (names : Names) → IsSound names self.old → IsSound names self.new }
+        ensures sound { StaysSound self.new self.old }
         ensures next { StandsAt result self.new }
         ensures falls { Falls result self.new first_number }
     {
@@ -258,10 +254,10 @@ impl Interp {
         ensures steps { steps.new + Writes self.old.settling.run.engine.made
             ≡ steps.old + Writes self.new.settling.run.engine.made }
         ensures most { let names = names_of natives.now in
-            IsWithin 0 steps.old steps.new self.new
-            (Define names self.old.blueprint.value script.now moment []) }
+            BeginsWithin (Define names self.old.blueprint.value script.now moment) steps.new
+            steps.old self.new }
         ensures holds { Holds self.new self.old }
-        ensures sound { (names : Names) → IsSound names self.old → IsSound names self.new }
+        ensures sound { StaysSound self.new self.old }
         ensures next { StandsAt result self.new }
         ensures falls { Falls result self.new first_number }
     {
@@ -287,12 +283,10 @@ impl Interp {
             self.old answer }
         ensures counts { Counts (names_of natives.now) steps.new steps.old self.new self.old }
         ensures most { let names = names_of natives.now in
-            (question : Question) (inside : ℕ)
-            → IsWithin (inside + interp_written names self.old) steps.old steps.new self.new
-            (gives names (Next.Asks question) inside self.old (answer ∷ [])) }
+            AnswerWithin names answer steps.new steps.old self.new self.old }
         ensures same { IsSameRun self.new self.old }
         ensures holds { Holds self.new self.old }
-        ensures sound { (names : Names) → IsSound names self.old → IsSound names self.new }
+        ensures sound { StaysSound self.new self.old }
         ensures next { StandsAt result self.new }
         ensures falls { Falls result self.new (number_of self.old) }
     {
@@ -308,27 +302,16 @@ impl Interp {
     ) -> Next
         requires { IsWriting self.old }
         ensures stands { let names = names_of natives.now in
-            (request : Request) → IsSound names self.old
-            → self.old.visit ≡ visit_of names self.old.blueprint.value request
-            → (inside : ℕ)
-            → Stands names
-            (behind names self.old.blueprint.value self.old.moment whole request
-            (ending_of self.old.task) (interp_state self.old) inside)
-            result (inside + taken names steps.new steps.old self.new self.old) self.new [] }
+            GoesBehind names whole result steps.new steps.old self.new self.old }
         ensures unwritten { whole ≡ false
             → (result ≡ Next.Ended (both (ending_of self.old.task) answered))
             × (steps.new ≡ steps.old) }
         ensures counts { Counts (names_of natives.now) steps.new steps.old self.new self.old }
         ensures most { let names = names_of natives.now in
-            (request : Request) → IsSound names self.old
-            → self.old.visit ≡ visit_of names self.old.blueprint.value request
-            → (inside : ℕ)
-            → IsWithin (inside + Writes (interp_state self.old).made) steps.old steps.new self.new
-            (behind names self.old.blueprint.value self.old.moment whole request
-            (ending_of self.old.task) (interp_state self.old) inside []) }
+            BehindWithin names whole steps.new steps.old self.new self.old }
         ensures same { IsSameRun self.new self.old }
         ensures holds { Holds self.new self.old }
-        ensures sound { (names : Names) → IsSound names self.old → IsSound names self.new }
+        ensures sound { StaysSound self.new self.old }
         ensures next { StandsAt result self.new }
         ensures falls { Falls result self.new first_number }
     {
@@ -349,8 +332,7 @@ impl Interp {
         ensures steps { (names : Names) → IsSound names self.old
             → steps.new ≡ steps.old + Writes self.old.settling.run.engine.made }
         ensures blueprint { self.new.blueprint.value ≡ self.old.blueprint.value }
-        ensures marked { self.new.settling.run.engine.host.marked
-            ≡ self.old.settling.run.engine.host.marked }
+        ensures marked { KeepsMark self.new self.old }
     {
         let mark = self.mark.min(self.settling.run.engine.mark());
         leave_inner(&mut self.settling.inner);
@@ -393,18 +375,15 @@ impl Interp {
         defs: &Defs,
         steps: &mut Steps<L>,
     ) -> Result<(), NoMemory>
-        requires is_new { (names : Names) × IsNew names self.old }
-        requires applies { first_misfit self.old.settling.run.engine.table.table defs.now ≡ None }
-        ensures ok { OnOk result ((names : Names) → IsNew names self.old → IsNew names self.new) }
-        ensures blueprint { OnOk result
-            (self.new.blueprint.value ≡ added self.old.blueprint.value epoch defs.now) }
+        requires is_new { IsNewOnSome self.old }
+        requires applies { AllApply defs.now self.old }
+        ensures ok { OnOk result (StaysNew self.new self.old) }
+        ensures blueprint { OnOk result (IsUpdated epoch defs.now self.new self.old) }
         ensures err { OnErr result
-            (((names : Names) → IsNew names self.old → IsNew names self.new)
-            × (self.new.blueprint.value ≡ self.old.blueprint.value)) }
-        ensures marked { self.new.settling.run.engine.host.marked
-            ≡ self.old.settling.run.engine.host.marked }
+            (StaysNew self.new self.old × (self.new.blueprint.value ≡ self.old.blueprint.value)) }
+        ensures marked { KeepsMark self.new self.old }
         ensures steps { OnOk result (steps.new ≡ steps.old + Writes defs.now) }
-        ensures most { steps.new ≤ steps.old + 2 * Writes defs.now }
+        ensures most { steps.new ≤ steps.old + update_steps defs.now }
     {
         let name = Text::new(self.alloc, AUTHORISER)?;
         let (tables, shared) = self.later(epoch, defs)?;
@@ -457,8 +436,8 @@ impl Interp {
 
     /// Puts further definitions into the engine, or none where memory wants.
     fn define_more<L: Ledger>(&mut self, defs: &Defs, steps: &mut Steps<L>) -> Result<(), NoMemory>
-        requires is_new { (names : Names) × IsNew names self.old }
-        requires applies { first_misfit self.old.settling.run.engine.table.table defs.now ≡ None }
+        requires is_new { IsNewOnSome self.old }
+        requires applies { AllApply defs.now self.old }
         ensures ok { OnOk result
             ((interp_state self.new ≡ updated defs.now (interp_state self.old))
             × (self.new ≡ record self.old { settling = self.new.settling })) }
@@ -469,7 +448,7 @@ impl Interp {
         ensures idle { IsIdle self.new.settling.run.engine }
         ensures inner { self.new.settling.inner ≡ self.old.settling.inner }
         ensures steps { OnOk result (steps.new ≡ steps.old + Writes defs.now) }
-        ensures most { steps.new ≤ steps.old + 2 * Writes defs.now }
+        ensures most { steps.new ≤ steps.old + update_steps defs.now }
     {
         let mark = self.mark;
         let engine = &mut self.settling.run.engine;
@@ -496,16 +475,11 @@ impl Interp {
         requires { IsAsking self.old }
         ensures step { let names = names_of natives.now in
             IfOk result (λ next.
-            (question : Question) (inside : ℕ) (further : List Answer)
-            → gives names next (inside + taken names steps.new steps.old self.new self.old) self.new
-            further
-            ≡ gives names (Next.Asks question) inside self.old (answer ∷ further)) }
+            Continues names next (taken names steps.new steps.old self.new self.old) self.new
+            self.old answer) }
         ensures counts { Counts (names_of natives.now) steps.new steps.old self.new self.old }
         ensures most { let names = names_of natives.now in
-            OnErr result
-            ((question : Question) (inside : ℕ)
-            → IsWithin (inside + interp_written names self.old) steps.old steps.new self.new
-            (gives names (Next.Asks question) inside self.old (answer ∷ []))) }
+            OnErr result (AnswerWithin names answer steps.new steps.old self.new self.old) }
         ensures same { IsSameRun self.new self.old }
         ensures holds { Holds self.new self.old }
         ensures next { IfOk result (λ next. GoesOut next self.new) }
@@ -543,16 +517,13 @@ impl Interp {
         requires { MoveStandsAt step self.old }
         ensures gives { let names = names_of natives.now in
             IfOk result (λ next.
-            (inside : ℕ) (further : List Answer)
-            → gives names next (inside + taken names steps.new steps.old self.new self.old) self.new
-            further
-            ≡ move_gives names step inside self.old further) }
+            AnswersAlong names next steps.new steps.old self.new self.old
+            (move_way names self.old step)) }
         ensures counts { Counts (names_of natives.now) steps.new steps.old self.new self.old }
         ensures most { let names = names_of natives.now in
             OnErr result
-            ((inside : ℕ)
-            → IsWithin (inside + interp_written names self.old) steps.old steps.new self.new
-            (move_gives names step inside self.old [])) }
+            (WayWithin names steps.new steps.old self.new self.old
+            (move_way names self.old step)) }
         ensures same { IsSameRun self.new self.old }
         ensures holds { Holds self.new self.old }
         ensures next { IfOk result (λ next. GoesOut next self.new) }
@@ -584,9 +555,8 @@ impl Interp {
         ensures counts { Counts (names_of natives.now) steps.new steps.old self.new self.old }
         ensures most { let names = names_of natives.now in
             OnErr result
-            ((inside : ℕ)
-            → IsWithin (inside + interp_written names self.old) steps.old steps.new self.new
-            (goes_to names stop inside self.old [])) }
+            (WayWithin names steps.new steps.old self.new self.old
+            (stop_way names self.old stop)) }
         ensures same { IsSameRun self.new self.old }
         ensures holds { Holds self.new self.old }
         ensures next { IfOk result (λ next. GoesOut next self.new) }
@@ -620,9 +590,8 @@ impl Interp {
         ensures counts { Counts (names_of natives.now) steps.new steps.old self.new self.old }
         ensures most { let names = names_of natives.now in
             OnErr result
-            ((inside : ℕ)
-            → IsWithin (inside + interp_written names self.old) steps.old steps.new self.new
-            (goes_to names stop inside self.old [])) }
+            (WayWithin names steps.new steps.old self.new self.old
+            (stop_way names self.old stop)) }
         ensures lowers { IfOk result (λ step.
             Lowers step self.new (scripts_left self.old.visit self.old.cleanups self.old.task)) }
         ensures same { IsSameRun self.new self.old }
@@ -653,16 +622,13 @@ impl Interp {
         requires { SettlingAt (Stop.Ended code value) self.old.settling }
         ensures gives { let names = names_of natives.now in
             IfOk result (λ step.
-            (inside : ℕ) (further : List Answer)
-            → move_gives names step (inside + taken names steps.new steps.old self.new self.old)
-            self.new further
-            ≡ goes_to names (Stop.Ended code value) inside self.old further) }
+            MovesAlong names step steps.new steps.old self.new self.old
+            (stop_way names self.old (Stop.Ended code value))) }
         ensures counts { Counts (names_of natives.now) steps.new steps.old self.new self.old }
         ensures most { let names = names_of natives.now in
             OnErr result
-            ((inside : ℕ)
-            → IsWithin (inside + interp_written names self.old) steps.old steps.new self.new
-            (goes_to names (Stop.Ended code value) inside self.old [])) }
+            (WayWithin names steps.new steps.old self.new self.old
+            (stop_way names self.old (Stop.Ended code value))) }
         ensures lowers { IfOk result (λ step.
             Lowers step self.new (scripts_left self.old.visit self.old.cleanups self.old.task)) }
         ensures same { IsSameRun self.new self.old }
@@ -724,7 +690,7 @@ impl Interp {
         ensures stops { IfOk result (λ step.
             (before : ℕ) → Lowers step self.new before × MoveFalls step self.new before) }
         ensures next { IfOk result (λ step. MoveStandsAt step self.new) }
-        ensures rest { (task : Tasks) × (self.new ≡ record self.old { task = task }) }
+        ensures rest { ChangesTask self.new self.old }
     {
         match self.task {
             Task::Trace { ending: first, .. } => Ok(self.cut_behind(first, ending)),

@@ -1,15 +1,13 @@
 //! Runs: an interpreter with what it answered last.
 
-ghost use Rattle.std.specs.Prelude.{◌≡◌, ◌≤◌, ◌+◌, ◌++◌, ◌∷◌, [], ℕ, List, false};
-ghost use Rattle.txt_core.specs.Names.{Names};
+ghost use Rattle.std.specs.Prelude.{◌≡◌, ◌+◌, [], false};
 ghost use Rattle.cmd_table.specs.Commands.{Writes};
 ghost use Rattle.natives.specs.Names.{names_of};
 ghost use Rattle.outside.specs.declared.question.Answer.{Answer};
 ghost use Rattle.outside.specs.declared.question.Question.{Question};
 ghost use Rattle.http_req.specs.declared.request.Request.{Request};
-ghost use Rattle.ictl.specs.Visits.{visit_of};
-ghost use Rattle.ictl.specs.Main.{Main, Script, Define, behind, both, answered};
-ghost use Rattle.ictl.specs.Interps.{IsSound, IsNew, Holds, IsSameRun, ending_of, interp_state, interp_written, IsWithin, taken, Counts, gives, UnlessNoMemory, Stands, GoesOn, StandsOn};
+ghost use Rattle.ictl.specs.Main.{Main, Script, Define, both, answered};
+ghost use Rattle.ictl.specs.Interps.{IsNew, Holds, IsSameRun, ending_of, taken, Counts, UnlessNoMemory, Stands, GoesOn, StandsOn, StaysSound, Begins, BeginsWithin, GoesBehind, BehindWithin, IsVisitOf, AnswerWithin};
 ghost use Rattle.ictl.specs.Falls.{StandsAt, number_of, first_number, Falls};
 
 use crate::boxed::BoxedInterp;
@@ -68,17 +66,16 @@ impl Run {
     ) -> Run
         requires { IsNew (names_of natives.now) interp }
         ensures stands { let names = names_of natives.now in
-            Stands names (Main names interp.blueprint.value request moment) result.next
-            (taken names steps.new steps.old result.interp interp) result.interp [] }
+            Begins names (Main names interp.blueprint.value request moment) result.next steps.new
+            steps.old result.interp interp }
         ensures counts { Counts (names_of natives.now) steps.new steps.old result.interp interp }
         ensures most { let names = names_of natives.now in
-            IsWithin 0 steps.old steps.new result.interp
-            (Main names interp.blueprint.value request moment []) }
+            BeginsWithin (Main names interp.blueprint.value request moment) steps.new steps.old
+            result.interp }
         ensures visit { UnlessNoMemory result.next
-            ((result.interp.visit ≡ visit_of (names_of natives.now) interp.blueprint.value request)
-            × (result.interp.moment ≡ moment)) }
+            (IsVisitOf (names_of natives.now) request moment result.interp interp) }
         ensures holds { Holds result.interp interp }
-        ensures sound { (names : Names) → IsSound names interp → IsSound names result.interp }
+        ensures sound { StaysSound result.interp interp }
         ensures falls { Falls result.next result.interp first_number }
     {
         let next = interp.interp.start_request(natives, request, moment, steps);
@@ -99,14 +96,14 @@ impl Run {
     ) -> Run
         requires { IsNew (names_of natives.now) interp }
         ensures stands { let names = names_of natives.now in
-            Stands names (Script names interp.blueprint.value script.now moment) result.next
-            (taken names steps.new steps.old result.interp interp) result.interp [] }
+            Begins names (Script names interp.blueprint.value script.now moment) result.next
+            steps.new steps.old result.interp interp }
         ensures counts { Counts (names_of natives.now) steps.new steps.old result.interp interp }
         ensures most { let names = names_of natives.now in
-            IsWithin 0 steps.old steps.new result.interp
-            (Script names interp.blueprint.value script.now moment []) }
+            BeginsWithin (Script names interp.blueprint.value script.now moment) steps.new
+            steps.old result.interp }
         ensures holds { Holds result.interp interp }
-        ensures sound { (names : Names) → IsSound names interp → IsSound names result.interp }
+        ensures sound { StaysSound result.interp interp }
         ensures falls { Falls result.next result.interp first_number }
     {
         let next = interp.interp.start_script(natives, script, moment, steps);
@@ -135,10 +132,10 @@ impl Run {
         ensures steps { steps.new + Writes interp.settling.run.engine.made
             ≡ steps.old + Writes result.interp.settling.run.engine.made }
         ensures most { let names = names_of natives.now in
-            IsWithin 0 steps.old steps.new result.interp
-            (Define names interp.blueprint.value script.now moment []) }
+            BeginsWithin (Define names interp.blueprint.value script.now moment) steps.new
+            steps.old result.interp }
         ensures holds { Holds result.interp interp }
-        ensures sound { (names : Names) → IsSound names interp → IsSound names result.interp }
+        ensures sound { StaysSound result.interp interp }
         ensures falls { Falls result.next result.interp first_number }
     {
         let next = interp.interp.start_define(natives, script, moment, steps);
@@ -191,14 +188,10 @@ impl Run {
         ensures counts { Counts (names_of natives.now) steps.new steps.old self.new.interp
             self.old.interp }
         ensures most { let names = names_of natives.now in
-            (question : Question) (inside : ℕ)
-            → IsWithin (inside + interp_written names self.old.interp) steps.old steps.new
-            self.new.interp
-            (gives names (Next.Asks question) inside self.old.interp (answer ∷ [])) }
+            AnswerWithin names answer steps.new steps.old self.new.interp self.old.interp }
         ensures same { IsSameRun self.new.interp self.old.interp }
         ensures holds { Holds self.new.interp self.old.interp }
-        ensures sound { (names : Names) → IsSound names self.old.interp
-            → IsSound names self.new.interp }
+        ensures sound { StaysSound self.new.interp self.old.interp }
         ensures falls { Falls self.new.next self.new.interp (number_of self.old.interp) }
     {
         self.next = self.interp.interp.resume(natives, answer, steps);
@@ -211,32 +204,18 @@ impl Run {
     pub fn written<L: Ledger>(&mut self, natives: &Natives, whole: bool, steps: &mut Steps<L>)
         requires { IsAtResponse self.old }
         ensures stands { let names = names_of natives.now in
-            (request : Request) → IsSound names self.old.interp
-            → self.old.interp.visit ≡ visit_of names self.old.interp.blueprint.value request
-            → (inside : ℕ)
-            → Stands names
-            (behind names self.old.interp.blueprint.value self.old.interp.moment whole request
-            (ending_of self.old.interp.task) (interp_state self.old.interp) inside)
-            self.new.next
-            (inside + taken names steps.new steps.old self.new.interp self.old.interp)
-            self.new.interp [] }
+            GoesBehind names whole self.new.next steps.new steps.old self.new.interp
+            self.old.interp }
         ensures unwritten { whole ≡ false
             → (self.new.next ≡ Next.Ended (both (ending_of self.old.interp.task) answered))
             × (steps.new ≡ steps.old) }
         ensures counts { Counts (names_of natives.now) steps.new steps.old self.new.interp
             self.old.interp }
         ensures most { let names = names_of natives.now in
-            (request : Request) → IsSound names self.old.interp
-            → self.old.interp.visit ≡ visit_of names self.old.interp.blueprint.value request
-            → (inside : ℕ)
-            → IsWithin (inside + Writes (interp_state self.old.interp).made) steps.old steps.new
-            self.new.interp
-            (behind names self.old.interp.blueprint.value self.old.interp.moment whole request
-            (ending_of self.old.interp.task) (interp_state self.old.interp) inside []) }
+            BehindWithin names whole steps.new steps.old self.new.interp self.old.interp }
         ensures same { IsSameRun self.new.interp self.old.interp }
         ensures holds { Holds self.new.interp self.old.interp }
-        ensures sound { (names : Names) → IsSound names self.old.interp
-            → IsSound names self.new.interp }
+        ensures sound { StaysSound self.new.interp self.old.interp }
         ensures falls { Falls self.new.next self.new.interp first_number }
     {
         self.next = self.interp.interp.written(natives, whole, steps);
