@@ -9,7 +9,7 @@ use crate::command::Cmd;
 use crate::copy::copy_cmd;
 use natives::Places;
 use std::alloc::Global;
-use txt_core::{NoMemory, Text};
+use txt_core::{NoMemory, Text, same_bytes};
 
 /// A name with what it stands for.
 #[derive(Debug, Drop)]
@@ -30,7 +30,7 @@ pub(crate) fn is_own(cmd: Option<&Cmd>, name: &Text) -> bool
     ensures { IsTrue result ↔ (option_copied cmd.entry ≡ Some (Cmd.Built name.now)) }
 {
     match cmd {
-        Some(Cmd::Built(own)) => own.bytes() == name.bytes(),
+        Some(Cmd::Built(own)) => same_bytes(own.bytes(), name.bytes()),
         Some(Cmd::Proc { .. }) | None => false,
     }
 }
@@ -40,7 +40,7 @@ fn of_name<'a>(looked: &'a Looked, name: &Text) -> Option<&'a Looked>
     ensures { IfSome result (λ found.
         (looked.now.name ≡ name.now) × (found.now ≡ looked.now)) }
 {
-    if looked.name.bytes() != name.bytes() {
+    if !same_bytes(looked.name.bytes(), name.bytes()) {
         return None;
     }
     Some(looked)

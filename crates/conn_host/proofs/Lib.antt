@@ -7,4 +7,3 @@ pub mod Finding
 pub mod Placing
 pub mod Showing
 pub mod Telling
-pub mod Naming

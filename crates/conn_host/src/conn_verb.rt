@@ -3,7 +3,7 @@
 ghost use Rattle.std.specs.Prelude.{◌≡◌};
 ghost use Rattle.conn_host.specs.RequestCommands.{conn_verb_of, conn_takes};
 
-use crate::name::is_name;
+use txt_core::same_bytes;
 
 /// A subcommand of `ns_conn`.
 #[derive(Clone, Copy, Debug, PartialEq, Eq)]
@@ -29,35 +29,35 @@ pub enum ConnVerb {
 pub fn find_conn_verb(name: &[u8]) -> Option<ConnVerb>
     ensures { result ≡ conn_verb_of name.now }
 {
-    if is_name(name, b"method") {
+    if same_bytes(name, b"method") {
         Some(ConnVerb::Method)
-    } else if is_name(name, b"url") {
+    } else if same_bytes(name, b"url") {
         Some(ConnVerb::Url)
-    } else if is_name(name, b"query") {
+    } else if same_bytes(name, b"query") {
         Some(ConnVerb::Query)
-    } else if is_name(name, b"content") {
+    } else if same_bytes(name, b"content") {
         Some(ConnVerb::Content)
-    } else if is_name(name, b"peeraddr") {
+    } else if same_bytes(name, b"peeraddr") {
         Some(ConnVerb::Peeraddr)
-    } else if is_name(name, b"headers") {
+    } else if same_bytes(name, b"headers") {
         Some(ConnVerb::Headers)
-    } else if is_name(name, b"outputheaders") {
+    } else if same_bytes(name, b"outputheaders") {
         Some(ConnVerb::Outputheaders)
-    } else if is_name(name, b"form") {
+    } else if same_bytes(name, b"form") {
         Some(ConnVerb::Form)
-    } else if is_name(name, b"contentlength") {
+    } else if same_bytes(name, b"contentlength") {
         Some(ConnVerb::Contentlength)
-    } else if is_name(name, b"urlv") {
+    } else if same_bytes(name, b"urlv") {
         Some(ConnVerb::Urlv)
-    } else if is_name(name, b"urlc") {
+    } else if same_bytes(name, b"urlc") {
         Some(ConnVerb::Urlc)
-    } else if is_name(name, b"version") {
+    } else if same_bytes(name, b"version") {
         Some(ConnVerb::Version)
-    } else if is_name(name, b"request") {
+    } else if same_bytes(name, b"request") {
         Some(ConnVerb::Request)
-    } else if is_name(name, b"authuser") {
+    } else if same_bytes(name, b"authuser") {
         Some(ConnVerb::Authuser)
-    } else if is_name(name, b"authpassword") {
+    } else if same_bytes(name, b"authpassword") {
         Some(ConnVerb::Authpassword)
     } else {
         None

@@ -12,7 +12,6 @@ mod error;
 mod form;
 mod host;
 mod id;
-mod name;
 mod requested;
 mod responding;
 mod set_field;
@@ -22,5 +21,4 @@ mod verb;
 
 pub use authorization::{Credentials, credentials_of};
 pub use host::ConnHost;
-pub use name::is_name;
 pub use requested::path;

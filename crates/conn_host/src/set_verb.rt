@@ -3,7 +3,7 @@
 ghost use Rattle.std.specs.Prelude.{◌≡◌};
 ghost use Rattle.conn_host.specs.SetCommands.{place_verb_of, set_verb_of, set_takes};
 
-use crate::name::is_name;
+use txt_core::same_bytes;
 
 /// A subcommand of `ns_set`.
 #[derive(Clone, Copy, Debug, PartialEq, Eq)]
@@ -34,25 +34,25 @@ pub enum SetVerb {
 fn find_place_verb(name: &[u8]) -> Option<SetVerb>
     ensures { result ≡ place_verb_of name.now }
 {
-    if is_name(name, b"create") {
+    if same_bytes(name, b"create") {
         Some(SetVerb::Create)
-    } else if is_name(name, b"delete") {
+    } else if same_bytes(name, b"delete") {
         Some(SetVerb::Delete)
-    } else if is_name(name, b"truncate") {
+    } else if same_bytes(name, b"truncate") {
         Some(SetVerb::Truncate)
-    } else if is_name(name, b"merge") {
+    } else if same_bytes(name, b"merge") {
         Some(SetVerb::Merge)
-    } else if is_name(name, b"copy") {
+    } else if same_bytes(name, b"copy") {
         Some(SetVerb::Copy)
-    } else if is_name(name, b"free") {
+    } else if same_bytes(name, b"free") {
         Some(SetVerb::Free)
-    } else if is_name(name, b"size") {
+    } else if same_bytes(name, b"size") {
         Some(SetVerb::Size)
-    } else if is_name(name, b"name") {
+    } else if same_bytes(name, b"name") {
         Some(SetVerb::Name)
-    } else if is_name(name, b"key") {
+    } else if same_bytes(name, b"key") {
         Some(SetVerb::Key)
-    } else if is_name(name, b"value") {
+    } else if same_bytes(name, b"value") {
         Some(SetVerb::Value)
     } else {
         None
@@ -64,25 +64,25 @@ fn find_place_verb(name: &[u8]) -> Option<SetVerb>
 pub fn find_set_verb(name: &[u8]) -> Option<SetVerb>
     ensures { result ≡ set_verb_of name.now }
 {
-    if is_name(name, b"put") {
+    if same_bytes(name, b"put") {
         Some(SetVerb::Put)
-    } else if is_name(name, b"get") {
+    } else if same_bytes(name, b"get") {
         Some(SetVerb::Get)
-    } else if is_name(name, b"iget") {
+    } else if same_bytes(name, b"iget") {
         Some(SetVerb::Iget)
-    } else if is_name(name, b"find") {
+    } else if same_bytes(name, b"find") {
         Some(SetVerb::Find)
-    } else if is_name(name, b"ifind") {
+    } else if same_bytes(name, b"ifind") {
         Some(SetVerb::Ifind)
-    } else if is_name(name, b"cput") {
+    } else if same_bytes(name, b"cput") {
         Some(SetVerb::Cput)
-    } else if is_name(name, b"icput") {
+    } else if same_bytes(name, b"icput") {
         Some(SetVerb::Icput)
-    } else if is_name(name, b"update") {
+    } else if same_bytes(name, b"update") {
         Some(SetVerb::Update)
-    } else if is_name(name, b"delkey") {
+    } else if same_bytes(name, b"delkey") {
         Some(SetVerb::Delkey)
-    } else if is_name(name, b"idelkey") {
+    } else if same_bytes(name, b"idelkey") {
         Some(SetVerb::Idelkey)
     } else {
         find_place_verb(name)

@@ -3,7 +3,7 @@
 ghost use Rattle.std.specs.Prelude.{◌≡◌};
 ghost use Rattle.conn_host.specs.Leaf.{verb_of};
 
-use crate::name::is_name;
+use txt_core::same_bytes;
 
 /// A command of a connection's host.
 #[derive(Clone, Copy, Debug, PartialEq, Eq)]
@@ -29,35 +29,35 @@ pub enum Verb {
 pub fn find_verb(name: &[u8]) -> Option<Verb>
     ensures { result ≡ verb_of name.now }
 {
-    if is_name(name, b"ns_set") {
+    if same_bytes(name, b"ns_set") {
         Some(Verb::NsSet)
-    } else if is_name(name, b"open") {
+    } else if same_bytes(name, b"open") {
         Some(Verb::Open)
-    } else if is_name(name, b"gets") {
+    } else if same_bytes(name, b"gets") {
         Some(Verb::Gets)
-    } else if is_name(name, b"read") {
+    } else if same_bytes(name, b"read") {
         Some(Verb::Read)
-    } else if is_name(name, b"eof") {
+    } else if same_bytes(name, b"eof") {
         Some(Verb::Eof)
-    } else if is_name(name, b"close") {
+    } else if same_bytes(name, b"close") {
         Some(Verb::Close)
-    } else if is_name(name, b"ns_conn") {
+    } else if same_bytes(name, b"ns_conn") {
         Some(Verb::NsConn)
-    } else if is_name(name, b"ns_queryget") {
+    } else if same_bytes(name, b"ns_queryget") {
         Some(Verb::NsQueryget)
-    } else if is_name(name, b"ns_return") {
+    } else if same_bytes(name, b"ns_return") {
         Some(Verb::NsReturn)
-    } else if is_name(name, b"ns_returnredirect") {
+    } else if same_bytes(name, b"ns_returnredirect") {
         Some(Verb::NsReturnredirect)
-    } else if is_name(name, b"ns_returnnotfound") {
+    } else if same_bytes(name, b"ns_returnnotfound") {
         Some(Verb::NsReturnnotfound)
-    } else if is_name(name, b"ns_urlencode") {
+    } else if same_bytes(name, b"ns_urlencode") {
         Some(Verb::NsUrlencode)
-    } else if is_name(name, b"ns_urldecode") {
+    } else if same_bytes(name, b"ns_urldecode") {
         Some(Verb::NsUrldecode)
-    } else if is_name(name, b"ns_time") {
+    } else if same_bytes(name, b"ns_time") {
         Some(Verb::NsTime)
-    } else if is_name(name, b"ns_httptime") {
+    } else if same_bytes(name, b"ns_httptime") {
         Some(Verb::NsHttptime)
     } else {
         None

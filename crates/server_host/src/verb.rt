@@ -3,7 +3,7 @@
 ghost use Rattle.std.specs.Prelude.{◌≡◌};
 ghost use Rattle.server_host.specs.Leaf.{verb_of};
 
-use conn_host::is_name;
+use txt_core::same_bytes;
 
 /// A command that is neither of the connection nor of pages.
 #[derive(Clone, Copy, Debug, PartialEq, Eq)]
@@ -23,35 +23,35 @@ pub enum Verb {
 pub fn find_verb(name: &[u8]) -> Option<Verb>
     ensures { result ≡ verb_of name.now }
 {
-    if is_name(name, b"ns_register_proc") {
+    if same_bytes(name, b"ns_register_proc") {
         Some(Verb::RegisterProc)
-    } else if is_name(name, b"ns_register_filter") {
+    } else if same_bytes(name, b"ns_register_filter") {
         Some(Verb::RegisterFilter)
-    } else if is_name(name, b"ns_ictl") {
+    } else if same_bytes(name, b"ns_ictl") {
         Some(Verb::NsIctl)
-    } else if is_name(name, b"ns_eval") {
+    } else if same_bytes(name, b"ns_eval") {
         Some(Verb::NsEval)
-    } else if is_name(name, b"ns_schedule_proc") {
+    } else if same_bytes(name, b"ns_schedule_proc") {
         Some(Verb::ScheduleProc)
-    } else if is_name(name, b"ns_unschedule_proc") {
+    } else if same_bytes(name, b"ns_unschedule_proc") {
         Some(Verb::UnscheduleProc)
-    } else if is_name(name, b"nsv_names") {
+    } else if same_bytes(name, b"nsv_names") {
         Some(Verb::NsvNames)
-    } else if is_name(name, b"nsv_set") {
+    } else if same_bytes(name, b"nsv_set") {
         Some(Verb::Nsv)
-    } else if is_name(name, b"nsv_get") {
+    } else if same_bytes(name, b"nsv_get") {
         Some(Verb::Nsv)
-    } else if is_name(name, b"nsv_exists") {
+    } else if same_bytes(name, b"nsv_exists") {
         Some(Verb::Nsv)
-    } else if is_name(name, b"nsv_incr") {
+    } else if same_bytes(name, b"nsv_incr") {
         Some(Verb::Nsv)
-    } else if is_name(name, b"nsv_append") {
+    } else if same_bytes(name, b"nsv_append") {
         Some(Verb::Nsv)
-    } else if is_name(name, b"nsv_lappend") {
+    } else if same_bytes(name, b"nsv_lappend") {
         Some(Verb::Nsv)
-    } else if is_name(name, b"nsv_unset") {
+    } else if same_bytes(name, b"nsv_unset") {
         Some(Verb::Nsv)
-    } else if is_name(name, b"nsv_array") {
+    } else if same_bytes(name, b"nsv_array") {
         Some(Verb::Nsv)
     } else {
         None

@@ -10,7 +10,7 @@ use std::alloc::Global;
 use std::marker::Model;
 use std::num::NonZeroUsize;
 use std::rc::Rc;
-use txt_core::{NoMemory, Text};
+use txt_core::{NoMemory, Text, same_bytes};
 
 /// How many scripts an engine keeps by their texts, and how many expressions, beside the latest of each.
 pub(crate) const MOST_KEPT: usize = 512;
@@ -154,7 +154,7 @@ impl Expressions {
 fn shared_for(read: &Rc<ReadExpr>, text: &Text) -> Result<Option<Rc<ReadExpr>>, NoMemory>
     ensures { IfOk result (λ found. IfSome found (λ read. read.value ≡ text.now)) }
 {
-    if read.text().bytes() != text.bytes() {
+    if !same_bytes(read.text().bytes(), text.bytes()) {
         return Ok(None);
     }
     let again = read.clone()?;

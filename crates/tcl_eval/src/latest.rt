@@ -6,7 +6,7 @@ ghost use Rattle.parse_cache.specs.Readings.{IsReading};
 use natives::Places;
 use parse_cache::{ReadScript, Reading};
 use std::alloc::Global;
-use txt_core::{NoMemory, Text};
+use txt_core::{NoMemory, Text, same_bytes};
 
 /// Scripts that were run most lately. What is kept of a text is true by itself.
 pub(crate) type Latest = Places<ReadScript>;
@@ -15,7 +15,7 @@ pub(crate) type Latest = Places<ReadScript>;
 fn reading_of(run: &ReadScript, text: &Text) -> Result<Option<Reading>, NoMemory>
     ensures { IfOk result (λ found. IfSome found (λ read. IsReading text.now read)) }
 {
-    if run.text().bytes() != text.bytes() {
+    if !same_bytes(run.text().bytes(), text.bytes()) {
         return Ok(None);
     }
     let read = run.reading()?;

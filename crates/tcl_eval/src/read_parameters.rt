@@ -8,7 +8,7 @@ use crate::parameter::{Parameter, parameters};
 use natives::Places;
 use std::alloc::Global;
 use std::marker::Model;
-use txt_core::{NoMemory, Text};
+use txt_core::{NoMemory, Text, same_bytes};
 
 /// A text with the parameters that it lists, so that it is read once, however often its procedure is
 /// called. Contracts see the text.
@@ -66,7 +66,7 @@ impl ReadParameters {
 fn parameters_in<'a>(read: &'a ReadParameters, text: &Text) -> Option<&'a [Parameter]>
     ensures { IfSome result (λ all. parameters text.now ≡ Ok all.now) }
 {
-    if read.text().bytes() != text.bytes() {
+    if !same_bytes(read.text().bytes(), text.bytes()) {
         return None;
     }
     Some(read.all())

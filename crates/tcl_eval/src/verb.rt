@@ -3,6 +3,8 @@
 ghost use Rattle.std.specs.Prelude.{◌≡◌};
 ghost use Rattle.tcl_eval.specs.Eval.{verb_of};
 
+use txt_core::same_bytes;
+
 /// A built-in that the engine does itself, or one of the host's.
 #[derive(Clone, Copy, Debug, PartialEq, Eq)]
 pub enum Verb {
@@ -28,35 +30,35 @@ pub enum Verb {
 pub fn find_verb(name: &[u8]) -> Verb
     ensures { result ≡ verb_of name.now }
 {
-    if name == b"proc".as_slice() {
+    if same_bytes(name, b"proc") {
         Verb::Proc
-    } else if name == b"return".as_slice() {
+    } else if same_bytes(name, b"return") {
         Verb::Return
-    } else if name == b"error".as_slice() {
+    } else if same_bytes(name, b"error") {
         Verb::Error
-    } else if name == b"break".as_slice() {
+    } else if same_bytes(name, b"break") {
         Verb::Break
-    } else if name == b"continue".as_slice() {
+    } else if same_bytes(name, b"continue") {
         Verb::Continue
-    } else if name == b"rename".as_slice() {
+    } else if same_bytes(name, b"rename") {
         Verb::Rename
-    } else if name == b"eval".as_slice() {
+    } else if same_bytes(name, b"eval") {
         Verb::Eval
-    } else if name == b"catch".as_slice() {
+    } else if same_bytes(name, b"catch") {
         Verb::Catch
-    } else if name == b"expr".as_slice() {
+    } else if same_bytes(name, b"expr") {
         Verb::Expr
-    } else if name == b"if".as_slice() {
+    } else if same_bytes(name, b"if") {
         Verb::If
-    } else if name == b"while".as_slice() {
+    } else if same_bytes(name, b"while") {
         Verb::While
-    } else if name == b"for".as_slice() {
+    } else if same_bytes(name, b"for") {
         Verb::For
-    } else if name == b"foreach".as_slice() {
+    } else if same_bytes(name, b"foreach") {
         Verb::Foreach
-    } else if name == b"switch".as_slice() {
+    } else if same_bytes(name, b"switch") {
         Verb::Switch
-    } else if name == b"info".as_slice() {
+    } else if same_bytes(name, b"info") {
         Verb::Info
     } else {
         Verb::Other

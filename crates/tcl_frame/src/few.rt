@@ -5,7 +5,7 @@ ghost use Rattle.std.specs.Option.{option_copied};
 ghost use Rattle.tcl_frame.specs.Few.{is_named};
 
 use crate::variable::Variable;
-use txt_core::Text;
+use txt_core::{Text, same_bytes};
 
 /// A variable with its name.
 #[derive(Debug, Drop)]
@@ -20,7 +20,7 @@ impl Entry {
     pub fn is_named(&self, name: &[u8]) -> bool
         ensures { result ≡ is_named name.now self.now }
     {
-        name == self.name.bytes()
+        same_bytes(name, self.name.bytes())
     }
 }
 

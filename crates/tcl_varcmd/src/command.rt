@@ -5,7 +5,7 @@ ghost use Rattle.natives.specs.Words.{arg};
 ghost use Rattle.tcl_varcmd.specs.Commands.{command_named, goes_on, begins_var_command};
 ghost use Rattle.tcl_varcmd.specs.Judging.{is_on_one};
 
-use txt_core::Words;
+use txt_core::{Words, same_bytes};
 
 /// A command on variables.
 #[derive(Clone, Copy, Debug)]
@@ -25,21 +25,21 @@ pub enum Command {
 pub(crate) fn command_of(name: &[u8]) -> Option<Command>
     ensures { result ≡ command_named name.now }
 {
-    if name == b"set".as_slice() {
+    if same_bytes(name, b"set") {
         Some(Command::Set)
-    } else if name == b"unset".as_slice() {
+    } else if same_bytes(name, b"unset") {
         Some(Command::Unset)
-    } else if name == b"incr".as_slice() {
+    } else if same_bytes(name, b"incr") {
         Some(Command::Incr)
-    } else if name == b"append".as_slice() {
+    } else if same_bytes(name, b"append") {
         Some(Command::Append)
-    } else if name == b"lappend".as_slice() {
+    } else if same_bytes(name, b"lappend") {
         Some(Command::Lappend)
-    } else if name == b"global".as_slice() {
+    } else if same_bytes(name, b"global") {
         Some(Command::Global)
-    } else if name == b"array".as_slice() {
+    } else if same_bytes(name, b"array") {
         Some(Command::Array)
-    } else if name == b"info".as_slice() {
+    } else if same_bytes(name, b"info") {
         Some(Command::Info)
     } else {
         None
