@@ -13,7 +13,7 @@ use Rattle.cmd_table.specs.Table.{Table, command_of}
 abbrev pub IsTrueOf : Option Cmd → Bytes → Looked → Type 0
 IsTrueOf found name looked = (looked.cmd ≡ found) × (IsTrue looked.own ↔ (found ≡ Some (commands.Built name)))
 
--- each name that stands at its own place stands for its command in a table, or for none
+-- what stands at the place of its own name is true of what that name stands for in a table
 abbrev pub AreLatest : Table → List (Option Looked) → Type 0
 AreLatest table places = (looked : Looked) → item_at places (hint_place looked.name) ≡ Some looked → IsTrueOf (command_of table looked.name) looked.name looked
 

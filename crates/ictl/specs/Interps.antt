@@ -226,15 +226,15 @@ module _ (names : Names) where
   abbrev pub preauth_ended : Interp → ℕ → Verdict → Stretch
   preauth_ended i next said = filter_end (preauth_from i next) (access_from i) said
 
-  -- of the authorisation
+  -- what comes of the authorisation that said so
   abbrev pub access_ended : Interp → Access → Stretch
   access_ended i said = access_end (authorised names i.blueprint.value i.moment i.visit) said
 
-  -- of a postauth filter
+  -- what comes of a postauth filter that said so, behind which stands the one at this place
   abbrev pub postauth_ended : Interp → ℕ → Verdict → Stretch
   postauth_ended i next said = filter_end (postauth_from i next) (served i) said
 
-  -- of a trace filter
+  -- what comes of a trace filter that said so, behind which stands the one at this place
   abbrev pub trace_ended : Interp → ℕ → Ending → Verdict → Stretch
   trace_ended i next ending said = trace_end (trace_from i next ending) (cleaned i 0 ending) said
 
@@ -294,7 +294,7 @@ module _ (names : Names) where
   Stands run next inside i given =
       UnlessNoMemory next ((further : List Answer) → run (given ++ further) ≡ gives next inside i further)
 
-  -- A run begins in an interpreter that was as newly made: it stands for that run, to which nothing was given yet.
+  -- A run has begun: it stands for that run, to which nothing was given yet.
   abbrev pub Begins : (List Answer → Progress) → Next → ℕ → ℕ → Interp → Interp → Type 0
   Begins run next after before new old = Stands run next (taken names after before new old) new []
 
@@ -303,7 +303,8 @@ module _ (names : Names) where
   behind_of i whole request inside answers =
       behind names i.blueprint.value i.moment whole request (ending_of i.task) (interp_state i) inside answers
 
-  -- It goes on behind its response: of whichever request it went through, it stands for what comes behind that one's response.
+  -- It goes on behind its response: of whichever request it went through, where it was sound, it stands for what comes behind that
+  -- one's response.
   abbrev pub GoesBehind : Bool → Next → ℕ → ℕ → Interp → Interp → Type 0
   GoesBehind whole next after before new old =
       (request : Request) → IsSound names old → old.visit ≡ visit_of names old.blueprint.value request → (inside : ℕ)

@@ -115,7 +115,7 @@ visit_by authorised request made = record {
 abbrev pub visit_of : Names → Edition → Request → Visit
 visit_of names blueprint request = visit_by (is_authorised names blueprint.defs) request blueprint.defs
 
--- what is entered in two steps: first the calls of the filters
+-- this visit with the calls of a request's filters
 abbrev pub filtered : Request → List Def → Visit → Visit
 filtered request made visit = record visit {
   preauth = filter_calls Preauth request made;

@@ -57,7 +57,7 @@ pub struct Interp {
     pub(crate) routes: Routes,
     /// Its cleanup scripts.
     pub(crate) cleanups: Words,
-    /// Whether requests are authorised: the name of that stands for a procedure of the blueprint.
+    /// Whether requests are authorised: `ns_authorize` stands for a procedure of the blueprint.
     pub(crate) authorises: bool,
     /// Where the table of commands goes back to.
     pub(crate) mark: u64,

@@ -9,7 +9,7 @@ use Rattle.tcl_eval.specs.Eval.{Inner, give, nested, on_ok, run_parts, run_words
 use Rattle.tcl_eval.specs.Kept.{judged}
 use Rattle.tcl_eval.specs.Places.{command_at, words_from, words_size, HasCommand}
 use Rattle.tcl_eval.specs.Straight.{Alike, IsDone, LeftAlone}
-use Rattle.tcl_eval.specs.Brackets.{IsLess, IsNext, bracket_of, bracket_value, bracketed_next}
+use Rattle.tcl_eval.specs.Brackets.{LeavesAsSaid, IsWordAt, bracket_of, bracket_value, bracketed_next}
 use Rattle.tcl_eval.specs.Engine.{state_of}
 use Rattle.tcl_eval.specs.declared.gather.SoFar.TheVariants.{Kept}
 use Rattle.tcl_eval.specs.declared.engine.Engine.{Engine}
@@ -28,7 +28,7 @@ one_command_of cs p is here none =
     is ∙ ap (λ (c : Commands). bracket c) (here ∙ ap (λ (c : Commands). command (command_at 0 cs) c) none)
 
 -- behind fewer words less is left
-pub less_more : (what : Passed) (left mid before : Words) → words_size mid ≤ words_size before → IsLess what left mid → IsLess what left before
+pub less_more : (what : Passed) (left mid before : Words) → words_size mid ≤ words_size before → LeavesAsSaid what left mid → LeavesAsSaid what left before
 less_more passed.On left mid before le less = omega (arith, le, less)
 less_more passed.All left mid before le less = less
 less_more (passed.Ends value) left mid before le less = tt
@@ -80,7 +80,7 @@ module _ {H : Type 0} (ns : Names) (t : LeafTable H) where
       subst (λ (n : ℕ). way n ps) (sym l) (subst (λ (x : Parts). way (suc less) x) (sym is) did)
 
   -- what the next word of a command comes to is what the command goes on with
-  pub word_next : (levels : ℕ) (all : Words) (ps : Parts) (values : List (List ℕ)) (k : Next H) (s : State H) (b : ℕ) (g : Given) → IsNext ps (length values) all → run_parts (nested ns t levels) ps [] (judged (on_ok (λ v. run_words ns t (nested ns t levels) (words_from (length values + 1) all) (values ++ v ∷ []) k) k)) s b g ≡ run_words ns t (nested ns t levels) (words_from (length values) all) values k s b g
+  pub word_next : (levels : ℕ) (all : Words) (ps : Parts) (values : List (List ℕ)) (k : Next H) (s : State H) (b : ℕ) (g : Given) → IsWordAt ps (length values) all → run_parts (nested ns t levels) ps [] (judged (on_ok (λ v. run_words ns t (nested ns t levels) (words_from (length values + 1) all) (values ++ v ∷ []) k) k)) s b g ≡ run_words ns t (nested ns t levels) (words_from (length values) all) values k s b g
   word_next levels all ps values k s b g is =
       let inner = nested ns t levels in
       judged_word inner (run_script_alike ns t levels) ps (λ v. run_words ns t inner (words_from (length values + 1) all) (values ++ v ∷ []) k) k s b g

@@ -25,17 +25,17 @@ bracket_value zero result = kept_value (Kept result)
 bracket_value (suc code) result = ended (suc code) result
 
 -- the word at this place of a command has these parts
-abbrev pub IsNext : Parts → ℕ → TreeWords → Type 0
-IsNext first at words = words_from at words ≡ word first (words_from (at + 1) words)
+abbrev pub IsWordAt : Parts → ℕ → TreeWords → Type 0
+IsWordAt first at words = words_from at words ≡ word first (words_from (at + 1) words)
 
--- these words of a command are left behind some of those that were
-abbrev pub IsLess : Passed → TreeWords → TreeWords → Type 0
-IsLess passed.On left before = words_size left < words_size before
-IsLess passed.All left before = left ≡ no_words
-IsLess (passed.Ends value) left before = Unit {0}
-IsLess passed.Spent left before = Unit {0}
-IsLess passed.Costly left before = words_size left ≤ words_size before
-IsLess passed.Left left before = words_size left ≤ words_size before
+-- Behind what was done of a command, as many of its words are left as it says: fewer, none, or no more. Of an end it says nothing.
+abbrev pub LeavesAsSaid : Passed → TreeWords → TreeWords → Type 0
+LeavesAsSaid passed.On left before = words_size left < words_size before
+LeavesAsSaid passed.All left before = left ≡ no_words
+LeavesAsSaid (passed.Ends value) left before = Unit {0}
+LeavesAsSaid passed.Spent left before = Unit {0}
+LeavesAsSaid passed.Costly left before = words_size left ≤ words_size before
+LeavesAsSaid passed.Left left before = words_size left ≤ words_size before
 
 module _ {H : Type 0} where
   -- how a word of these parts goes on from what was done of it

@@ -27,7 +27,7 @@ module _ {H : Type 0} (names : Names) (table : LeafTable H) where
   abbrev pub GivesFrame : Step → Frame → Ended → Engine H → Engine H → Type 0
   GivesFrame step frame value new old = StepIs step new old (λ k. frame_next names table frame k value.code value.result)
 
-  -- what comes after a choice, a loop or a page is this way to go on from the old engine
+  -- what comes after a choice, a loop, a page or a call of a procedure is this way to go on from the old engine
   abbrev pub GoneIs : Gone → Engine H → Engine H → (Next H → Rest H) → Type 0
   GoneIs gone new old way = Same names table new old (gone_next names table gone) way
 
@@ -45,9 +45,9 @@ module _ {H : Type 0} (names : Names) (table : LeafTable H) where
       words_from (length values) words ≡ no_words
       → Alike new old (tried_next names table (nested names table levels) words tried) (run_words names table (nested names table levels) (words_from (length values) words) values)
 
-  -- what was done of a command of a script is that command
-  abbrev pub TriesWhole : ℕ → TreeWords → Tried → Engine H → Engine H → Type 0
-  TriesWhole levels words tried new old =
+  -- what was done of a command of a script, from its first word on, is that command
+  abbrev pub TriesCommand : ℕ → TreeWords → Tried → Engine H → Engine H → Type 0
+  TriesCommand levels words tried new old =
       Alike new old (tried_next names table (nested names table levels) words tried) (run_words names table (nested names table levels) words [])
 
 module _ {H : Type 0} (table : LeafTable H) where
@@ -68,7 +68,7 @@ module _ {H : Type 0} where
   abbrev pub IsNoHeavier : Step → Engine H → Engine H → ℕ → Type 0
   IsNoHeavier step new old more = stack_weight new.stack.items + step_weight step ≤ stack_weight old.stack.items + more
 
-  -- where a run goes on, less falls from one text that is run to the next than anything above what fell before and so much more
+  -- where a run goes on, what falls from one text that is run to the next is at most what fell before and so much more
   abbrev pub NearsMost : Gone → Engine H → Engine H → ℕ → Type 0
   NearsMost gone new old free = (most : ℕ) → credit old + free < most → Nears gone new most
 

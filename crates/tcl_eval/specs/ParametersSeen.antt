@@ -10,7 +10,7 @@ abbrev pub ParametersAre : Result (Vec Parameter Global) Bytes → Result (List 
 ParametersAre (Ok found) meant = meant ≡ Ok found.items
 ParametersAre (Err message) meant = meant ≡ Err message
 
--- what was read is this text, and an error is what is wrong with it
+-- what was read is of this text, and a message is the error that the text gives
 abbrev pub ReadAs : Result Bytes Bytes → Bytes → Type 0
 ReadAs (Ok read) text = read ≡ text
 ReadAs (Err message) text = parameters text ≡ Err message

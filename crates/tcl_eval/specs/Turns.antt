@@ -137,6 +137,7 @@ abbrev pub option_free : Option Turn → ℕ
 option_free None = 1
 option_free (Some what) = turn_free what
 
+-- the same of what is left of a turn over values
 abbrev pub each_free : Each → ℕ
 each_free (each.Ends value) = 0
 each_free each.Spent = 0

@@ -9,7 +9,7 @@ ghost use Rattle.tcl_eval.specs.Eval.{nested, on_ok, run_parts, run_words};
 ghost use Rattle.tcl_eval.specs.Kept.{judged};
 ghost use Rattle.tcl_eval.specs.Places.{command_at, tree_of, words_from};
 ghost use Rattle.tcl_eval.specs.Straight.{Alike, Straightly};
-ghost use Rattle.tcl_eval.specs.Brackets.{IsLess, IsNext, bracket_of, bracket_value, bracketed_next, passed_next};
+ghost use Rattle.tcl_eval.specs.Brackets.{LeavesAsSaid, IsWordAt, bracket_of, bracket_value, bracketed_next, passed_next};
 ghost use Rattle.tcl_eval.specs.Engine.{Holds};
 
 use crate::engine::Engine;
@@ -169,8 +169,8 @@ impl<H: Host> Engine<H> {
             (words_from (length values.old + 1) all) (values.old ++ v ∷ []) k)
             k value.code value.result)) }
         ensures less { IfOk result (λ passed.
-            (all : Words) (pieces : Parts) → IsNext pieces (length values.old) all
-            → IsLess passed (words_from (length values.new) all)
+            (all : Words) (pieces : Parts) → IsWordAt pieces (length values.old) all
+            → LeavesAsSaid passed (words_from (length values.new) all)
             (words_from (length values.old) all)) }
     {
         if value.code != OK {
@@ -193,7 +193,7 @@ impl<H: Host> Engine<H> {
         levels: u32,
     ) -> Result<Passed, NoMemory>
         ensures means { IfOk result (λ passed.
-            (all : Words) → IsNext (parts (map part_of pieces.now)) (length values.old) all
+            (all : Words) → IsWordAt (parts (map part_of pieces.now)) (length values.old) all
             → Alike self.new self.old
             (passed_next (names_of natives.now) H.table
             (nested (names_of natives.now) H.table levels) passed
@@ -202,8 +202,8 @@ impl<H: Host> Engine<H> {
             (nested (names_of natives.now) H.table levels) (words_from (length values.old) all)
             values.old)) }
         ensures less { IfOk result (λ passed.
-            (all : Words) → IsNext (parts (map part_of pieces.now)) (length values.old) all
-            → IsLess passed (words_from (length values.new) all)
+            (all : Words) → IsWordAt (parts (map part_of pieces.now)) (length values.old) all
+            → LeavesAsSaid passed (words_from (length values.new) all)
             (words_from (length values.old) all)) }
         ensures straight { OnOk result (Straightly self.new self.old) }
         ensures holds { Holds self.new self.old }
@@ -237,7 +237,7 @@ impl<H: Host> Engine<H> {
             (nested (names_of natives.now) H.table levels)
             (words_from (length values.old) (words (map word_of all.now))) values.old)) }
         ensures less { IfOk result (λ passed.
-            IsLess passed (words_from (length values.new) (words (map word_of all.now)))
+            LeavesAsSaid passed (words_from (length values.new) (words (map word_of all.now)))
             (words_from (length values.old) (words (map word_of all.now)))) }
         ensures straight { OnOk result (Straightly self.new self.old) }
         ensures holds { Holds self.new self.old }

@@ -10,8 +10,8 @@ use std::alloc::Global;
 use std::marker::Model;
 use txt_core::{NoMemory, Text, same_bytes};
 
-/// A text with the parameters that it lists, so that it is read once, however often its procedure is
-/// called. Contracts see the text.
+/// A text with the parameters that it lists, so that it is read once while it is kept, however often its
+/// procedure is called. Contracts see the text.
 #[derive(Debug, Drop)]
 pub struct ReadParameters {
     text: Text,

@@ -13,7 +13,7 @@ ghost use Rattle.tcl_eval.specs.Eval.{Inner, act, arg, built, built_in, came_nex
 ghost use Rattle.tcl_eval.specs.Places.{tree_of, command_at, commands_from, commands_size, words_size};
 ghost use Rattle.tcl_eval.specs.Straight.{Alike, Does, IfExpr, IfGives, IfLeft, IsDone, IsExpr, IsNamedExpr, IsOwn, IsWithin, LeftAlone, Straightly, paid_next, tried_next, tried_size, stand_next, stand_size};
 ghost use Rattle.tcl_eval.specs.Engine.{Holds, state_of};
-ghost use Rattle.tcl_eval.specs.Clauses.{IsLeftOf, Tries, TriesWhole};
+ghost use Rattle.tcl_eval.specs.Clauses.{IsLeftOf, Tries, TriesCommand};
 
 use crate::bracket::Passed;
 use crate::cost::{EVALUATION_COST, result_cost};
@@ -358,7 +358,7 @@ impl<H: Host> Engine<H> {
     ) -> Result<Tried, NoMemory>
         ensures means { IfOk result (λ tried.
             (levels : ℕ)
-            → TriesWhole (names_of natives.now) H.table levels (command_at at (tree_of script.now))
+            → TriesCommand (names_of natives.now) H.table levels (command_at at (tree_of script.now))
             tried self.new self.old) }
         ensures size { IfOk result (λ tried.
             tried_size (command_at at (tree_of script.now)) tried
@@ -391,7 +391,7 @@ impl<H: Host> Engine<H> {
         levels: u32,
     ) -> Result<Tried, NoMemory>
         ensures means { IfOk result (λ tried.
-            TriesWhole (names_of natives.now) H.table levels (command_at at (tree_of script.now))
+            TriesCommand (names_of natives.now) H.table levels (command_at at (tree_of script.now))
             tried self.new self.old) }
         ensures size { IfOk result (λ tried.
             tried_size (command_at at (tree_of script.now)) tried
