@@ -27,14 +27,19 @@ pub const OUTPUT_SET: u64 = 1;
 /// The set of the form.
 pub const FORM_SET: u64 = 2;
 
+/// How many sets a run makes at most, so that their room is kept.
+const MOST_SETS_KEPT: u64 = 64;
+
 /// What does the commands on a connection, on sets and on channels. Contracts see its state.
 #[derive(Drop)]
 pub struct ConnHost {
     pub(crate) alloc: Global,
     pub(crate) request: Option<Request>,
     pub(crate) sets: Sets,
-    /// Room for the sets of the next run, which is kept from the run before the last.
+    /// Room for the next run's sets: that of the run before this one, unless it had many.
     spare: Sets,
+    /// Whether this run has made more sets than `MOST_SETS_KEPT`.
+    has_many_sets: bool,
     pub(crate) channels: Chans,
     pub(crate) response: Option<Response>,
     pub(crate) moment: u64,
@@ -127,6 +132,7 @@ impl ConnHost {
             request: Some(request),
             sets,
             spare: Sets::new(alloc),
+            has_many_sets: false,
             channels: Chans::new(alloc),
             response: None,
             moment,
@@ -141,9 +147,9 @@ impl ConnHost {
     {
         let mut sets = mem::replace(&mut self.spare, Sets::new(self.alloc));
         fill(self.alloc, &mut sets, &request)?;
+        self.leave_sets();
         self.request = Some(request);
         self.spare = mem::replace(&mut self.sets, sets);
-        self.spare.clear();
         self.let_go();
         self.moment = moment;
         Ok(())
@@ -163,6 +169,7 @@ impl ConnHost {
             request: None,
             sets,
             spare: Sets::new(alloc),
+            has_many_sets: false,
             channels: Chans::new(alloc),
             response: None,
             moment,
@@ -216,6 +223,27 @@ impl ConnHost {
         add_fields(&self.sets, OUTPUT_SET, fields)
     }
 
+    /// Notes that the run has made the set of this number.
+    pub(crate) fn note_set(&mut self, number: u64)
+        ensures { self.new ≡ self.old }
+    {
+        if number >= MOST_SETS_KEPT {
+            self.has_many_sets = true;
+        }
+    }
+
+    /// Lets go of the sets. Their room is kept, unless they are many.
+    fn leave_sets(&mut self)
+        ensures { self.new ≡ record self.old { sets = [] } }
+    {
+        if self.has_many_sets {
+            self.sets = Sets::new(self.alloc);
+            self.has_many_sets = false;
+            return;
+        }
+        self.sets.clear();
+    }
+
     /// Lets go of the channels and of the response.
     fn let_go(&mut self)
         ensures { self.new ≡ record self.old { channels = []; response = None } }
@@ -230,7 +258,7 @@ impl ConnHost {
         ensures { self.new ≡ no_run }
     {
         self.request = None;
-        self.sets.clear();
+        self.leave_sets();
         self.let_go();
         self.moment = 0;
     }

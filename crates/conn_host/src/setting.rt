@@ -20,6 +20,7 @@ fn set_create(host: &mut ConnHost, words: &Words) -> Result<Text, Refusal>
 {
     let name = Text::new(host.alloc, words.bytes_at(2))?;
     let set = host.sets.create(name)?;
+    host.note_set(set);
     Ok(set_id(host.alloc, set)?)
 }
 
@@ -153,6 +154,7 @@ fn set_copy(host: &mut ConnHost, words: &Words) -> Result<Text, Refusal>
 {
     let set = set_at(host, words, 2)?;
     let copy = kept(host.sets.copy(set))?;
+    host.note_set(copy);
     Ok(set_id(host.alloc, copy)?)
 }
 
