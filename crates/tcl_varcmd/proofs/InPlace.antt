@@ -9,7 +9,7 @@ use Rattle.tcl_frame.specs.Stack.{Stack}
 use Rattle.tcl_frame.specs.Frames.{found_in, read_of, written}
 use Rattle.natives.specs.declared.fault.Fault.{Fault}
 use Rattle.natives.specs.declared.fault.Fault.TheVariants.{Error, NoMemory}
-use Rattle.natives.specs.Answers.{Reply}
+use Rattle.natives.specs.Answers.{Reply, Answers as Replies}
 use Rattle.natives.specs.Answers as replies
 use Rattle.natives.specs.Checks.{integer_error, integer, list_error, items}
 use Rattle.tcl_varcmd.specs.Answers.{Came, gives, fails, unless, Answers, IfNoMemory, Says}
@@ -17,12 +17,17 @@ use Rattle.tcl_varcmd.specs.Errors.{refused, read_error, write_error, sum_error,
 use Rattle.tcl_varcmd.specs.Scalars.{stored, step_error, step_of, added, incr_by, lappend_to}
 use Rattle.tcl_varcmd.specs.Growing.{grown}
 use Rattle.tcl_varcmd.proofs.Values.{appended}
-use Rattle.tcl_varcmd.specs.InPlace.{Replies, storing, adding, lappending, Leaves}
+use Rattle.tcl_varcmd.specs.InPlace.{storing, adding, lappending, Leaves}
+
+-- want of memory may be answered for every reply
+pub no_room : (reply : Reply) → Replies reply (Err NoMemory)
+no_room (Ok text) = tt
+no_room (Err text) = tt
 
 -- a reply that says its error
 pub reply_said : (error message : Option (List ℕ)) (reply : Reply) (x : Fault) → error ≡ message → Says message x → Replies (replies.unless error reply) (Err x)
 reply_said error message reply (Error text) e s = rw (e ∙ s) refl
-reply_said error message reply NoMemory e s = tt
+reply_said error message reply NoMemory e s = no_room (replies.unless error reply)
 
 -- a reply behind a check
 pub reply_on : (error : Option (List ℕ)) (reply : Reply) (r : Result (List ℕ) Fault) → error ≡ None → Replies reply r → Replies (replies.unless error reply) r
@@ -67,7 +72,8 @@ came_ok stack name value new (Err text) h left = absurd h
 pub came_err : (stack new : Stack) (name : List ℕ) (reply : Reply) (x : Fault) → Replies reply (Err x) → new ≡ stack → Answers (came_of stack name reply) (Err x) new
 came_err stack new name (Ok text) (Error error) h same = absurd h
 came_err stack new name (Err text) (Error error) h same = (h, same)
-came_err stack new name reply NoMemory h same = tt
+came_err stack new name (Ok text) NoMemory h same = tt
+came_err stack new name (Err text) NoMemory h same = tt
 
 pub came_in_place : (stack : Stack) (name old new : List ℕ) (reply : Reply) (r : Result (List ℕ) Fault) → written stack name old ≡ stack → Replies reply r → Leaves old r new
     → Answers (came_of stack name reply) r (written stack name new)

@@ -4,22 +4,10 @@ use Rattle.std.specs.Fmt.{signed_decimal}
 use Rattle.txt_core.specs.Names.{Bytes, Words}
 use Rattle.txt_core.specs.Quoting.{quoting}
 use Rattle.natives.specs.declared.fault.Fault.{Fault}
-use Rattle.natives.specs.declared.fault.Fault.TheVariants.{Error, NoMemory}
 use Rattle.natives.specs.Answers.{Reply, unless}
 use Rattle.natives.specs.Checks.{integer_error, integer, list_error, items}
 use Rattle.tcl_varcmd.specs.Errors.{sum_error, long_error}
 use Rattle.tcl_varcmd.specs.Scalars.{step_error, step_of}
-
--- what is answered is the reply. Want of memory is free
-abbrev pub IsReply : Result Bytes Fault → Reply → Type 0
-IsReply (Ok result) (Ok text) = result ≡ text
-IsReply (Ok result) (Err text) = ⊥
-IsReply (Err (Error error)) (Ok text) = ⊥
-IsReply (Err (Error error)) (Err text) = error ≡ text
-IsReply (Err NoMemory) reply = Unit {0}
-
-abbrev pub Replies : Reply → Result Bytes Fault → Type 0
-Replies reply result = IsReply result reply
 
 -- a value that is to be stored: itself, where it isn't over the limit
 abbrev pub storing : Bytes → Reply

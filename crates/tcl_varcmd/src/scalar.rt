@@ -4,10 +4,10 @@ ghost use Rattle.std.specs.Prelude.{◌≡◌, ◌++◌, [], length, IfOk};
 ghost use Rattle.std.specs.Option.{option_copied};
 ghost use Rattle.txt_core.specs.Knowing.{Holds, IsWrittenList};
 ghost use Rattle.tcl_frame.specs.Frames.{read_of};
-ghost use Rattle.natives.specs.Answers.{Tried};
+ghost use Rattle.natives.specs.Answers.{Tried, Answers as Replies};
 ghost use Rattle.tcl_varcmd.specs.Answers.{Answers, IfNoMemory};
 ghost use Rattle.tcl_varcmd.specs.Growing.{grown};
-ghost use Rattle.tcl_varcmd.specs.InPlace.{Replies, storing, adding, lappending, Leaves};
+ghost use Rattle.tcl_varcmd.specs.InPlace.{storing, adding, lappending, Leaves};
 ghost use Rattle.tcl_varcmd.specs.Scalars.{stored, set_to, set_came, step_error, step_of, incr_by, incr_came, append_to, append_came, lappend_to, lappend_came};
 
 use crate::message::{check_count, check_least};
@@ -76,6 +76,7 @@ fn step(alloc: Global, n: Option<&Text>) -> Result<i64, Fault>
 }
 
 /// Writes a value in the place of another. The value is the result.
+#[tactic(auto, using(crate::proofs::InPlace::no_room))]
 fn store_at(alloc: Global, place: &mut Text, mut value: Text) -> Result<Text, Fault>
     ensures came { Replies (storing value) result }
     ensures left { Leaves place.old result place.new }
@@ -88,6 +89,7 @@ fn store_at(alloc: Global, place: &mut Text, mut value: Text) -> Result<Text, Fa
 }
 
 /// Writes a number in the place of a value: a copy of its few bytes. The number is the result.
+#[tactic(auto, using(crate::proofs::InPlace::no_room))]
 fn store_number_at(alloc: Global, place: &mut Text, number: Text) -> Result<Text, Fault>
     ensures came { Replies (storing number) result }
     ensures left { Leaves place.old result place.new }
@@ -100,6 +102,7 @@ fn store_number_at(alloc: Global, place: &mut Text, number: Text) -> Result<Text
 }
 
 /// Adds to a value in its place.
+#[tactic(auto, using(crate::proofs::InPlace::no_room))]
 fn add_at(alloc: Global, place: &mut Text, n: Option<&Text>) -> Result<Text, Fault>
     ensures came { Replies (adding place.old (option_copied n.entry)) result }
     ensures left { Leaves place.old result place.new }
@@ -153,6 +156,7 @@ pub(crate) fn incr(alloc: Global, frames: &mut Frames, words: &Words) -> Result<
 
 /// Puts a text behind a value in its place, and gives the new value. The condition is that what is
 /// known of it is true.
+#[tactic(auto, using(crate::proofs::InPlace::no_room))]
 fn grow_at(alloc: Global, place: &mut Text, more: &Text, known: Known) -> Result<Text, Fault>
     requires { Holds known (place.old ++ more.now) }
     ensures came { Replies (storing (place.old ++ more.now)) result }
@@ -232,6 +236,7 @@ pub(crate) fn append(alloc: Global, frames: &mut Frames, words: &Words) -> Resul
 }
 
 /// Puts values behind a list in its place, which stands as a list is written.
+#[tactic(auto, using(crate::proofs::InPlace::no_room))]
 fn lappend_behind(alloc: Global, place: &mut Text, values: &[Text]) -> Result<Text, Fault>
     requires { IsWrittenList place.old }
     ensures came { Replies (lappending place.old values.now) result }
@@ -242,6 +247,7 @@ fn lappend_behind(alloc: Global, place: &mut Text, values: &[Text]) -> Result<Te
 }
 
 /// Puts values at the end of a list in its place, which is read and written anew.
+#[tactic(auto, using(crate::proofs::InPlace::no_room))]
 fn lappend_anew(alloc: Global, place: &mut Text, values: &[Text]) -> Result<Text, Fault>
     ensures came { Replies (lappending place.old values.now) result }
     ensures left { Leaves place.old result place.new }
