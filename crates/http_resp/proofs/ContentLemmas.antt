@@ -6,7 +6,8 @@ use Rattle.http_resp.specs.Moment.{fixdate}
 use Rattle.http_resp.specs.OutputFields.{field_line, field_lines, is_sent, output_lines}
 use Rattle.std.specs.Fmt.{digits}
 use Rattle.http_resp.specs.StatusLine.{status_line, reason}
-use Rattle.http_resp.specs.ResponseBytes.{has_content, first_lines, content_fields, connection_field, server_name, last_lines, head_bytes, response_bytes}
+use Rattle.http_resp.specs.HeadLines.{first_lines, last_lines}
+use Rattle.http_resp.specs.ResponseBytes.{has_content, content_fields, connection_field, server_name, head_bytes, response_bytes}
 use Rattle.http_resp.specs.declared.response.Response.{Response}
 
 pub no_content_lines : (response : Response) → has_content response.status ≡ false → field_lines (content_fields response) ≡ []

@@ -7,3 +7,5 @@ pub mod ResponseBytes
 pub mod Replies
 pub mod Delivery
 pub mod Lines
+-- What only proofs use.
+pub mod HeadLines

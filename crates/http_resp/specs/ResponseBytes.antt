@@ -2,7 +2,7 @@
 use Rattle.std.specs.Prelude.{ℕ, ◌==◌, Bool, ◌||◌, not, [], ◌∷◌, ◌++◌, length, codes, decimal, filter, if◌then◌else◌}
 use Rattle.txt_core.specs.Names.{Bytes, Moment, Pairs}
 use Rattle.http_resp.specs.Moment.{fixdate}
-use Rattle.http_resp.specs.OutputFields.{field_line, field_lines, is_sent}
+use Rattle.http_resp.specs.OutputFields.{field_lines, is_sent}
 use Rattle.http_resp.specs.StatusLine.{status_line}
 use Rattle.http_resp.specs.declared.response.Response.{Response}
 
@@ -25,14 +25,6 @@ server_name = codes "AOLserver-profile/1"
 -- Whether the connection stays open.
 abbrev pub connection_field : Bool → Bytes × Bytes
 connection_field close = (codes "Connection", if close then codes "close" else codes "keep-alive")
-
--- What stands in a head before the output fields, and its last lines.
-abbrev pub first_lines : ℕ → Moment → Bytes
-first_lines status moment =
-    status_line status ++ (field_line (codes "Date") (fixdate moment) ++ field_line (codes "Server") server_name)
-
-abbrev pub last_lines : Bool → Bytes
-last_lines close = field_line (connection_field close).0 (connection_field close).1 ++ codes "\r\n"
 
 -- The fields of a head, in this order.
 abbrev pub head_fields : Response → Moment → Bool → Pairs

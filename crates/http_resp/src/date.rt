@@ -19,7 +19,7 @@ pub fn fixdate(moment: u64) -> [u8; 29]
 #[derive(Drop)]
 pub(crate) struct Dated {
     pub(crate) moment: u64,
-    pub(crate) text: [u8; 29],
+    text: [u8; 29],
     ghost shown: { text ≡ fixdate moment },
 }
 
@@ -35,7 +35,7 @@ impl Dated {
     }
 
     /// Makes it this moment. The date isn't made anew where it was this moment before.
-    pub(crate) fn turn(&mut self, moment: u64)
+    pub(crate) fn set(&mut self, moment: u64)
         ensures { self.new.moment ≡ moment }
     {
         if self.moment == moment {

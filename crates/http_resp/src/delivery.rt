@@ -27,8 +27,8 @@ pub enum Wrote {
 const MOST_KEPT: usize = 65_536;
 
 /// Writes responses, one after another. The buffer in which their bytes are made is kept, unless it is
-/// large, and their date for the second that it stands for. Contracts see nothing of it, as what is
-/// kept changes no response.
+/// large, and the date, as long as responses have the same second. Contracts see nothing of it, as what
+/// is kept changes no response.
 #[derive(Drop)]
 pub struct Writer {
     buffer: Option<Vec<u8>>,
@@ -46,9 +46,14 @@ impl Model for Writer {
 impl Writer {
     /// Nothing is kept yet. It takes no memory.
     pub fn new() -> Writer {
+        Writer::at(0)
+    }
+
+    /// A writer with the date of this moment.
+    fn at(moment: u64) -> Writer {
         Writer {
             buffer: None,
-            date: Dated::at(0),
+            date: Dated::at(moment),
         }
     }
 
@@ -84,7 +89,7 @@ impl Writer {
             (K.faults sink.new) }
     {
         let mut bytes = self.take_buffer(alloc);
-        self.date.turn(moment);
+        self.date.set(moment);
         let wrote = write_in(
             alloc, &mut bytes, response, &self.date, head_only, close, sink,
         );
@@ -145,5 +150,5 @@ pub fn write_response<K: Sink>(
         (response_bytes response.now moment head_only close) result (K.taken sink.new)
         (K.faults sink.new) }
 {
-    Writer::new().write(alloc, response, moment, head_only, close, sink)
+    Writer::at(moment).write(alloc, response, moment, head_only, close, sink)
 }

@@ -2,7 +2,8 @@
 
 ghost use Rattle.std.specs.Prelude.{◌≡◌, ◌++◌, IfOk, OnOk, MatchOption, codes};
 ghost use Rattle.http_resp.specs.OutputFields.{field_line, field_lines};
-ghost use Rattle.http_resp.specs.ResponseBytes.{response_bytes, head_bytes, first_lines, content_fields, last_lines, server_name, has_content};
+ghost use Rattle.http_resp.specs.HeadLines.{first_lines, last_lines};
+ghost use Rattle.http_resp.specs.ResponseBytes.{response_bytes, head_bytes, content_fields, server_name, has_content};
 ghost use Rattle.http_resp.specs.StatusLine.{reason, status_text, status_line};
 
 use crate::date::Dated;
@@ -32,7 +33,7 @@ const OK_START: [u8; 83] = *b"HTTP/1.1 200 OK\r\n\
 const DATE_START: usize = 23;
 
 /// Where it ends.
-const DATE_END: usize = 52;
+const DATE_END: usize = DATE_START + 29;
 
 /// The code and the reason phrase of a status that has a phrase of its own.
 #[tactic(auto, unfolding(crate::specs::StatusLine::reason))]
