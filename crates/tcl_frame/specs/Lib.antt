@@ -8,6 +8,7 @@ pub mod Meaning
 pub mod Refusal
 pub mod Appending
 pub mod Arrays
+pub mod ScalarLending
 -- What only proofs use.
 pub mod Entries
 pub mod Few

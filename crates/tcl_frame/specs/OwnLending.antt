@@ -9,7 +9,7 @@ use Rattle.tcl_frame.specs.declared.variable.Variable.TheVariants.{Scalar}
 use Rattle.tcl_frame.specs.Variables.{Table}
 use Rattle.tcl_frame.specs.Stack.{Stack}
 use Rattle.tcl_frame.specs.declared.frame.Frame.{Frame}
-use Rattle.tcl_frame.specs.Frames.{links_name, top_variables, table_of, with_table, written}
+use Rattle.tcl_frame.specs.Frames.{links_name, top_variables, table_of, with_table}
 use Rattle.tcl_frame.specs.contracts.frames.Frames as frames
 use Rattle.tcl_frame.specs.contracts.table.Table as table
 
@@ -30,7 +30,3 @@ abbrev pub lends_plain : MutBor Stack → Bytes → Option (MutBor Bytes) → Fm
 lends_plain s name r =
     LendsSo frames.the_row text.the_row s r
     (λ n w. OnSome r (n ≡ with_table s.now name (map.insert (table_of s.now name) name (Scalar w)))) (λ n. n ≡ s.now)
-
--- what is left behind the result is written to the name. Where nothing is lent the frames are as they were
-abbrev pub lends_written : MutBor Stack → Bytes → Option (MutBor Bytes) → Fml
-lends_written s name r = LendsSo frames.the_row text.the_row s r (λ n w. OnSome r (n ≡ written s.now name w)) (λ n. n ≡ s.now)

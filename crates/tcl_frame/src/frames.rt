@@ -14,7 +14,8 @@ ghost use Rattle.tcl_frame.specs.Refusal.{IsRefusedFor};
 ghost use Rattle.tcl_frame.specs.declared.variable.Variable.TheVariants.{Scalar};
 ghost use Rattle.tcl_frame.specs.Meaning.{Value};
 ghost use Rattle.tcl_frame.specs.Texts.{text_of_scalar};
-ghost use Rattle.tcl_frame.specs.OwnLending.{own_variables, lends_own, lends_plain, lends_written};
+ghost use Rattle.tcl_frame.specs.ScalarLending.{lends_written};
+ghost use Rattle.tcl_frame.specs.OwnLending.{own_variables, lends_own, lends_plain};
 
 use crate::fault::VarFault;
 use crate::found::Found;
@@ -177,7 +178,7 @@ impl Frames {
 
     /// The text of the scalar of a variable's name, to be changed; `None` where there is no such
     /// scalar, and where it is a base scalar that was never changed.
-    fn plain_mut(&mut self, name: &[u8]) -> Option<&mut Text>
+    fn scalar_place(&mut self, name: &[u8]) -> Option<&mut Text>
         ensures* writes_back { sem 𝓛 (lends_plain self.entry name.now result) }
         ensures value { IfSome (option_copied_mut result) (λ text.
             map.get (table_of self.old name.now) name.now ≡ Some (Scalar text)) }
@@ -206,7 +207,7 @@ impl Frames {
         if is_closed(name) {
             return None;
         }
-        self.plain_mut(name)
+        self.scalar_place(name)
     }
 
     /// What a name finds.

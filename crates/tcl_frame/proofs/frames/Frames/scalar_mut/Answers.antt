@@ -15,7 +15,7 @@ returns c =
     let stack = c.args.self.now in
     let name = c.bytes-name.result.now in
     let plain = sym c.is_closed.ensures ∙ c.if-is_closed.false in
-    let lent = c.plain_mut in (
+    let lent = c.scalar_place in (
       (
         refl,
         λ w. on_some lent.result _ _ (λ is.

@@ -8,7 +8,7 @@ use Rattle.tcl_frame.specs.Frames.{links_name, table_of}
 use Rattle.tcl_frame.proofs.Tables.{on_some}
 use Rattle.tcl_frame.proofs.Tops.{top_changed, top_own, own_in, own_changed, own_unchanged}
 use Rattle.tcl_frame.proofs.Scalars.{scalar_is, if_some, top_links, global_changed, global_kept, global_table}
-use Rattle.tcl_frame.proofs.frames.Frames.plain_mut.Goals as goal
+use Rattle.tcl_frame.proofs.frames.Frames.scalar_place.Goals as goal
 
 pub returns-then-leaves : goal.returns-then-leaves
 returns-then-leaves c =
