@@ -4,8 +4,8 @@ ghost use Rattle.std.specs.Prelude.{◌≡◌, ◌<◌, slice_index};
 ghost use Rattle.natives.specs.Hints as hints;
 ghost use Rattle.natives.specs.Hinted as hinted;
 
-/// How many hints there are. No two natives have one place among them, and of the other built-in names
-/// but two have.
+/// How many hints there are. The place of a name among them (`hint_place`) was picked so that, when it was
+/// chosen, no two natives had one place, and of the other built-in names but two had.
 pub(crate) const HINTS: usize = 256;
 
 /// The hint that a native of this place may be anywhere.
@@ -22,8 +22,8 @@ fn byte_at(name: &[u8], at: usize) -> usize
     }
 }
 
-/// The place of a text in a table of `HINTS` places, by its length, the byte at its half, the third before
-/// its end and the last. Several texts may have one place.
+/// The place of a text in a table of `HINTS` places, by its length, the byte at its half, the third byte
+/// from the end (of a shorter text its first) and the last. Several texts may have one place.
 #[tactic(auto, unfolding(crate::specs::Hints::hint_place))]
 pub(crate) fn hint_place(text: &[u8]) -> usize
     ensures is { result ≡ hints.hint_place text.now }
