@@ -5,8 +5,8 @@ use Rattle.txt_core.specs.Quoting.{quoting}
 use Rattle.tcl_host.specs.Leaf.{Leaf}
 use Rattle.natives.specs.Words.{arg}
 use Rattle.adp_host.specs.States.{PageState, arguments}
-use Rattle.tcl_host.specs.Checks.{gives, fails, is_counted, shaped}
-use Rattle.adp_host.specs.Checks.{paged, integer}
+use Rattle.tcl_host.specs.Checks.{gives, fails, is_counted, shaped, integer}
+use Rattle.adp_host.specs.Checks.{paged}
 
 -- `ns_adp_argc` gives how many arguments the page has, its file among them
 abbrev pub ns_adp_argc : Words → PageState → Leaf PageState
@@ -26,7 +26,7 @@ argument_at (Err message) host = fails message host
 -- all arguments as a list, or the one at the place that the second word is
 abbrev pub argument_text : Words → PageState → Leaf PageState
 argument_text words host =
-    if length words == 1 then gives (quoting (arguments host)) host else argument_at (integer (arg words 1)) host
+    if length words == 1 then gives (quoting (arguments host)) host else argument_at (integer words 1) host
 
 -- `ns_adp_argv ?PLACE?` gives the list of the page's arguments, or the one at a place
 abbrev pub ns_adp_argv : Words → PageState → Leaf PageState

@@ -1,13 +1,10 @@
 -- Pages in pages.
-use Rattle.std.specs.Prelude.{nat_le, [], ◌∷◌, length, drop, if◌then◌else◌}
+use Rattle.std.specs.Prelude.{nat_le, length, drop, Result, Ok, Err}
 use Rattle.txt_core.specs.Names.{Bytes, Words}
-use Rattle.txt_core.specs.Limits.{is_long}
-use Rattle.txt_core.specs.ErrorTexts.{no_page, page_fault, page_too_long}
 use Rattle.outside.specs.declared.question.Answer.{Answer}
-use Rattle.outside.specs.declared.question.Answer.TheVariants.{Said, Failed, Page, NoPage, PageFault}
-use Rattle.outside.specs.declared.question.Service.TheVariants as service
 use Rattle.adp_parse.specs.PiecesOf.{pieces_of}
 use Rattle.tcl_host.specs.PagePaths.{page_path, is_page_path}
+use Rattle.tcl_host.specs.Pages.{page_question, page_told}
 use Rattle.tcl_host.specs.Leaf.{Leaf, wants, Onward, goes, enters}
 use Rattle.natives.specs.Words.{arg}
 use Rattle.adp_host.specs.States.{PageState, with_page}
@@ -16,7 +13,7 @@ use Rattle.adp_host.specs.Checks.{paged}
 
 -- the page of a path is asked for
 abbrev pub asks_page : Bytes → PageState → Leaf PageState
-asks_page path host = wants (record { service = service.Page; words = path ∷ [] }) host
+asks_page path host = wants (page_question path) host
 
 -- `ns_adp_include FILE WORD..` asks for the page of the file, with a slash put in front where it lacks one
 abbrev pub ns_adp_include : Words → PageState → Leaf PageState
@@ -28,13 +25,11 @@ ns_adp_include words host =
 abbrev pub enters_page : Words → Bytes → PageState → Onward PageState
 enters_page words page host = enters (record { list = pieces_of page; args = drop 1 words }) (with_page host (drop 1 words))
 
--- What comes of the answer to `ns_adp_include`, whether or not a page is open: a page that isn't too long is entered, and any
--- other answer is an error, with which no page is entered. Pages neither say anything nor refuse: what was refused is an error
--- with the reason, and what was said is an error without one.
+-- the page that the command was told is entered, and with an error none is
+abbrev pub told_page : Words → Result Bytes Bytes → PageState → Onward PageState
+told_page words (Ok page) host = enters_page words page host
+told_page words (Err message) host = goes (fails message host)
+
+-- what comes of the answer to `ns_adp_include`, whether or not a page is open
 abbrev pub page_answered : Words → Answer → PageState → Onward PageState
-page_answered words (Page page) host =
-    if is_long page then goes (fails (page_too_long (page_path (arg words 1))) host) else enters_page words page host
-page_answered words NoPage host = goes (fails (no_page (page_path (arg words 1))) host)
-page_answered words PageFault host = goes (fails (page_fault (page_path (arg words 1))) host)
-page_answered words (Failed why) host = goes (fails why host)
-page_answered words (Said text) host = goes (fails [] host)
+page_answered words answer host = told_page words (page_told (page_path (arg words 1)) answer) host

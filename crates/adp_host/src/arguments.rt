@@ -5,10 +5,10 @@ ghost use Rattle.tcl_host.specs.Outcomes.{EndsWith};
 ghost use Rattle.adp_host.specs.States.{PageState, arguments};
 ghost use Rattle.adp_host.specs.Arguments.{argument, argument_text, ns_adp_argc, ns_adp_argv};
 
-use crate::checks::{integer, page_arguments};
+use crate::checks::page_arguments;
 use crate::host::AdpHost;
 use std::alloc::Global;
-use tcl_host::{Refusal, is_counted, require_words};
+use tcl_host::{Refusal, integer, is_counted, require_words};
 use tcl_list::quote;
 use txt_core::{Text, Words, write_natural};
 
@@ -40,7 +40,7 @@ fn argument_text(alloc: Global, args: &Words, words: &Words) -> Result<Text, Ref
     if words.len() == 1 {
         return Ok(quote(alloc, args)?);
     }
-    let place = integer(alloc, words.bytes_at(1))?;
+    let place = integer(alloc, words, 1)?;
     Ok(Text::new(alloc, argument(args, place))?)
 }
 

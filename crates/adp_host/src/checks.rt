@@ -3,13 +3,11 @@
 ghost use Rattle.std.specs.Prelude.{◌≡◌, drop, true, IfOk, IfErr};
 ghost use Rattle.txt_core.specs.ErrorTexts.{not_in_page};
 ghost use Rattle.adp_host.specs.States.{arguments, has_page};
-ghost use Rattle.adp_host.specs.Answers.{Finds, Passes, Refused};
-ghost use Rattle.adp_host.specs.Checks.{integer};
+ghost use Rattle.adp_host.specs.Answers.{Passes, Refused};
 
 use crate::host::AdpHost;
-use std::alloc::Global;
 use tcl_host::{Refusal, refuse};
-use txt_core::{Text, Words, error_text, read_int_bytes};
+use txt_core::{Text, Words, error_text};
 
 /// The words behind the command's name.
 pub fn behind_name(words: &Words) -> &[Text]
@@ -40,15 +38,5 @@ pub fn page_arguments(host: &AdpHost) -> Result<&Words, Refusal>
     match host.pages.as_slice().last() {
         Some(args) => Ok(args),
         None => Err(refuse(error_text::not_in_page(host.alloc))),
-    }
-}
-
-/// The number that a word is.
-pub fn integer(alloc: Global, word: &[u8]) -> Result<i64, Refusal>
-    ensures { Finds result (integer word.now) }
-{
-    match read_int_bytes(word) {
-        Some(number) => Ok(number),
-        None => Err(refuse(error_text::no_integer(alloc, word))),
     }
 }

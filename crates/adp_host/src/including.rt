@@ -8,9 +8,12 @@ ghost use Rattle.adp_host.specs.Includes.{ns_adp_include, enters_page, page_answ
 use crate::checks::{behind_name, require_page};
 use crate::host::AdpHost;
 use adp_parse::pieces;
-use outside::{Answer, Question, Service};
-use tcl_host::{HostReply, Refusal, is_page_path, page_path, refuse, require_fit, require_words};
-use txt_core::{NoMemory, Text, Words, error_text, is_too_long};
+use outside::Answer;
+use tcl_host::{
+    HostReply, Refusal, is_page_path, page_path, page_question, page_told, require_fit,
+    require_words,
+};
+use txt_core::{NoMemory, Text, Words};
 
 /// `ns_adp_include FILE WORD..` asks for the page.
 pub fn ns_adp_include(host: &mut AdpHost, words: &Words) -> Result<HostReply, Refusal>
@@ -21,12 +24,8 @@ pub fn ns_adp_include(host: &mut AdpHost, words: &Words) -> Result<HostReply, Re
     require_words(alloc, words.len() >= 2, words)?;
     require_page(host)?;
     require_fit(alloc, is_page_path(written), words, 1)?;
-    let mut asked = Words::new(alloc);
-    asked.add(page_path(alloc, written)?)?;
-    Ok(HostReply::Ask(Question {
-        service: Service::Page,
-        words: asked,
-    }))
+    let path = page_path(alloc, written)?;
+    Ok(HostReply::Ask(page_question(alloc, path)?))
 }
 
 /// Enters a page, with the words behind the command's name as its arguments.
@@ -51,16 +50,6 @@ pub fn page_answered(
 {
     let alloc = host.alloc;
     let path = page_path(alloc, words.bytes_at(1))?;
-    match answer {
-        Answer::Page(page) => {
-            if is_too_long(page) {
-                return Err(refuse(error_text::page_too_long(alloc, path.bytes())));
-            }
-            Ok(enter(host, words, page)?)
-        }
-        Answer::NoPage => Err(refuse(error_text::no_page(alloc, path.bytes()))),
-        Answer::PageFault => Err(refuse(error_text::page_fault(alloc, path.bytes()))),
-        Answer::Failed(why) => Err(refuse(why.copy(alloc))),
-        Answer::Said(_) => Err(Refusal::Error(Text::empty(alloc))),
-    }
+    let page = page_told(alloc, path.bytes(), answer)?;
+    Ok(enter(host, words, page)?)
 }

@@ -1,4 +1,4 @@
-//! A channel by itself.
+//! What is taken from a channel by itself.
 
 ghost use Rattle.std.specs.Prelude.{◌≡◌, ◌≤◌, IfOk, OnOk, OnErr, drop, take, length};
 ghost use Rattle.std.specs.List.{before_first};
@@ -7,8 +7,7 @@ ghost use Rattle.chan_core.specs.Lines.{line_of, behind_line};
 
 use memchr::memchr;
 use std::alloc::Global;
-use std::marker::Model;
-use txt_core::{NoMemory, Text};
+use txt_core::{NoMemory, Text, Unread};
 
 /// What ends a line.
 const NEWLINE: u8 = b'\n';
@@ -25,79 +24,32 @@ fn first_line(bytes: &[u8]) -> (&[u8], usize)
     }
 }
 
-/// A text that is read from its front. Contracts see it as the bytes not yet read.
-#[derive(Debug, Drop)]
-pub struct Channel {
-    text: Text,
-    /// How many bytes were read.
-    read: usize,
+/// Takes the line at the front of a text, and gives it without its newline; `None` where no byte is
+/// left.
+pub(crate) fn take_line(text: &mut Unread, alloc: Global) -> Result<Option<Text>, NoMemory>
+    ensures line { IfOk result (λ line. line ≡ line_of text.old) }
+    ensures left { OnOk result (text.new ≡ behind_line text.old) }
+    ensures err { OnErr result (text.new ≡ text.old) }
+{
+    let left = text.left();
+    if left.is_empty() {
+        return Ok(None);
+    }
+    let (line, taken) = first_line(left);
+    let line = Text::new(alloc, line)?;
+    text.pass(taken);
+    Ok(Some(line))
 }
 
-impl Model for Channel {
-    ghost use Rattle.std.specs.Prelude.{◌≤◌, drop, length};
-    ghost use Rattle.std.specs.Coded.{coded_list, coded_ℕ};
-    ghost use Rattle.txt_core.specs.Names.{Bytes};
-
-    ghost Value = { Bytes };
-
-    ghost coded = { coded_list coded_ℕ };
-
-    ghost view = { λ a. drop a.read a.text };
-
-    ghost invariant = { λ a. a.read ≤ length a.text };
-}
-
-impl Channel {
-    /// A channel of which nothing was read.
-    pub fn new(text: Text) -> Channel
-        ensures { result ≡ text }
-    {
-        Channel { text, read: 0 }
-    }
-
-    /// The bytes not yet read.
-    pub fn left(&self) -> &[u8]
-        ensures { result.now ≡ self.now }
-    {
-        &self.text.bytes()[self.read..]
-    }
-
-    /// Takes a line, and gives it without its newline; `None` where no byte is left.
-    pub fn take_line(&mut self, alloc: Global) -> Result<Option<Text>, NoMemory>
-        ensures line { IfOk result (λ line. line ≡ line_of self.old) }
-        ensures left { OnOk result (self.new ≡ behind_line self.old) }
-        ensures err { OnErr result (self.new ≡ self.old) }
-    {
-        let left = self.left();
-        if left.is_empty() {
-            return Ok(None);
-        }
-        let (line, taken) = first_line(left);
-        let line = Text::new(alloc, line)?;
-        self.pass(taken);
-        Ok(Some(line))
-    }
-
-    /// Takes the first bytes, at most so many.
-    pub fn take_bytes(&mut self, alloc: Global, most: u64) -> Result<Text, NoMemory>
-        ensures bytes { IfOk result (λ bytes. bytes ≡ take most self.old) }
-        ensures left { OnOk result (self.new ≡ drop most self.old) }
-        ensures err { OnErr result (self.new ≡ self.old) }
-    {
-        let left = self.left();
-        let count = left.len().min(most as usize);
-        let bytes = Text::new(alloc, &left[..count])?;
-        self.pass(count);
-        Ok(bytes)
-    }
-
-    /// Passes over the first bytes.
-    fn pass(&mut self, count: usize)
-        requires { count ≤ length self.old }
-        ensures { self.new ≡ drop count self.old }
-    {
-        let len = self.text.len();
-        prove!(self.read + count <= len);
-        self.read += count;
-    }
+/// Takes the first bytes of a text, at most so many.
+pub(crate) fn take_bytes(text: &mut Unread, alloc: Global, most: u64) -> Result<Text, NoMemory>
+    ensures bytes { IfOk result (λ bytes. bytes ≡ take most text.old) }
+    ensures left { OnOk result (text.new ≡ drop most text.old) }
+    ensures err { OnErr result (text.new ≡ text.old) }
+{
+    let left = text.left();
+    let count = left.len().min(most as usize);
+    let bytes = Text::new(alloc, &left[..count])?;
+    text.pass(count);
+    Ok(bytes)
 }

@@ -4,10 +4,10 @@ ghost use Rattle.std.specs.Prelude.{◌≡◌, ◌≢◌, ◌↔◌, ◌≤◌, 
 ghost use Rattle.chan_core.specs.Lines.{line_of, behind_line};
 ghost use Rattle.chan_core.specs.Chans.{channel, left_in, most_open, open_count, with_left};
 
-use crate::channel::Channel;
+use crate::channel::{take_bytes, take_line};
 use std::alloc::Global;
 use std::marker::Model;
-use txt_core::{NoMemory, Text};
+use txt_core::{NoMemory, Text, Unread};
 
 /// How many channels may be open at once.
 const MOST_OPEN: usize = 64;
@@ -38,7 +38,7 @@ impl From<NoMemory> for ChanFault {
 #[derive(Debug, Drop)]
 pub struct Chans {
     alloc: Global,
-    channels: Vec<Option<Channel>>,
+    channels: Vec<Option<Unread>>,
     open_now: usize,
 }
 
@@ -58,7 +58,7 @@ impl Model for Chans {
 }
 
 /// Takes a line of the channel at a place.
-fn line_at(place: &mut Option<Channel>, alloc: Global) -> Result<Option<Text>, ChanFault>
+fn line_at(place: &mut Option<Unread>, alloc: Global) -> Result<Option<Text>, ChanFault>
     ensures line { IfOk result (λ line. line ≡ line_of (unwrap_or place.old [])) }
     ensures ok { OnOk result (place.new ≡ Some (behind_line (unwrap_or place.old []))) }
     ensures absent { (result ≡ Err ChanFault.NoChannel) ↔ (place.old ≡ None) }
@@ -66,13 +66,13 @@ fn line_at(place: &mut Option<Channel>, alloc: Global) -> Result<Option<Text>, C
     ensures err { OnErr result (place.new ≡ place.old) }
 {
     match place {
-        Some(channel) => Ok(channel.take_line(alloc)?),
+        Some(channel) => Ok(take_line(channel, alloc)?),
         None => Err(ChanFault::NoChannel),
     }
 }
 
 /// Takes the first bytes of the channel at a place, at most so many.
-fn bytes_at(place: &mut Option<Channel>, alloc: Global, most: u64) -> Result<Text, ChanFault>
+fn bytes_at(place: &mut Option<Unread>, alloc: Global, most: u64) -> Result<Text, ChanFault>
     ensures bytes { IfOk result (λ bytes. bytes ≡ take most (unwrap_or place.old [])) }
     ensures ok { OnOk result (place.new ≡ Some (drop most (unwrap_or place.old []))) }
     ensures absent { (result ≡ Err ChanFault.NoChannel) ↔ (place.old ≡ None) }
@@ -80,7 +80,7 @@ fn bytes_at(place: &mut Option<Channel>, alloc: Global, most: u64) -> Result<Tex
     ensures err { OnErr result (place.new ≡ place.old) }
 {
     match place {
-        Some(channel) => Ok(channel.take_bytes(alloc, most)?),
+        Some(channel) => Ok(take_bytes(channel, alloc, most)?),
         None => Err(ChanFault::NoChannel),
     }
 }
@@ -113,7 +113,7 @@ impl Chans {
             return Err(ChanFault::Full);
         }
         let number = self.channels.len();
-        match self.channels.push(Some(Channel::new(bytes))) {
+        match self.channels.push(Some(Unread::new(bytes))) {
             Ok(()) => {}
             Err(_) => return Err(ChanFault::NoMemory),
         }

@@ -8,8 +8,8 @@ use Rattle.cmd_table.specs.declared.command.Cmd.TheVariants as commands
 use Rattle.cmd_table.specs.declared.latest.Looked.{Looked}
 use Rattle.cmd_table.specs.Table.{Table, command_of}
 
--- What was looked up is true of a name that stands for this command, or for none: it is the command that was kept, and it is
--- known whether it is the built-in of this very name.
+-- What was looked up is true of a name that stands for this command, or for none: this is what was kept, and `own` says whether it is
+-- the built-in of this very name.
 abbrev pub IsTrueOf : Option Cmd → Bytes → Looked → Type 0
 IsTrueOf found name looked = (looked.cmd ≡ found) × (IsTrue looked.own ↔ (found ≡ Some (commands.Built name)))
 

@@ -2,15 +2,12 @@
 use Rattle.std.specs.Prelude.{ℕ, ℤ, pos, negsuc, [], ◌∷◌, ◌++◌, length, take, drop, slice_set, ◌==◌, nat_lt, codes, if◌then◌else◌, Option, Some, None, unwrap_or, Ok, Err}
 use Rattle.std.specs.Fmt.{signed_decimal}
 use Rattle.txt_core.specs.Names.{Bytes, Words}
-use Rattle.txt_core.specs.Limits.{is_long}
-use Rattle.txt_core.specs.ErrorTexts.{no_page, page_fault, page_too_long}
 use Rattle.outside.specs.declared.question.Answer.{Answer}
-use Rattle.outside.specs.declared.question.Answer.TheVariants.{Said, Failed, Page, NoPage, PageFault}
-use Rattle.outside.specs.declared.question.Service.TheVariants as service
 use Rattle.chan_core.specs.Chans.{left_in, open_count, with_left}
 pub use Rattle.chan_core.specs.Chans.{most_open}
 use Rattle.chan_core.specs.Lines.{line_of, behind_line}
 use Rattle.tcl_host.specs.PagePaths.{is_page_path}
+use Rattle.tcl_host.specs.Pages.{page_question, page_told}
 use Rattle.tcl_host.specs.Leaf.{Leaf, wants, stores}
 use Rattle.natives.specs.Words.{arg}
 use Rattle.conn_host.specs.Conns.{ConnState, with_channels}
@@ -35,7 +32,7 @@ path_given words = if is_page_path (arg words 1) then Ok (arg words 1) else Err 
 
 -- the page of a path is asked for
 abbrev pub asks_page : Bytes → ConnState → Leaf ConnState
-asks_page path host = wants (record { service = service.Page; words = path ∷ [] }) host
+asks_page path host = wants (page_question path) host
 
 -- `open PATH` asks for the page of the path as it is written, however many channels are open
 abbrev pub open_page : Words → ConnState → Leaf ConnState
@@ -48,14 +45,9 @@ opens page host =
     then gives (channel_id (length host.channels)) (with_channels host (host.channels ++ Some page ∷ []))
     else fails too_many_channels host
 
--- What comes of the answer to `open`. What is wrong with the page goes before the number of channels. Pages neither say
--- anything nor refuse: what was refused is an error with the reason, and what was said is an error without one.
+-- what comes of the answer to `open`. What is wrong with the page goes before the number of channels
 abbrev pub page_answered : Words → Answer → ConnState → Leaf ConnState
-page_answered words (Page page) host = if is_long page then fails (page_too_long (arg words 1)) host else opens page host
-page_answered words NoPage host = fails (no_page (arg words 1)) host
-page_answered words PageFault host = fails (page_fault (arg words 1)) host
-page_answered words (Failed why) host = fails why host
-page_answered words (Said text) host = fails [] host
+page_answered words answer host = given (page_told (arg words 1) answer) opens host
 
 -- ---- reading
 

@@ -1,12 +1,10 @@
 -- What the commands look at before they do anything. A check finds something, or says what is wrong.
 use Rattle.std.specs.Prelude.{ℕ, ℤ, pos, negsuc, Option, Some, None, Result, Ok, Err}
 use Rattle.txt_core.specs.Names.{Bytes, Words}
-use Rattle.txt_core.specs.Number.{number}
 use Rattle.txt_core.specs.ErrorTexts.{no_connection}
 use Rattle.http_req.specs.declared.request.Request.{Request}
-use Rattle.natives.specs.Words.{arg}
 use Rattle.tcl_host.specs.Leaf.{Leaf}
-use Rattle.tcl_host.specs.Checks.{fails, shaped, is_counted, unfit, numbered}
+use Rattle.tcl_host.specs.Checks.{fails, shaped, is_counted, unfit, integer}
 use Rattle.conn_host.specs.Conns.{ConnState}
 
 -- what a check of an A comes to: what it found, or the text of an error
@@ -29,10 +27,6 @@ connected None = Err no_connection
 
 abbrev pub connection : ConnState → Checked Request
 connection host = connected host.request
-
--- the word at this place is a number
-abbrev pub integer : Words → ℕ → Checked ℤ
-integer words place = numbered (number (arg words place)) (arg words place)
 
 -- of a number, that it is one from 0 on
 abbrev pub not_negative : Checked ℤ → Words → ℕ → Checked ℕ

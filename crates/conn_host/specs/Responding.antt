@@ -11,8 +11,8 @@ use Rattle.http_resp.specs.declared.response.Response.{Response}
 use Rattle.tcl_host.specs.Leaf.{Leaf}
 use Rattle.natives.specs.Words.{arg}
 use Rattle.conn_host.specs.Conns.{ConnState, with_response, output_fields}
-use Rattle.tcl_host.specs.Checks.{gives, fails, unfit}
-use Rattle.conn_host.specs.Checks.{Checked, given, counted, connection, integer}
+use Rattle.tcl_host.specs.Checks.{gives, fails, unfit, integer}
+use Rattle.conn_host.specs.Checks.{Checked, given, counted, connection}
 
 abbrev pub respond_where : Option Response → Response → ConnState → Leaf ConnState
 respond_where None response host = gives [] (with_response host response)

@@ -9,8 +9,8 @@ use Rattle.ns_sets.specs.Sets.{name_of, fields_of, with_new, with_fields}
 use Rattle.tcl_host.specs.Leaf.{Leaf}
 use Rattle.natives.specs.Words.{arg}
 use Rattle.conn_host.specs.Conns.{ConnState, with_sets}
-use Rattle.tcl_host.specs.Checks.{gives, shaped, no_subcommand}
-use Rattle.conn_host.specs.Checks.{Checked, given, counted, integer, count}
+use Rattle.tcl_host.specs.Checks.{gives, shaped, no_subcommand, integer}
+use Rattle.conn_host.specs.Checks.{Checked, given, counted, count}
 use Rattle.conn_host.specs.Errors.{no_field}
 use Rattle.conn_host.specs.Ids.{set_id, set_at}
 use Rattle.conn_host.specs.declared.set_verb.SetVerb.{SetVerb}

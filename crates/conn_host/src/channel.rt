@@ -11,9 +11,11 @@ use crate::host::ConnHost;
 use crate::id::{channel_at, channel_id};
 use chan_core::{ChanFault, Chans};
 use natives::word_at;
-use outside::{Answer, Question, Service};
-use tcl_host::{HostReply, Refusal, done, is_page_path, refuse, require_fit};
-use txt_core::{NoMemory, Text, Words, error_text, is_too_long, truth_text, write_int};
+use outside::Answer;
+use tcl_host::{
+    HostReply, Refusal, done, is_page_path, page_question, page_told, refuse, require_fit,
+};
+use txt_core::{NoMemory, Text, Words, truth_text, write_int};
 
 /// The length of the line where there is none.
 const NO_LINE: i64 = -1;
@@ -38,12 +40,8 @@ pub fn open(host: &mut ConnHost, words: &Words) -> Result<HostReply, Refusal>
     let alloc = host.alloc;
     require_count(alloc, 2, 2, words)?;
     require_fit(alloc, is_page_path(words.bytes_at(1)), words, 1)?;
-    let mut asked = Words::new(alloc);
-    asked.add(word_at(words, 1).copy(alloc)?)?;
-    Ok(HostReply::Ask(Question {
-        service: Service::Page,
-        words: asked,
-    }))
+    let path = word_at(words, 1).copy(alloc)?;
+    Ok(HostReply::Ask(page_question(alloc, path)?))
 }
 
 /// Opens a channel on a page, where one more may be.
@@ -62,20 +60,8 @@ fn opens(host: &mut ConnHost, page: &Text) -> Result<Text, Refusal>
 pub fn page_answered(host: &mut ConnHost, words: &Words, answer: &Answer) -> Result<Text, Refusal>
     ensures { EndsWith result host.new (page_answered words.now answer.now host.old) }
 {
-    let alloc = host.alloc;
-    let path = words.bytes_at(1);
-    match answer {
-        Answer::Page(page) => {
-            if is_too_long(page) {
-                return Err(refuse(error_text::page_too_long(alloc, path)));
-            }
-            opens(host, page)
-        }
-        Answer::NoPage => Err(refuse(error_text::no_page(alloc, path))),
-        Answer::PageFault => Err(refuse(error_text::page_fault(alloc, path))),
-        Answer::Failed(why) => Err(refuse(why.copy(alloc))),
-        Answer::Said(_) => Err(Refusal::Error(Text::empty(alloc))),
-    }
+    let page = page_told(host.alloc, words.bytes_at(1), answer)?;
+    opens(host, page)
 }
 
 /// How many bytes a line has; -1 where there is none.

@@ -5,11 +5,11 @@ ghost use Rattle.txt_core.specs.ErrorTexts.{wrong_words, unknown_subcommand};
 ghost use Rattle.natives.specs.Words.{arg};
 ghost use Rattle.conn_host.specs.Answers.{Finds, Passes, Refuses};
 ghost use Rattle.tcl_host.specs.Checks.{is_counted};
-ghost use Rattle.conn_host.specs.Checks.{integer, count};
+ghost use Rattle.conn_host.specs.Checks.{count};
 
 use std::alloc::Global;
-use tcl_host::{Refusal, is_counted, no_subcommand, refuse, require_words, unfit};
-use txt_core::{Words, error_text, read_int_bytes};
+use tcl_host::{Refusal, integer, is_counted, no_subcommand, refuse, require_words, unfit};
+use txt_core::Words;
 
 /// Goes on where the number of words is in this range.
 pub fn require_count(alloc: Global, least: usize, most: usize, words: &Words) -> Result<(), Refusal>
@@ -25,17 +25,6 @@ pub fn unknown_subcommand(alloc: Global, words: &Words) -> Refusal
     ensures { Refuses result (unknown_subcommand (arg words.now 1) (arg words.now 0)) }
 {
     refuse(no_subcommand(alloc, words))
-}
-
-/// The number that the word at a place is.
-pub fn integer(alloc: Global, words: &Words, place: usize) -> Result<i64, Refusal>
-    ensures { Finds result (integer words.now place) }
-{
-    let word = words.bytes_at(place);
-    match read_int_bytes(word) {
-        Some(number) => Ok(number),
-        None => Err(refuse(error_text::no_integer(alloc, word))),
-    }
 }
 
 /// The number from 0 on that the word at a place is.

@@ -27,7 +27,7 @@ pub const OUTPUT_SET: u64 = 1;
 /// The set of the form.
 pub const FORM_SET: u64 = 2;
 
-/// How many sets a run makes at most, so that their room is kept.
+/// The most sets of a run whose room is kept.
 const MOST_SETS_KEPT: u64 = 64;
 
 /// What does the commands on a connection, on sets and on channels. Contracts see its state.

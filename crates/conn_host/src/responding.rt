@@ -9,13 +9,13 @@ ghost use Rattle.conn_host.specs.Answers.{Finds, Passes};
 ghost use Rattle.conn_host.specs.Conns.{output_fields};
 ghost use Rattle.conn_host.specs.Responding.{is_control, is_shown, is_kind, is_url, status, typed, redirection, not_found, respond, ns_return, ns_returnredirect, ns_returnnotfound};
 
-use crate::checks::{integer, require_count};
+use crate::checks::require_count;
 use crate::host::ConnHost;
 use http_resp::status::{FOUND, NOT_FOUND};
 use http_resp::{Response, plain};
 use natives::word_at;
 use std::alloc::Global;
-use tcl_host::{Refusal, refuse, require_fit};
+use tcl_host::{Refusal, integer, refuse, require_fit};
 use txt_core::{NoMemory, Pairs, Text, Words, error_text};
 
 /// The statuses of responses.

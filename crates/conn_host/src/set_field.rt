@@ -6,11 +6,10 @@ ghost use Rattle.tcl_host.specs.Outcomes.{EndsWith};
 ghost use Rattle.conn_host.specs.Answers.{Finds};
 ghost use Rattle.conn_host.specs.SetCommands.{on_set, field_at, set_delete, set_key, set_value};
 
-use crate::checks::integer;
 use crate::error::no_field;
 use crate::host::{ConnHost, kept};
 use crate::id::set_at;
-use tcl_host::{Refusal, refuse};
+use tcl_host::{Refusal, integer, refuse};
 use txt_core::{Text, Words};
 
 /// The place of a field of the set of this number that the fourth word is.

@@ -35,6 +35,9 @@ const DATE_START: usize = 23;
 /// Where it ends.
 const DATE_END: usize = DATE_START + 29;
 
+/// Where the field that names the server begins in it.
+const SERVER_START: usize = DATE_END + 2;
+
 /// The code and the reason phrase of a status that has a phrase of its own.
 #[tactic(auto, unfolding(crate::specs::StatusLine::reason))]
 fn known_status(status: u16) -> Option<&'static [u8]>
@@ -154,7 +157,7 @@ fn push_server_field(text: &mut Vec<u8>) -> Result<(), AllocError>
     ensures { OnOk result
         (text.new.items ≡ text.old.items ++ field_line (codes "Server") server_name) }
 {
-    text.extend_from_slice(b"Server: AOLserver-profile/1\r\n")
+    text.extend_from_slice(&OK_START[SERVER_START..])
 }
 
 /// Appends what stands before the output fields of a response of any status.

@@ -2,13 +2,16 @@
 use Rattle.std.proofs.Common.{◌≡◌, ℕ, ◌+◌, ◌<◌, List, [], ◌∷◌, ◌++◌, length, length-append, refl, ap, subst, ◌∙◌, arith, Bool, true, false, Result, Ok, Err, count_by, is_some}
 use Rattle.std.specs.Prelude.{nat_lt, if◌then◌else◌, bytes_eq, codes}
 use Rattle.std.proofs.lemmas.Bool.Decides.{nat_tests}
-use Rattle.txt_core.specs.Limits.{bucket_count, is_long}
+use Rattle.txt_core.specs.Limits.{bucket_count}
 use Rattle.natives.specs.Words.{arg}
 use Rattle.outside.specs.declared.question.Answer.{Answer}
 use Rattle.outside.specs.declared.question.Answer.TheVariants.{Said, Failed, Page, NoPage, PageFault}
 use Rattle.outside.specs.declared.question.Question.{Question}
 use Rattle.tcl_host.specs.Leaf.{Leaf, says, wants, defines, stores, not_mine, Onward, goes, enters}
+use Rattle.tcl_host.specs.PagePaths.{page_path}
+use Rattle.tcl_host.specs.Pages.{page_told}
 use Rattle.conn_host.specs.Conns.{ConnState}
+use Rattle.conn_host.specs.Checks.{given}
 use Rattle.conn_host.specs.ChannelCommands as channels
 use Rattle.conn_host.specs.Leaf.{conn_answer}
 use Rattle.adp_host.specs.States.{PageState}
@@ -53,25 +56,23 @@ either_onward true x y p q = p
 either_onward false x y p q = q
 
 -- `open` asks once
+channel_opens : (told : Result (List ℕ) (List ℕ)) (conn : ConnState) → asks (given told channels.opens conn) ≡ false
+channel_opens (Ok page) conn = either_asks (nat_lt (count_by (is_some {T = List ℕ}) conn.channels) channels.most_open) _ _ refl refl
+channel_opens (Err message) conn = refl
+
 channel_asks : (words : List (List ℕ)) (answer : Answer) (conn : ConnState) → asks (channels.page_answered words answer conn) ≡ false
-channel_asks words (Said text) conn = refl
-channel_asks words (Failed why) conn = refl
-channel_asks words (Page page) conn =
-    either_asks (is_long page) _ (channels.opens page conn) refl
-    (either_asks (nat_lt (count_by (is_some {T = List ℕ}) conn.channels) channels.most_open) _ _ refl refl)
-channel_asks words NoPage conn = refl
-channel_asks words PageFault conn = refl
+channel_asks words answer conn = channel_opens (page_told (arg words 1) answer) conn
 
 conn_asks : (words : List (List ℕ)) (answer : Answer) (conn : ConnState) → asks (conn_answer words answer conn) ≡ false
 conn_asks words answer conn = either_asks (bytes_eq (arg words 0) (codes "open")) _ _ (channel_asks words answer conn) refl
 
 -- `ns_adp_include` asks once
+include_enters : (words : List (List ℕ)) (told : Result (List ℕ) (List ℕ)) (pages : PageState) → onward_asks (includes.told_page words told pages) ≡ false
+include_enters words (Ok page) pages = refl
+include_enters words (Err message) pages = refl
+
 include_asks : (words : List (List ℕ)) (answer : Answer) (pages : PageState) → onward_asks (includes.page_answered words answer pages) ≡ false
-include_asks words (Said text) pages = refl
-include_asks words (Failed why) pages = refl
-include_asks words (Page page) pages = either_onward (is_long page) _ _ refl refl
-include_asks words NoPage pages = refl
-include_asks words PageFault pages = refl
+include_asks words answer pages = include_enters words (page_told (page_path (arg words 1)) answer) pages
 
 pages_ask : (words : List (List ℕ)) (answer : Answer) (pages : PageState) → onward_asks (page_onward words answer pages) ≡ false
 pages_ask words answer pages = either_onward (bytes_eq (arg words 0) (codes "ns_adp_include")) _ _ (include_asks words answer pages) refl

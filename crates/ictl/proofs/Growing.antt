@@ -158,7 +158,7 @@ script_writes (asking question state within) made inside h = record { own = h.ow
 script_writes (exhausted state within left) made inside h = record { own = h.own; all = h.all }
 script_writes (nested state within left) made inside h = record { own = h.own; all = h.all }
 
-filter_grows : (next rest : Stretch) (verdict : Verdict) → Grows next → Grows rest → Grows (filter_end next rest verdict)
+pub filter_grows : (next rest : Stretch) (verdict : Verdict) → Grows next → Grows rest → Grows (filter_end next rest verdict)
 filter_grows next rest Goes on breaks = on
 filter_grows next rest Breaks on breaks = breaks
 filter_grows next rest Returns on breaks = λ state account left. here state account.inside _ refl refl

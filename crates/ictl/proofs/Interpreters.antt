@@ -9,27 +9,29 @@ use Rattle.tcl_eval.specs.State.{State}
 use Rattle.tcl_eval.specs.Engine.{Lasts, at_global}
 use Rattle.tcl_eval.specs.declared.outcome.Work.{Work}
 use Rattle.ictl.specs.Fresh.{outset}
-use Rattle.ictl.specs.Settle.{Settled, exhausted, nested, account_of}
+use Rattle.ictl.specs.Settle.{Account, Settled, exhausted, nested, account_of}
 use Rattle.http_resp.specs.declared.response.Response.{Response}
 use Rattle.server_host.specs.declared.edition.Edition.{Edition}
 use Rattle.tcl_eval.specs.declared.outcome.Outcome.{Outcome}
 use Rattle.tcl_eval.specs.declared.outcome.Outcome.TheVariants as outcomes
 use Rattle.http_req.specs.declared.request.Request.{Request}
-use Rattle.ictl.specs.Main.{Progress, writes, ends, both, answered, behind, page_question, page_asked, runs}
+use Rattle.ictl.specs.Main.{Progress, Stretch, filter_end, writes, ends, both, answered, behind, page_question, page_asked, runs}
 use Rattle.ictl.specs.Replies.{budget_reply, nesting_reply, procedure_reply}
+use Rattle.ictl.specs.declared.ending.After.{After}
+use Rattle.ictl.specs.declared.ending.Verdict.{Verdict}
 use Rattle.ictl.specs.declared.ending.Ending.{Ending}
 use Rattle.ictl.specs.declared.ending.Ending.TheVariants.{Answered, Spent, TooDeep}
 use Rattle.ictl.specs.Standing.{settling_gives, settling_at, inner_written}
 use Rattle.ictl.specs.declared.defining.DefineRun.{DefineRun}
 use Rattle.ictl.specs.declared.inner.InnerRun.{InnerRun}
 use Rattle.ictl.specs.Interps.{interp_state, ending_of, interp_written, Holds, IsSameRun, task_end, goes_to, asking_gives, gives, move_gives, UnlessNoMemory, Stands, GoesOn, StandsOn}
-use Rattle.ictl.specs.Falls.{IsEnd, StandsAt, IsWriting, MoveStandsAt, MoveFalls, SettlingAsks, TaskAsks, IsScriptTask, per_question, define_number, inner_number, settling_number, task_number, SettlingFalls, EndFalls, StopFalls}
+use Rattle.ictl.specs.Falls.{IsEnd, StandsAt, GoesOut, IsWriting, MoveStandsAt, MoveFalls, SettlingAsks, TaskAsks, IsScriptTask, per_question, define_number, inner_number, settling_number, task_number, SettlingFalls, EndFalls, StopFalls}
 use Rattle.ictl.specs.declared.running.Stop.{Stop}
 use Rattle.ictl.specs.declared.running.Stop.TheVariants as stops
 use Rattle.ictl.specs.declared.settling.Settling.{Settling}
 use Rattle.ictl.specs.declared.task.Task.{Task}
 use Rattle.ictl.specs.declared.task.Task.TheVariants.{New, Preauth, Authorise, Postauth, PageAsked, Procedure, Page, Writing, Trace, Cleanup, Script, Define, Over}
-use Rattle.ictl.specs.Steps.{Lowers, cut_stop, cut_reply}
+use Rattle.ictl.specs.Steps.{Lowers, followed, Follows, cut_stop, cut_reply}
 use Rattle.ictl.specs.declared.task.Move.{Move}
 use Rattle.ictl.specs.declared.task.Move.TheVariants as moves
 use Rattle.ictl.specs.declared.next.Next.{Next}
@@ -59,11 +61,18 @@ ok_both (Ok a) P Q R goes p q = goes a p q
 ok_both (Err e) P Q R goes p q = tt
 
 -- what is answered where memory wants is no good answer
-unless : (next : Next) (fact : Type 0) → fact → UnlessNoMemory next fact
+pub unless : (next : Next) (fact : Type 0) → fact → UnlessNoMemory next fact
 unless (Asks question) fact h = h
 unless (Write response) fact h = h
 unless (Ended outcome) fact h = h
 unless NoMemory fact h = tt
+
+-- what goes out is no want of memory
+pub stands_out : (names : List (List ℕ)) (next : Next) (run : List Answer → Progress) (inside : ℕ) (i : Interp) → GoesOut next i → Stands names run next inside i [] → (further : List Answer) → run further ≡ gives names next inside i further
+stands_out names (Asks question) run inside i out stands = stands
+stands_out names (Write response) run inside i out stands = stands
+stands_out names (Ended outcome) run inside i out stands = stands
+stands_out names NoMemory run inside i out stands = absurd out
 
 pub answered_so : {E : Type 0} (came : Result Next E) (next : Next) (fact : Next → Type 0) → MatchResult came (λ n. next ≡ n) (λ e. next ≡ NoMemory) → IfOk came fact
     → UnlessNoMemory next (fact next)
@@ -73,6 +82,12 @@ answered_so (Err e) next fact is h = subst (λ (m : Next). UnlessNoMemory m (fac
 pub answered_or : {E : Type 0} (came : Result Next E) (next : Next) (fact : Next → Type 0) → fact NoMemory → MatchResult came (λ n. next ≡ n) (λ e. next ≡ NoMemory) → IfOk came fact → fact next
 answered_or (Ok n) next fact wants is h = subst fact (sym is) h
 answered_or (Err e) next fact wants is h = subst fact (sym is) wants
+
+-- what follows a filter that is known
+pub follows_so : (known was : After) (said : Verdict) (next behind : Stretch) (state : State HostState) (account : Account) (further : List Answer) → was ≡ known → Follows was said state
+    → followed next behind known state account further ≡ filter_end next behind said state account further
+follows_so known was said next behind state account further is follows =
+    ap (λ (a : After). followed next behind a state account further) (sym is) ∙ ap (λ (run : Account → List Answer → Progress). run account further) (follows next behind)
 
 -- ---- questions fall
 

@@ -13,6 +13,7 @@ mod Lasting
 mod Overs
 mod Pages
 mod Questions
+mod Renewals
 mod Resets
 mod Runs
 mod Silent

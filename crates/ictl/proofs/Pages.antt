@@ -1,21 +1,20 @@
 -- First pages.
-use Rattle.std.proofs.Common.{◌≡◌, ℕ, List, [], ◌∷◌, refl, sym, subst, ap, ◌∙◌, Bool, true, false}
-use Rattle.std.specs.Prelude.{if◌then◌else◌, codes}
-use Rattle.txt_core.specs.Limits.{is_long}
+use Rattle.std.proofs.Common.{◌≡◌, ℕ, List, ◌∷◌, refl, sym, subst, ap, ◌∙◌, Result, Ok, Err}
 use Rattle.outside.specs.declared.question.Answer.{Answer}
-use Rattle.outside.specs.declared.question.Answer.TheVariants.{Said, Failed, Page, NoPage, PageFault}
 use Rattle.tcl_host.specs.Leaf.{Leaf, says, wants, defines, stores, not_mine, Onward, goes, enters}
+use Rattle.tcl_host.specs.PagePaths.{page_path}
+use Rattle.tcl_host.specs.Pages.{page_told}
 use Rattle.tcl_host.specs.Answers.{RepliesTo}
 use Rattle.tcl_host.specs.declared.host.HostReply.{HostReply}
 use Rattle.tcl_host.specs.declared.host.HostReply.TheVariants as replies
+use Rattle.adp_host.specs.Includes.{told_page}
 use Rattle.server_host.specs.declared.edition.Edition.{Edition}
 use Rattle.server_host.specs.Hosts.{HostState, with_pages}
 use Rattle.server_host.specs.Parts.{onward_in_whole}
 use Rattle.server_host.specs.Leaf.{host_table}
-use Rattle.adp_host.specs.States.{PageState}
 use Rattle.tcl_eval.specs.State.{State}
 use Rattle.tcl_eval.specs.Eval.{with_host}
-use Rattle.tcl_eval.specs.Engine.{at_global}
+use Rattle.tcl_eval.specs.Engine.{at_global, IsNoPage}
 use Rattle.tcl_eval.specs.declared.outcome.Work.{Work}
 use Rattle.http_resp.specs.declared.response.Response.{Response}
 use Rattle.ictl.specs.Settle.{Account, account_of}
@@ -38,18 +37,14 @@ host_behind (goes (stores name value result host)) old = host
 host_behind (goes (not_mine host)) old = host
 host_behind (enters pieces host) old = old
 
-either_page : (t : Bool) (x y : Onward PageState) (host : HostState) → host_behind (onward_in_whole (with_pages host) x) host ≡ host → host_behind (onward_in_whole (with_pages host) y) host ≡ host
-    → host_behind (onward_in_whole (with_pages host) (if t then x else y)) host ≡ host
-either_page true x y host left right = left
-either_page false x y host left right = right
+told_unchanged : (path : List ℕ) (told : Result (List ℕ) (List ℕ)) (host : HostState)
+    → host_behind (onward_in_whole (with_pages host) (told_page (page_words path) told host.pages)) host ≡ host
+told_unchanged path (Ok page) host = refl
+told_unchanged path (Err message) host = refl
 
 -- an answer that doesn't enter a first page leaves the host
 unchanged : (path : List ℕ) (answer : Answer) (host : HostState) → host_behind (host_table.answers (page_words path) answer host) host ≡ host
-unchanged path (Said text) host = refl
-unchanged path (Failed why) host = refl
-unchanged path (Page page) host = either_page (is_long page) _ _ host refl refl
-unchanged path NoPage host = refl
-unchanged path PageFault host = refl
+unchanged path answer host = told_unchanged path (page_told (page_path path) answer) host
 
 -- what comes of a reply that doesn't enter it
 pub record Refused (names : List (List ℕ)) (blueprint : Edition) (moment : ℕ) (path : List ℕ) (answer : Answer) (host new : HostState) : Type 0 where
@@ -67,21 +62,24 @@ module _ (names : List (List ℕ)) (blueprint : Edition) (moment : ℕ) (path : 
   pub refused : (reply : HostReply) → EntersNone reply → RepliesTo reply new (host_table.answers (page_words path) answer host) → Refused names blueprint moment path answer host new
   refused (replies.Done code result) none is = by_leaf (says code result new) refl is
   refused (replies.Ask question) none is = by_leaf (wants question new) refl is
-  refused (replies.Enter pieces) none is = absurd none
+  refused (replies.Enter pieces) none is = absurd none.0
   refused (replies.Define def) none is = by_leaf (defines def new) refl is
   refused (replies.Store name value result) none is = by_leaf (stores name value result new) refl is
   refused replies.NotMine none is = by_leaf (not_mine new) refl is
-  refused replies.NoMemory none is = absurd none
+  refused replies.NoMemory none is = absurd (none.1 refl)
 
 -- a reply that is neither enters no page
+no_page : (reply : HostReply) → ((pieces : _) → reply ≡ replies.Enter pieces → ⊥) → IsNoPage reply
+no_page (replies.Done code result) enter = tt
+no_page (replies.Ask question) enter = tt
+no_page (replies.Enter pieces) enter = absurd (enter pieces refl)
+no_page (replies.Define def) enter = tt
+no_page (replies.Store name value result) enter = tt
+no_page replies.NotMine enter = tt
+no_page replies.NoMemory enter = tt
+
 pub enters_none : (reply : HostReply) → ((pieces : _) → reply ≡ replies.Enter pieces → ⊥) → (reply ≡ replies.NoMemory → ⊥) → EntersNone reply
-enters_none (replies.Done code result) enter wants_memory = tt
-enters_none (replies.Ask question) enter wants_memory = tt
-enters_none (replies.Enter pieces) enter wants_memory = absurd (enter pieces refl)
-enters_none (replies.Define def) enter wants_memory = tt
-enters_none (replies.Store name value result) enter wants_memory = tt
-enters_none replies.NotMine enter wants_memory = tt
-enters_none replies.NoMemory enter wants_memory = absurd (wants_memory refl)
+enters_none reply enter wants_memory = (no_page reply enter, wants_memory)
 
 -- a script may begin with the budget that the task has
 pub ready_asked : (task : Task) (path other : List ℕ) (budget left : ℕ) (s : Settling) → task ≡ PageAsked path budget → IsReady budget s → task ≡ PageAsked other left → IsReady left s

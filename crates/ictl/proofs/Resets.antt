@@ -18,7 +18,7 @@ use Rattle.ictl.specs.Visits.{authoriser, cleanups_of, is_authorised, is_procedu
 use Rattle.outside.specs.declared.question.Answer.{Answer}
 use Rattle.ictl.specs.Main.{Progress}
 use Rattle.ictl.specs.declared.next.Next.{Next}
-use Rattle.ictl.specs.Interps.{UnlessNoMemory, Stands, gives, taken as taken_in, interp_state, spare_of, put_on, restored, HasBlueprint, IsSound, IsFresh, IsNew, Holds, IsSameRun}
+use Rattle.ictl.specs.Interps.{Stands, Begins, interp_state, spare_of, put_on, restored, HasBlueprint, IsSound, IsFresh, IsNew, Holds, IsSameRun}
 use Rattle.ictl.specs.Falls.{IsAsking, IsWriting, TaskAsks}
 use Rattle.ictl.specs.declared.visit.Visit.{Visit}
 use Rattle.ictl.specs.declared.task.Task.{Task}
@@ -275,13 +275,11 @@ sound_from names new with_spare old is some spare holds sound =
 
 -- a run that was begun with a spare blueprint is one on the blueprint itself
 pub run_from : (names : List (List ℕ)) (next : Next) (run : Edition → List Answer → Progress) (new with_spare old : Interp) (after before : ℕ) → with_spare ≡ record old { spare = with_spare.spare }
-    → UnlessNoMemory next ((further : List Answer) → run with_spare.blueprint.value further ≡ gives names next (taken_in names after before new with_spare) new further)
-    → Stands names (run old.blueprint.value) next (taken_in names after before new old) new []
+    → Begins names (run with_spare.blueprint.value) next after before new with_spare → Begins names (run old.blueprint.value) next after before new old
 run_from names next run new with_spare old after before is stands =
-    subst (λ (i : Interp). Stands names (run i.blueprint.value) next (taken_in names after before new i) new []) is stands
+    subst (λ (i : Interp). Begins names (run i.blueprint.value) next after before new i) is stands
 
 pub defined_from : (names : List (List ℕ)) (next : Next) (run : Edition → List Answer → Progress) (new with_spare old : Interp) → with_spare ≡ record old { spare = with_spare.spare }
-    → UnlessNoMemory next ((further : List Answer) → run with_spare.blueprint.value further ≡ gives names next 0 new further)
-    → Stands names (run old.blueprint.value) next 0 new []
+    → Stands names (run with_spare.blueprint.value) next 0 new [] → Stands names (run old.blueprint.value) next 0 new []
 defined_from names next run new with_spare old is stands =
     subst (λ (i : Interp). Stands names (run i.blueprint.value) next 0 new []) is stands

@@ -48,6 +48,10 @@ Suffices (stops.Asks question) run questions = askable run < questions
 Suffices stops.Spent run questions = Unit {0}
 Suffices stops.TooDeep run questions = Unit {0}
 
+-- the same behind an answer, where so many were left as may be asked from its question on
+abbrev pub SufficesOn : Stop → Running → Running → Type 0
+SufficesOn stop new old = (questions : ℕ) → askable old ≤ questions → Suffices stop new questions
+
 -- ---- where it stands
 
 -- a run that stopped at a question has it open, for whom it goes to
@@ -219,7 +223,7 @@ SettlingFalls (stops.Asks question) s before = settling_number s < before
 SettlingFalls stops.Spent s before = Unit {0}
 SettlingFalls stops.TooDeep s before = Unit {0}
 
--- a script that goes on asks with less than what all the questions count for that it may ask
+-- a script that begins or goes on asks with less than what all the questions count for that it may ask
 abbrev pub ScriptFalls : Stop → Settling → Settling → Type 0
 ScriptFalls stop new old = (before : ℕ) → per_question * old.questions ≤ before → SettlingFalls stop new before
 

@@ -141,9 +141,9 @@ pub record Holds (new old : Interp) : Type 0 where
   pub cleanups : new.cleanups ≡ old.cleanups
   pub authorises : new.authorises ≡ old.authorises
 
--- the mark of the last run stays
-abbrev pub KeepsMark : Interp → Interp → Type 0
-KeepsMark new old = new.settling.run.engine.host.marked ≡ old.settling.run.engine.host.marked
+-- whether the last run marked it stays
+abbrev pub KeepsMarked : Interp → Interp → Type 0
+KeepsMarked new old = new.settling.run.engine.host.marked ≡ old.settling.run.engine.host.marked
 
 -- Within one run the request's filters, its authorisation and what serves it stay, and so do the moment and the spare blueprint.
 pub record IsSameRun (new old : Interp) : Type 0 where
@@ -303,18 +303,21 @@ module _ (names : Names) where
   behind_of i whole request inside answers =
       behind names i.blueprint.value i.moment whole request (ending_of i.task) (interp_state i) inside answers
 
-  -- It goes on behind its response: of whichever request it went through, where it was sound, it stands for what comes behind that
-  -- one's response.
+  -- This holds of whichever request it went through, where it is sound.
+  abbrev pub OfItsRequest : Interp → (Request → Type 0) → Type 0
+  OfItsRequest i fact = (request : Request) → IsSound names i → i.visit ≡ visit_of names i.blueprint.value request → fact request
+
+  -- It goes on behind its response: it stands for what comes behind the response to its request.
   abbrev pub GoesBehind : Bool → Next → ℕ → ℕ → Interp → Interp → Type 0
   GoesBehind whole next after before new old =
-      (request : Request) → IsSound names old → old.visit ≡ visit_of names old.blueprint.value request → (inside : ℕ)
-      → Stands (behind_of old whole request inside) next (inside + taken names after before new old) new []
+      OfItsRequest old
+      (λ request. (inside : ℕ) → Stands (behind_of old whole request inside) next (inside + taken names after before new old) new [])
 
-  -- no more steps are counted there than what comes behind the response writes
+  -- a call stays within what comes behind the response writes
   abbrev pub BehindWithin : Bool → ℕ → ℕ → Interp → Interp → Type 0
   BehindWithin whole after before new old =
-      (request : Request) → IsSound names old → old.visit ≡ visit_of names old.blueprint.value request → (inside : ℕ)
-      → IsWithin (inside + Writes (interp_state old).made) before after new (behind_of old whole request inside [])
+      OfItsRequest old
+      (λ request. (inside : ℕ) → IsWithin (inside + Writes (interp_state old).made) before after new (behind_of old whole request inside []))
 
   -- its visit is that of this request, and its moment is this
   abbrev pub IsVisitOf : Request → Moment → Interp → Interp → Type 0
@@ -338,7 +341,7 @@ module _ (names : Names) where
       (question : Question) (inside : ℕ) (run : List Answer → Progress) (given : List Answer)
       → Stands run (Asks question) inside old given → Stands run next (inside + took) new (given ++ answer ∷ [])
 
-  -- no more steps are counted with an answer than what comes of it writes
+  -- a call stays within what comes of the answer writes
   abbrev pub AnswerWithin : Answer → ℕ → ℕ → Interp → Interp → Type 0
   AnswerWithin answer after before new old =
       (question : Question) (inside : ℕ)

@@ -15,3 +15,4 @@ pub mod CameCode
 pub mod Steps
 pub mod Within
 pub mod Ways
+pub mod Renewing

@@ -5,13 +5,13 @@ use Rattle.txt_core.specs.Limits.{bucket_count, run_budget}
 use Rattle.outside.specs.declared.question.Answer.{Answer}
 use Rattle.outside.specs.declared.question.Answer.TheVariants as kinds
 use Rattle.outside.specs.declared.question.Question.{Question}
-use Rattle.outside.specs.declared.question.Service.TheVariants as service
 use Rattle.http_req.specs.declared.request.Request.{Request}
 use Rattle.http_resp.specs.declared.response.Response.{Response}
 use Rattle.http_resp.specs.Replies.{plain_reply}
 use Rattle.http_resp.specs.Statuses as statuses
 use Rattle.tcl_host.specs.Codes as code_of
 use Rattle.tcl_host.specs.Leaf.{Onward, goes, enters}
+pub use Rattle.tcl_host.specs.Pages.{page_question}
 use Rattle.server_host.specs.declared.edition.Edition.{Edition}
 use Rattle.server_host.specs.Hosts.{HostState}
 use Rattle.server_host.specs.Leaf.{host_table}
@@ -151,10 +151,6 @@ defined_end inside (gone state left) = ends outcomes.Spent state inside left
 defined_end inside (sunk state left) = ends outcomes.TooDeep state inside left
 
 -- ---- first pages
-
--- the question for a first page
-abbrev pub page_question : Bytes → Question
-page_question path = record { service = service.Page; words = path ∷ [] }
 
 -- a first page is entered as an included one is, by these words
 abbrev pub page_words : Bytes → Words

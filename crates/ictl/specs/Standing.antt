@@ -1,5 +1,5 @@
 -- What a script stands for that has come so far, with the run inside it, if there is one.
-use Rattle.std.specs.Prelude.{ℕ, ◌+◌, List, ◌∷◌, Option, Some, None}
+use Rattle.std.specs.Prelude.{◌≡◌, ℕ, ◌+◌, List, ◌∷◌, Option, Some, None}
 use Rattle.txt_core.specs.Names.{Bytes, Names, Moment}
 use Rattle.outside.specs.declared.question.Answer.{Answer}
 use Rattle.outside.specs.declared.question.Question.{Question}
@@ -7,7 +7,7 @@ use Rattle.cmd_table.specs.Commands.{Writes}
 use Rattle.server_host.specs.declared.edition.Edition.{Edition}
 use Rattle.server_host.specs.Hosts.{HostState}
 use Rattle.server_host.specs.Leaf.{host_table}
-use Rattle.tcl_eval.specs.State.{State}
+use Rattle.tcl_eval.specs.State.{State, Given}
 use Rattle.tcl_eval.specs.Engine.{state_of as engine_state, comes_to as engine_comes_to}
 use Rattle.tcl_eval.specs.declared.outcome.Outcome.{Outcome}
 use Rattle.tcl_eval.specs.declared.outcome.Outcome.TheVariants as outcomes
@@ -39,7 +39,16 @@ outcome_at TooDeep = outcomes.TooDeep
 abbrev pub comes_to : Names → Stop → Running → Run
 comes_to names stop run = engine_comes_to names host_table (outcome_at stop) run.engine
 
+-- where a run stopped so behind an answer that used so much of the budget, it comes to what it came to at its question, with that answer
+abbrev pub RunsOn : Names → ℕ → Answer → Stop → Running → Running → Type 0
+RunsOn names used answer stop new old =
+    (question : Question) (given : Given) → comes_to names stop new given ≡ comes_to names (Asks question) old ((answer, used) ∷ given)
+
 -- ---- what was written
+
+-- In a call each entry was counted that the run wrote in its own command table, and nothing else.
+abbrev pub CountsMade : ℕ → ℕ → Running → Running → Type 0
+CountsMade after before new old = after + Writes old.engine.made ≡ before + Writes new.engine.made
 
 -- the entries of its own command table that a run inside has written, from its making on
 abbrev pub inner_written : Names → Edition → Option InnerRun → ℕ

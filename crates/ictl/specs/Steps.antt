@@ -1,8 +1,11 @@
 -- Whether a script, or a run, goes on.
-use Rattle.std.specs.Prelude.{◌≡◌, ◌<◌, ℕ, ◌+◌, ◌-◌, List, length, [], None}
+use Rattle.std.specs.Prelude.{◌≡◌, ◌≢◌, ◌<◌, ℕ, ◌+◌, ◌-◌, List, length, [], None}
 use Rattle.txt_core.specs.Names.{Bytes, Words, Names, Moment}
 use Rattle.outside.specs.declared.question.Answer.{Answer}
 use Rattle.server_host.specs.declared.edition.Edition.{Edition}
+use Rattle.server_host.specs.Hosts.{HostState}
+use Rattle.tcl_eval.specs.State.{State}
+use Rattle.tcl_eval.specs.Engine.{IsNoPage}
 use Rattle.ictl.specs.Settle.{Settled, settle}
 use Rattle.ictl.specs.Defines.{inner_runs}
 use Rattle.http_resp.specs.declared.response.Response.{Response}
@@ -11,12 +14,15 @@ use Rattle.tcl_host.specs.declared.host.HostReply.TheVariants as replies
 use Rattle.tcl_eval.specs.declared.outcome.Work.{Work}
 use Rattle.tcl_eval.specs.declared.outcome.Work.TheVariants as works
 use Rattle.ictl.specs.Replies.{failed, budget_reply, nesting_reply}
-use Rattle.ictl.specs.Main.{Progress, defined_end}
+use Rattle.ictl.specs.Main.{Progress, Stretch, responds, filter_end, defined_end}
 use Rattle.ictl.specs.Standing.{comes_to, define_gives, settling_gives}
 use Rattle.ictl.specs.declared.running.Stop.{Stop}
 use Rattle.ictl.specs.declared.running.Stop.TheVariants as stops
 use Rattle.ictl.specs.declared.defining.DefineRun.{DefineRun}
 use Rattle.ictl.specs.declared.defining.DefineStop.{DefineStop}
+use Rattle.ictl.specs.declared.ending.After.{After}
+use Rattle.ictl.specs.declared.ending.After.TheVariants as afters
+use Rattle.ictl.specs.declared.ending.Verdict.{Verdict}
 use Rattle.ictl.specs.declared.ending.Ending.{Ending}
 use Rattle.ictl.specs.declared.ending.Ending.TheVariants.{Answered, Spent, TooDeep}
 use Rattle.ictl.specs.declared.settling.Settling.{Settling}
@@ -65,6 +71,10 @@ abbrev pub Lowers : Move → Interp → ℕ → Type 0
 Lowers (moves.Goes stop) i before = scripts_left i.visit i.cleanups i.task < before
 Lowers (moves.Stops next) i before = Unit {0}
 
+-- where a run goes on with a script, fewer may still be begun behind it than behind this task
+abbrev pub LowersIn : Task → Move → Interp → Interp → Type 0
+LowersIn task step new old = Lowers step new (scripts_left old.visit old.cleanups task)
+
 -- ---- what the functions of an interpreter speak of
 
 -- the path of the first page that is asked for
@@ -85,13 +95,7 @@ asked_path Over = []
 
 -- a host's reply, which isn't want of memory, enters no page
 abbrev pub EntersNone : HostReply → Type 0
-EntersNone (replies.Done code result) = Unit {0}
-EntersNone (replies.Ask question) = Unit {0}
-EntersNone (replies.Enter pieces) = ⊥
-EntersNone (replies.Define def) = Unit {0}
-EntersNone (replies.Store name value result) = Unit {0}
-EntersNone replies.NotMine = Unit {0}
-EntersNone replies.NoMemory = ⊥
+EntersNone reply = IsNoPage reply × (reply ≢ replies.NoMemory)
 
 -- it enters a page, of which this runs
 abbrev pub EntersBy : Work → HostReply → Type 0
@@ -102,6 +106,16 @@ EntersBy work (replies.Define def) = ⊥
 EntersBy work (replies.Store name value result) = ⊥
 EntersBy work replies.NotMine = ⊥
 EntersBy work replies.NoMemory = ⊥
+
+-- what comes where this follows a filter, by what comes where the next one is called, and where its stage is over
+abbrev pub followed : Stretch → Stretch → After → Stretch
+followed next behind afters.Next = next
+followed next behind afters.Behind = behind
+followed next behind (afters.Responds response) = responds response
+
+-- This follows a filter that said so, in this state, whatever comes of the next one and behind the stage.
+abbrev pub Follows : After → Verdict → State HostState → Type 0
+Follows after said state = (next behind : Stretch) → followed next behind after state ≡ filter_end next behind said state
 
 -- where a script was cut off that ended so, and the reply
 abbrev pub cut_stop : Ending → Stop

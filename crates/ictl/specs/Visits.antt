@@ -56,7 +56,7 @@ is_procedure None = false
 is_procedure (Some (Built name)) = false
 is_procedure (Some (Proc params body)) = true
 
--- whether requests are authorised on natives of these names and these definitions: where that name is a procedure then
+-- whether requests are authorised on natives of these names and these definitions: where `ns_authorize` is a procedure then
 abbrev pub is_authorised : Names → List Def → Bool
 is_authorised names made = is_procedure (command_of (Commands names made) authoriser)
 

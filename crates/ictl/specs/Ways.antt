@@ -1,19 +1,17 @@
 -- What is left of a script or of a run, and the calls that go on along it.
-use Rattle.std.specs.Prelude.{◌≡◌, ◌≤◌, ℕ, ◌+◌, ◌-◌, List, [], ◌∷◌, true, Some}
+use Rattle.std.specs.Prelude.{◌≡◌, ◌≤◌, ℕ, ◌+◌, ◌-◌, List, [], ◌∷◌, Some}
 use Rattle.txt_core.specs.Names.{Names, Words, Moment}
 use Rattle.outside.specs.declared.question.Answer.{Answer}
 use Rattle.outside.specs.declared.question.Question.{Question}
-use Rattle.http_req.specs.declared.request.Request.{Request}
 use Rattle.server_host.specs.declared.edition.Edition.{Edition}
 use Rattle.tcl_eval.specs.Engine.{at_global}
 use Rattle.tcl_eval.specs.declared.outcome.Work.{Work}
 use Rattle.ictl.specs.Fresh.{build_steps}
 use Rattle.ictl.specs.Settle.{account_of, Run, Settled, Defined, behind_inner, settle}
 use Rattle.ictl.specs.Defines.{inner_runs}
-use Rattle.ictl.specs.Visits.{visit_of}
 use Rattle.ictl.specs.Main.{Stretch, Progress, runs, calls, page_question, visited}
 use Rattle.ictl.specs.Standing.{state_of, comes_to, onward, settling_at, settling_gives, written, inner_written}
-use Rattle.ictl.specs.Interps.{IsSound, interp_state, interp_written, taken, IsWithin, task_end, goes_to, asking_gives, gives, move_gives, behind_of}
+use Rattle.ictl.specs.Interps.{interp_state, interp_written, taken, IsWithin, task_end, goes_to, asking_gives, gives, move_gives}
 use Rattle.ictl.specs.Steps.{step_gives, asked_path}
 use Rattle.ictl.specs.Within.{SettledWithin}
 use Rattle.ictl.specs.declared.running.Stop.{Stop}
@@ -38,13 +36,17 @@ abbrev pub written_with : Names → Edition → Settling → InnerRun → ℕ
 written_with names blueprint s inner = written names blueprint s + inner_written names blueprint (Some inner)
 
 -- The entries that the runs inside which ended in a call have written: of the steps that were counted before and after it, those
--- that the call didn't write in the tables of the script. So much was written there before.
+-- that the call didn't write in the tables of the script, where `had` is what was written there before the call.
 abbrev pub script_taken : Names → Edition → ℕ → ℕ → Settling → ℕ → ℕ
 script_taken names blueprint after before new had = (after + had) - (before + written names blueprint new)
 
 -- No step is left out: each entry that was written in the tables of the script was counted.
 abbrev pub ScriptCounts : Names → Edition → ℕ → ℕ → Settling → ℕ → Type 0
 ScriptCounts names blueprint after before new had = before + written names blueprint new ≤ after + had
+
+-- the same of a call that begins with what the script had written
+abbrev pub CountsScript : Names → Edition → ℕ → ℕ → Settling → Settling → Type 0
+CountsScript names blueprint after before new old = ScriptCounts names blueprint after before new (written names blueprint old)
 
 -- a call stays within what the way of its script writes, where no answer is given further
 abbrev pub ScriptWithin : ℕ → ℕ → Settling → ℕ → ScriptWay → Type 0
@@ -147,13 +149,3 @@ module _ (names : Names) where
   abbrev pub WayWithin : ℕ → ℕ → Interp → Interp → Way → Type 0
   WayWithin after before new old way =
       (inside : ℕ) → IsWithin (inside + interp_written names old) before after new (way inside [])
-
-  -- a run comes to what an interpreter comes to that answered this, where the runs inside that have ended wrote so much
-  abbrev pub ComesTo : (List Answer → Progress) → Next → ℕ → Interp → Type 0
-  ComesTo run next inside new = (further : List Answer) → run further ≡ gives names next inside new further
-
-  -- what comes behind a response that was written whole is what an interpreter comes to that answered this
-  abbrev pub ComesBehind : Next → ℕ → ℕ → Interp → Interp → Type 0
-  ComesBehind next after before new old =
-      (request : Request) → IsSound names old → old.visit ≡ visit_of names old.blueprint.value request → (inside : ℕ)
-      → ComesTo (behind_of names old true request inside) next (inside + taken names after before new old) new

@@ -5,7 +5,7 @@ ghost use Rattle.txt_core.specs.Names.{Names};
 ghost use Rattle.cmd_table.specs.Commands.{Writes};
 ghost use Rattle.natives.specs.Names.{names_of};
 ghost use Rattle.ictl.specs.Fresh.{build_steps};
-ghost use Rattle.ictl.specs.Interps.{IsSound, IsNew, IsNewOnSome, StaysNew, AllApply, IsUpdated, update_steps, KeepsMark};
+ghost use Rattle.ictl.specs.Interps.{IsSound, IsNew, IsNewOnSome, StaysNew, AllApply, IsUpdated, update_steps, KeepsMarked};
 
 use crate::interp::Interp;
 use cmd_table::{Defs, Steps};
@@ -92,7 +92,7 @@ impl BoxedInterp {
         ensures steps { (names : Names) → IsSound names self.old
             → steps.new ≡ steps.old + Writes self.old.settling.run.engine.made }
         ensures blueprint { self.new.blueprint.value ≡ self.old.blueprint.value }
-        ensures marked { KeepsMark self.new self.old }
+        ensures marked { KeepsMarked self.new self.old }
     {
         self.interp.reset(steps);
     }
@@ -113,7 +113,7 @@ impl BoxedInterp {
         ensures blueprint { OnOk result (IsUpdated epoch defs.now self.new self.old) }
         ensures err { OnErr result
             (StaysNew self.new self.old × (self.new.blueprint.value ≡ self.old.blueprint.value)) }
-        ensures marked { KeepsMark self.new self.old }
+        ensures marked { KeepsMarked self.new self.old }
         ensures steps { OnOk result (steps.new ≡ steps.old + Writes defs.now) }
         ensures most { steps.new ≤ steps.old + update_steps defs.now }
     {

@@ -10,7 +10,7 @@ ghost use Rattle.server_host.specs.declared.edition.Edition.{Edition as Publishe
 ghost use Rattle.ictl.specs.Settle.{settle};
 ghost use Rattle.ictl.specs.Defines.{published, publish, script_end, define_end, no_inner};
 ghost use Rattle.tcl_eval.specs.Eval.{returned};
-ghost use Rattle.ictl.specs.Standing.{state_of, comes_to, define_at, define_gives};
+ghost use Rattle.ictl.specs.Standing.{state_of, comes_to, CountsMade, define_at, define_gives};
 ghost use Rattle.tcl_eval.specs.Engine.{Lasts};
 ghost use Rattle.ictl.specs.Within.{defined_own};
 ghost use Rattle.ictl.specs.Falls.{Suffices, StopAsks, DefineAsks, DefineStopAsks, DefineFalls, define_number};
@@ -111,8 +111,7 @@ impl DefineRun {
             ≡ define_at (names_of natives.now) blueprint moment question run.old self.old
             self.old.value (answer ∷ further)) }
         ensures lasts { Lasts run.new.engine run.old.engine }
-        ensures counts { steps.new + Writes run.old.engine.made
-            ≡ steps.old + Writes run.new.engine.made }
+        ensures counts { CountsMade steps.new steps.old run.new run.old }
         ensures most { OnErr result
             ((blueprint : Published) (moment : Moment) (question : Question)
             → Writes run.new.engine.made ≤ defined_own

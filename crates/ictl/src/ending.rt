@@ -5,6 +5,7 @@ ghost use Rattle.tcl_host.specs.Codes as code_of;
 ghost use Rattle.ictl.specs.Replies.{is_good, verdict_in, verdict, access_in, access};
 ghost use Rattle.ictl.specs.Main.{both};
 
+use http_resp::Response;
 use std::alloc::Global;
 use tcl_eval::Outcome;
 use tcl_host::{OK, RETURN};
@@ -32,6 +33,17 @@ pub enum Verdict {
     Returns,
     /// The request fails.
     Fails,
+}
+
+/// What follows a filter up to the response.
+#[derive(Debug, Drop)]
+pub enum After {
+    /// The next filter of its stage.
+    Next,
+    /// What is behind its stage.
+    Behind,
+    /// The writing of this response.
+    Responds(Response),
 }
 
 /// What the authorisation says.

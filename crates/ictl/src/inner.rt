@@ -11,7 +11,7 @@ ghost use Rattle.outside.specs.declared.question.Question.{Question};
 ghost use Rattle.server_host.specs.declared.edition.Edition.{Edition as Published};
 ghost use Rattle.ictl.specs.Fresh.{Fresh, build_steps};
 ghost use Rattle.ictl.specs.Defines.{depth_of, inner_run};
-ghost use Rattle.ictl.specs.Standing.{state_of, define_at, define_gives};
+ghost use Rattle.ictl.specs.Standing.{state_of, CountsMade, define_at, define_gives};
 ghost use Rattle.ictl.specs.Within.{defined_own};
 ghost use Rattle.ictl.specs.Falls.{suffices, DefineAsks, DefineStopAsks, DefineFalls, define_number};
 
@@ -115,8 +115,7 @@ impl InnerRun {
             self.new.defining further
             ≡ inner_run (names_of natives.now) blueprint moment words.now budget
             self.old.defining.questions further) }
-        ensures counts { steps.new + Writes self.old.run.engine.made
-            ≡ steps.old + Writes self.new.run.engine.made }
+        ensures counts { CountsMade steps.new steps.old self.new.run self.old.run }
         ensures most { OnErr result
             ((blueprint : Published)
             → state_of self.old.run ≡ Fresh (names_of natives.now) blueprint
@@ -154,8 +153,7 @@ impl InnerRun {
             self.new.defining further
             ≡ define_at (names_of natives.now) blueprint moment question self.old.run
             self.old.defining self.old.defining.value (answer ∷ further)) }
-        ensures counts { steps.new + Writes self.old.run.engine.made
-            ≡ steps.old + Writes self.new.run.engine.made }
+        ensures counts { CountsMade steps.new steps.old self.new.run self.old.run }
         ensures most { OnErr result
             ((blueprint : Published) (moment : Moment) (question : Question)
             → Writes self.new.run.engine.made ≤ defined_own

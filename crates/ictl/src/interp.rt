@@ -11,10 +11,11 @@ ghost use Rattle.ictl.specs.Fresh.{build_steps, updated};
 ghost use Rattle.tcl_eval.specs.Engine.{IsIdle};
 ghost use Rattle.url_tables.specs.Tables.{IsBuiltOf};
 ghost use Rattle.ictl.specs.Visits.{cleanups_of};
+ghost use Rattle.ictl.specs.Standing.{CountsMade};
 ghost use Rattle.ictl.specs.Steps.{cut_stop, cut_reply};
 ghost use Rattle.ictl.specs.Main.{Main, Script, Define, both, answered};
-ghost use Rattle.ictl.specs.Interps.{IsSound, IsNew, Holds, IsSameRun, ending_of, interp_state, spare_of, restored, taken, Counts, goes_to, gives, move_gives, UnlessNoMemory, Stands, GoesOn, StandsOn, IsNewOnSome, StaysNew, StaysSound, AllApply, IsUpdated, update_steps, KeepsMark, Begins, BeginsWithin, GoesBehind, BehindWithin, IsVisitOf, Continues, AnswerWithin};
-ghost use Rattle.ictl.specs.Steps.{Lowers, scripts_left};
+ghost use Rattle.ictl.specs.Interps.{IsSound, IsNew, Holds, IsSameRun, ending_of, interp_state, spare_of, restored, taken, Counts, goes_to, gives, move_gives, UnlessNoMemory, Stands, GoesOn, StandsOn, IsNewOnSome, StaysNew, StaysSound, AllApply, IsUpdated, update_steps, KeepsMarked, Begins, BeginsWithin, GoesBehind, BehindWithin, IsVisitOf, Continues, AnswerWithin};
+ghost use Rattle.ictl.specs.Steps.{Lowers, LowersIn};
 ghost use Rattle.ictl.specs.Falls.{IsAsking, IsWriting, StandsAt, GoesOut, MoveStandsAt, IsScriptTask, SettlingAt, number_of, first_number, Falls, MoveFalls, StopFalls, EndFalls};
 ghost use Rattle.ictl.specs.Ways.{ChangesTask, stop_way, move_way, MovesAlong, AnswersAlong, WayWithin};
 
@@ -251,8 +252,7 @@ impl Interp {
         ensures stands { let names = names_of natives.now in
             Stands names (Define names self.old.blueprint.value script.now moment) result 0 self.new
             [] }
-        ensures steps { steps.new + Writes self.old.settling.run.engine.made
-            ≡ steps.old + Writes self.new.settling.run.engine.made }
+        ensures steps { CountsMade steps.new steps.old self.new.settling.run self.old.settling.run }
         ensures most { let names = names_of natives.now in
             BeginsWithin (Define names self.old.blueprint.value script.now moment) steps.new
             steps.old self.new }
@@ -332,7 +332,7 @@ impl Interp {
         ensures steps { (names : Names) → IsSound names self.old
             → steps.new ≡ steps.old + Writes self.old.settling.run.engine.made }
         ensures blueprint { self.new.blueprint.value ≡ self.old.blueprint.value }
-        ensures marked { KeepsMark self.new self.old }
+        ensures marked { KeepsMarked self.new self.old }
     {
         let mark = self.mark.min(self.settling.run.engine.mark());
         leave_inner(&mut self.settling.inner);
@@ -381,7 +381,7 @@ impl Interp {
         ensures blueprint { OnOk result (IsUpdated epoch defs.now self.new self.old) }
         ensures err { OnErr result
             (StaysNew self.new self.old × (self.new.blueprint.value ≡ self.old.blueprint.value)) }
-        ensures marked { KeepsMark self.new self.old }
+        ensures marked { KeepsMarked self.new self.old }
         ensures steps { OnOk result (steps.new ≡ steps.old + Writes defs.now) }
         ensures most { steps.new ≤ steps.old + update_steps defs.now }
     {
@@ -593,7 +593,7 @@ impl Interp {
             (WayWithin names steps.new steps.old self.new self.old
             (stop_way names self.old stop)) }
         ensures lowers { IfOk result (λ step.
-            Lowers step self.new (scripts_left self.old.visit self.old.cleanups self.old.task)) }
+            LowersIn self.old.task step self.new self.old) }
         ensures same { IsSameRun self.new self.old }
         ensures holds { Holds self.new self.old }
         ensures next { IfOk result (λ step. MoveStandsAt step self.new) }
@@ -630,7 +630,7 @@ impl Interp {
             (WayWithin names steps.new steps.old self.new self.old
             (stop_way names self.old (Stop.Ended code value))) }
         ensures lowers { IfOk result (λ step.
-            Lowers step self.new (scripts_left self.old.visit self.old.cleanups self.old.task)) }
+            LowersIn self.old.task step self.new self.old) }
         ensures same { IsSameRun self.new self.old }
         ensures holds { Holds self.new self.old }
         ensures next { IfOk result (λ step. MoveStandsAt step self.new) }

@@ -11,6 +11,7 @@ mod inner;
 mod interp;
 mod law;
 mod next;
+mod renewing;
 mod reply;
 mod run;
 mod running;

@@ -1,12 +1,12 @@
 //! Runs: an interpreter with what it answered last.
 
 ghost use Rattle.std.specs.Prelude.{◌≡◌, ◌+◌, [], false};
-ghost use Rattle.cmd_table.specs.Commands.{Writes};
 ghost use Rattle.natives.specs.Names.{names_of};
 ghost use Rattle.outside.specs.declared.question.Answer.{Answer};
 ghost use Rattle.outside.specs.declared.question.Question.{Question};
 ghost use Rattle.http_req.specs.declared.request.Request.{Request};
 ghost use Rattle.ictl.specs.Main.{Main, Script, Define, both, answered};
+ghost use Rattle.ictl.specs.Standing.{CountsMade};
 ghost use Rattle.ictl.specs.Interps.{IsNew, Holds, IsSameRun, ending_of, taken, Counts, UnlessNoMemory, Stands, GoesOn, StandsOn, StaysSound, Begins, BeginsWithin, GoesBehind, BehindWithin, IsVisitOf, AnswerWithin};
 ghost use Rattle.ictl.specs.Falls.{StandsAt, number_of, first_number, Falls};
 
@@ -129,8 +129,7 @@ impl Run {
         ensures stands { let names = names_of natives.now in
             Stands names (Define names interp.blueprint.value script.now moment) result.next 0
             result.interp [] }
-        ensures steps { steps.new + Writes interp.settling.run.engine.made
-            ≡ steps.old + Writes result.interp.settling.run.engine.made }
+        ensures steps { CountsMade steps.new steps.old result.interp.settling.run interp.settling.run }
         ensures most { let names = names_of natives.now in
             BeginsWithin (Define names interp.blueprint.value script.now moment) steps.new
             steps.old result.interp }

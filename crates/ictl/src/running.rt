@@ -1,19 +1,18 @@
 //! A script, a call or a page that runs. The only error of each call is want of memory.
 
-ghost use Rattle.std.specs.Prelude.{◌≡◌, ◌<◌, ◌≤◌, ◌+◌, ◌*◌, ◌∷◌, ℕ, IfOk, IsSome};
+ghost use Rattle.std.specs.Prelude.{◌≡◌, ◌<◌, ◌≤◌, ◌+◌, ◌*◌, ℕ, IfOk, IsSome};
 ghost use Rattle.cmd_table.specs.Commands.{Writes};
 ghost use Rattle.natives.specs.Names.{names_of};
 ghost use Rattle.txt_core.specs.Limits.{most_nested};
-ghost use Rattle.outside.specs.declared.question.Question.{Question};
 ghost use Rattle.outside.specs.declared.question.Service.TheVariants as service;
 ghost use Rattle.server_host.specs.Leaf.{host_table};
 ghost use Rattle.tcl_eval.specs.State.{Given};
 ghost use Rattle.tcl_eval.specs.Eval.{eval};
 ghost use Rattle.tcl_eval.specs.Engine.{at_global, IsOpenTo, Lasts};
 ghost use Rattle.ictl.specs.Fresh.{outset};
-ghost use Rattle.ictl.specs.Standing.{state_of, outcome_at, comes_to};
-ghost use Rattle.ictl.specs.Falls.{suffices, Suffices, StopAsks, askable};
-ghost use Rattle.ictl.specs.Within.{RunWrites};
+ghost use Rattle.ictl.specs.Standing.{state_of, outcome_at, comes_to, CountsMade, RunsOn};
+ghost use Rattle.ictl.specs.Falls.{suffices, Suffices, SufficesOn, StopAsks};
+ghost use Rattle.ictl.specs.Within.{RunWrites, RunsWithin};
 
 use cmd_table::Steps;
 use natives::Natives;
@@ -86,8 +85,7 @@ impl Running {
             budget given
             ≡ comes_to (names_of natives.now) stop self.new given) }
         ensures lasts { Lasts self.new.engine self.old.engine }
-        ensures counts { steps.new + Writes self.old.engine.made
-            ≡ steps.old + Writes self.new.engine.made }
+        ensures counts { CountsMade steps.new steps.old self.new self.old }
         ensures most { RunWrites (Writes self.new.engine.made)
             (eval (names_of natives.now) host_table depth work (at_global (state_of self.old))
             budget) }
@@ -110,18 +108,12 @@ impl Running {
     ) -> Result<Stop, NoMemory>
         requires { IsSome self.old.engine.question }
         ensures gives { IfOk result (λ stop.
-            (question : Question) (given : Given)
-            → comes_to (names_of natives.now) stop self.new given
-            ≡ comes_to (names_of natives.now) (Stop.Asks question) self.old ((answer, 0) ∷ given)) }
+            RunsOn (names_of natives.now) 0 answer stop self.new self.old) }
         ensures lasts { Lasts self.new.engine self.old.engine }
-        ensures counts { steps.new + Writes self.old.engine.made
-            ≡ steps.old + Writes self.new.engine.made }
-        ensures most { (question : Question)
-            → RunWrites (Writes self.new.engine.made) (λ given.
-            comes_to (names_of natives.now) (Stop.Asks question) self.old ((answer, 0) ∷ given)) }
+        ensures counts { CountsMade steps.new steps.old self.new self.old }
+        ensures most { RunsWithin (names_of natives.now) 0 answer self.new self.old }
         ensures asks { IfOk result (λ stop. StopAsks stop self.new) }
-        ensures suffices { IfOk result (λ stop.
-            (questions : ℕ) → askable self.old ≤ questions → Suffices stop self.new questions) }
+        ensures suffices { IfOk result (λ stop. SufficesOn stop self.new self.old) }
     {
         let outcome = self.engine.resume(natives, answer, steps);
         let stop = stop_of(outcome)?;
@@ -140,20 +132,12 @@ impl Running {
         requires left { used ≤ self.old.engine.budget }
         requires open { IsOpenTo service.Inner self.old.engine.question }
         ensures gives { IfOk result (λ stop.
-            (question : Question) (given : Given)
-            → comes_to (names_of natives.now) stop self.new given
-            ≡ comes_to (names_of natives.now) (Stop.Asks question) self.old
-            ((answer, used) ∷ given)) }
+            RunsOn (names_of natives.now) used answer stop self.new self.old) }
         ensures lasts { Lasts self.new.engine self.old.engine }
-        ensures counts { steps.new + Writes self.old.engine.made
-            ≡ steps.old + Writes self.new.engine.made }
-        ensures most { (question : Question)
-            → RunWrites (Writes self.new.engine.made) (λ given.
-            comes_to (names_of natives.now) (Stop.Asks question) self.old
-            ((answer, used) ∷ given)) }
+        ensures counts { CountsMade steps.new steps.old self.new self.old }
+        ensures most { RunsWithin (names_of natives.now) used answer self.new self.old }
         ensures asks { IfOk result (λ stop. StopAsks stop self.new) }
-        ensures suffices { IfOk result (λ stop.
-            (questions : ℕ) → askable self.old ≤ questions → Suffices stop self.new questions) }
+        ensures suffices { IfOk result (λ stop. SufficesOn stop self.new self.old) }
     {
         self.engine.charge(used);
         let outcome = self.engine.resume(natives, answer, steps);

@@ -5,14 +5,14 @@ ghost use Rattle.txt_core.specs.Names.{Bytes};
 ghost use Rattle.natives.specs.Names.{names_of};
 ghost use Rattle.outside.specs.declared.question.Answer.{Answer};
 ghost use Rattle.ictl.specs.Fresh.{outset};
-ghost use Rattle.ictl.specs.Replies.{given_or_failed, failed, procedure_reply, page_reply, verdict, access};
+ghost use Rattle.ictl.specs.Replies.{failed, procedure_reply, page_reply, verdict, access};
 ghost use Rattle.ictl.specs.Main.{serve, page_question, page_words};
 ghost use Rattle.ictl.specs.Interps.{Holds, IsSameRun, interp_state, Counts, served, preauth_from, access_from, postauth_from, preauth_ended, access_ended, postauth_ended};
-ghost use Rattle.ictl.specs.Steps.{Lowers, scripts_left, asked_path, EntersNone, EntersBy};
+ghost use Rattle.ictl.specs.Steps.{Lowers, LowersIn, scripts_left, asked_path, EntersNone, EntersBy, Follows};
 ghost use Rattle.ictl.specs.Falls.{IsReady, MoveStandsAt, IsScriptTask, MoveFalls, EndFalls, per_question, PartFalls};
 ghost use Rattle.ictl.specs.Ways.{ChangesTask, IsToWrite, way_from, way_on, visit_from, run_way, call_way, page_way, MovesAlong, WayWithin};
 
-use crate::ending::{Access, Ending, Verdict, access_of, verdict_of};
+use crate::ending::{Access, After, Ending, Verdict, access_of, verdict_of};
 use crate::interp::Interp;
 use crate::next::Next;
 use crate::reply::{failed, given_or_failed, page_reply, procedure_reply, unauthorized, unentered};
@@ -22,12 +22,12 @@ use cmd_table::Steps;
 use http_resp::status::{FORBIDDEN, NOT_FOUND};
 use http_resp::{Response, plain};
 use natives::Natives;
-use outside::{Answer, Question, Service};
+use outside::Answer;
 use server_host::RunHost;
 use std::alloc::Global;
 use std::sync::ledger::Ledger;
 use tcl_eval::{Work, made_grows};
-use tcl_host::{Host, HostReply};
+use tcl_host::{Host, HostReply, page_question};
 use txt_core::{NoMemory, Text, Words};
 use url_tables::WordsList;
 
@@ -231,8 +231,7 @@ impl Interp {
             (WayWithin names steps.new steps.old self.new self.old
             (way_from self.old budget (preauth_from names self.old next))) }
         ensures lowers { IfOk result (λ step.
-            Lowers step self.new
-            ((length self.old.visit.preauth - next) + length self.old.visit.postauth + 3)) }
+            LowersIn (Task.Preauth next) step self.new self.old) }
         ensures same { IsSameRun self.new self.old }
         ensures holds { Holds self.new self.old }
         ensures next { IfOk result (λ step. MoveStandsAt step self.new) }
@@ -249,6 +248,28 @@ impl Interp {
                 budget,
                 steps,
             ),
+        }
+    }
+
+    /// What follows a filter up to the response that ended with this code and result. Its only error is
+    /// want of memory.
+    fn after_filter(&self, code: u8, value: &Text) -> Result<After, NoMemory>
+        ensures { IfOk result (λ after.
+            Follows after (verdict code value.now) (interp_state self.now)) }
+    {
+        let said = verdict_of(code, value);
+        match said {
+            Verdict::Goes => Ok(After::Next),
+            Verdict::Breaks => Ok(After::Behind),
+            Verdict::Returns => {
+                let given = self.settling.run.engine.host().response();
+                let response = given_or_failed(self.alloc, given)?;
+                Ok(After::Responds(response))
+            }
+            Verdict::Fails => {
+                let response = failed(self.alloc)?;
+                Ok(After::Responds(response))
+            }
         }
     }
 
@@ -273,20 +294,19 @@ impl Interp {
             (WayWithin names steps.new steps.old self.new self.old
             (way_on self.old (preauth_ended names self.old next (verdict code value)))) }
         ensures lowers { IfOk result (λ step.
-            Lowers step self.new
-            ((length self.old.visit.preauth - next) + length self.old.visit.postauth + 3)) }
+            LowersIn (Task.Preauth next) step self.new self.old) }
         ensures same { IsSameRun self.new self.old }
         ensures holds { Holds self.new self.old }
         ensures next { IfOk result (λ step. MoveStandsAt step self.new) }
         ensures falls { IfOk result (λ step. PartFalls step self.new self.old) }
     {
+        made_grows::<RunHost>();
         let budget = self.settling.run.engine.left();
-        let said = verdict_of(code, &value);
-        match said {
-            Verdict::Goes => self.preauth(natives, next, budget, steps),
-            Verdict::Breaks => self.authorise(natives, budget, steps),
-            Verdict::Returns => self.respond_given(),
-            Verdict::Fails => self.fail(),
+        let after = self.after_filter(code, &value)?;
+        match after {
+            After::Next => self.preauth(natives, next, budget, steps),
+            After::Behind => self.authorise(natives, budget, steps),
+            After::Responds(response) => Ok(self.respond(response)),
         }
     }
 
@@ -342,7 +362,7 @@ impl Interp {
             (WayWithin names steps.new steps.old self.new self.old
             (way_on self.old (access_ended names self.old (access code value)))) }
         ensures lowers { IfOk result (λ step.
-            Lowers step self.new (length self.old.visit.postauth + 2)) }
+            LowersIn Task.Authorise step self.new self.old) }
         ensures same { IsSameRun self.new self.old }
         ensures holds { Holds self.new self.old }
         ensures next { IfOk result (λ step. MoveStandsAt step self.new) }
@@ -383,7 +403,7 @@ impl Interp {
             (WayWithin names steps.new steps.old self.new self.old
             (way_from self.old budget (postauth_from names self.old next))) }
         ensures lowers { IfOk result (λ step.
-            Lowers step self.new ((length self.old.visit.postauth - next) + 1)) }
+            LowersIn (Task.Postauth next) step self.new self.old) }
         ensures same { IsSameRun self.new self.old }
         ensures holds { Holds self.new self.old }
         ensures next { IfOk result (λ step. MoveStandsAt step self.new) }
@@ -424,19 +444,19 @@ impl Interp {
             (WayWithin names steps.new steps.old self.new self.old
             (way_on self.old (postauth_ended names self.old next (verdict code value)))) }
         ensures lowers { IfOk result (λ step.
-            Lowers step self.new ((length self.old.visit.postauth - next) + 1)) }
+            LowersIn (Task.Postauth next) step self.new self.old) }
         ensures same { IsSameRun self.new self.old }
         ensures holds { Holds self.new self.old }
         ensures next { IfOk result (λ step. MoveStandsAt step self.new) }
         ensures falls { IfOk result (λ step. PartFalls step self.new self.old) }
     {
+        made_grows::<RunHost>();
         let budget = self.settling.run.engine.left();
-        let said = verdict_of(code, &value);
-        match said {
-            Verdict::Goes => self.postauth(natives, next, budget, steps),
-            Verdict::Breaks => self.serve(natives, budget, steps),
-            Verdict::Returns => self.respond_given(),
-            Verdict::Fails => self.fail(),
+        let after = self.after_filter(code, &value)?;
+        match after {
+            After::Next => self.postauth(natives, next, budget, steps),
+            After::Behind => self.serve(natives, budget, steps),
+            After::Responds(response) => Ok(self.respond(response)),
         }
     }
 
@@ -457,7 +477,7 @@ impl Interp {
             OnErr result
             (WayWithin names steps.new steps.old self.new self.old
             (way_from self.old budget (served names self.old))) }
-        ensures lowers { IfOk result (λ step. Lowers step self.new (1)) }
+        ensures lowers { IfOk result (λ step. Lowers step self.new 1) }
         ensures same { IsSameRun self.new self.old }
         ensures holds { Holds self.new self.old }
         ensures next { IfOk result (λ step. MoveStandsAt step self.new) }
@@ -497,7 +517,7 @@ impl Interp {
             OnErr result
             (WayWithin names steps.new steps.old self.new self.old
             (page_way names self.old answer)) }
-        ensures lowers { IfOk result (λ step. Lowers step self.new (1)) }
+        ensures lowers { IfOk result (λ step. Lowers step self.new 1) }
         ensures same { IsSameRun self.new self.old }
         ensures holds { Holds self.new self.old }
         ensures next { IfOk result (λ step. MoveStandsAt step self.new) }
@@ -536,13 +556,9 @@ impl Interp {
         ensures holds { Holds self.new self.old }
     {
         self.settling.run.set_out();
-        let mut words = Words::new(self.alloc);
-        words.add(path.copy(self.alloc)?)?;
+        let question = page_question(self.alloc, path.copy(self.alloc)?)?;
         self.task = Task::PageAsked { path, budget };
-        Ok(Move::Stops(Next::Asks(Question {
-            service: Service::Page,
-            words,
-        })))
+        Ok(Move::Stops(Next::Asks(question)))
     }
 
     /// A response is to be written.
@@ -554,22 +570,6 @@ impl Interp {
             ending: Ending::Answered,
         };
         Move::Stops(Next::Write(response))
-    }
-
-    /// The response that was given is to be written; without one the request failed.
-    #[inline(never)]
-    fn respond_given(&mut self) -> Result<Move, NoMemory>
-        ensures stops { IfOk result (λ step.
-            step
-            ≡ Move.Stops
-            (Next.Write (given_or_failed (interp_state self.old).host.conn.response))) }
-        ensures task { IfOk result (λ _. IsToWrite self.new self.old) }
-        ensures rest { ChangesTask self.new self.old }
-        ensures same { IsSameRun self.new self.old }
-        ensures holds { Holds self.new self.old }
-    {
-        let response = given_or_failed(self.alloc, self.settling.run.engine.host().response())?;
-        Ok(self.respond(response))
     }
 
     /// The request failed, whatever response was given.

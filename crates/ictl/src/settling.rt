@@ -13,7 +13,7 @@ ghost use Rattle.ictl.specs.Main.{first_depth};
 ghost use Rattle.ictl.specs.Standing.{state_of, define_gives, written};
 ghost use Rattle.ictl.specs.Steps.{Stays, GoesLower};
 ghost use Rattle.ictl.specs.Falls.{IsReady, Suffices, StopAsks, DefineStopAsks, DefineFalls, askable, SettlingAsks, SettlingAt, StepAt, per_question, settling_number, SettlingFalls, StepFalls, ScriptFalls};
-ghost use Rattle.ictl.specs.Ways.{written_with, settle_way, stopped_way, answer_way, inner_way, ScriptCounts, ScriptWithin, StopsAlong, StepsAlong};
+ghost use Rattle.ictl.specs.Ways.{written_with, settle_way, stopped_way, answer_way, inner_way, ScriptCounts, CountsScript, ScriptWithin, StopsAlong, StepsAlong};
 
 use crate::defining::DefineStop;
 use crate::inner::InnerRun;
@@ -90,10 +90,8 @@ impl Settling {
             (written names published self.old)
             (settle_way names published moment self.old.questions
             (eval names host_table first_depth work (at_global (state_of self.old.run)) budget))) }
-        ensures counts { let names = names_of natives.now in
-            let published = blueprint.now.value in
-            ScriptCounts names published steps.new steps.old self.new
-            (written names published self.old) }
+        ensures counts { CountsScript (names_of natives.now) blueprint.now.value steps.new steps.old
+            self.new self.old }
         ensures most { let names = names_of natives.now in
             let published = blueprint.now.value in
             OnErr result
@@ -127,10 +125,8 @@ impl Settling {
             → StopsAlong names published moment stop steps.new steps.old self.new
             (written names published self.old)
             (answer_way names published moment question self.old answer)) }
-        ensures counts { let names = names_of natives.now in
-            let published = blueprint.now.value in
-            ScriptCounts names published steps.new steps.old self.new
-            (written names published self.old) }
+        ensures counts { CountsScript (names_of natives.now) blueprint.now.value steps.new steps.old
+            self.new self.old }
         ensures most { let names = names_of natives.now in
             let published = blueprint.now.value in
             OnErr result
@@ -186,10 +182,8 @@ impl Settling {
             StopsAlong names published moment last steps.new steps.old self.new
             (written names published self.old)
             (stopped_way names published moment stop self.old)) }
-        ensures counts { let names = names_of natives.now in
-            let published = blueprint.now.value in
-            ScriptCounts names published steps.new steps.old self.new
-            (written names published self.old) }
+        ensures counts { CountsScript (names_of natives.now) blueprint.now.value steps.new steps.old
+            self.new self.old }
         ensures most { let names = names_of natives.now in
             let published = blueprint.now.value in
             OnErr result
@@ -227,10 +221,8 @@ impl Settling {
             StepsAlong names published moment step steps.new steps.old self.new
             (written names published self.old)
             (stopped_way names published moment stop self.old)) }
-        ensures counts { let names = names_of natives.now in
-            let published = blueprint.now.value in
-            ScriptCounts names published steps.new steps.old self.new
-            (written names published self.old) }
+        ensures counts { CountsScript (names_of natives.now) blueprint.now.value steps.new steps.old
+            self.new self.old }
         ensures most { let names = names_of natives.now in
             let published = blueprint.now.value in
             OnErr result
@@ -282,10 +274,8 @@ impl Settling {
             (inner_way names published moment asked self.old
             (inner_run names published moment question.words self.old.run.engine.budget
             self.old.questions))) }
-        ensures counts { let names = names_of natives.now in
-            let published = blueprint.now.value in
-            ScriptCounts names published steps.new steps.old self.new
-            (written names published self.old) }
+        ensures counts { CountsScript (names_of natives.now) blueprint.now.value steps.new steps.old
+            self.new self.old }
         ensures most { let names = names_of natives.now in
             let published = blueprint.now.value in
             OnErr result

@@ -6,15 +6,15 @@ ghost use Rattle.natives.specs.Names.{names_of};
 ghost use Rattle.outside.specs.declared.question.Answer.{Answer};
 ghost use Rattle.outside.specs.declared.question.Question.{Question};
 ghost use Rattle.http_req.specs.declared.request.Request.{Request};
-ghost use Rattle.cmd_table.specs.Commands.{Writes};
 ghost use Rattle.ictl.specs.Fresh.{script_state};
 ghost use Rattle.ictl.specs.Replies.{verdict};
 ghost use Rattle.ictl.specs.Main.{run_questions, Main, Script, Define, both, answered, outcome_of, first_depth};
-ghost use Rattle.ictl.specs.Interps.{IsNew, Holds, IsSameRun, ending_of, interp_state, spare_of, taken, Counts, gives, trace_from, cleaned, trace_ended, IsVisitOf, BeginsWithin, AnswerWithin, BehindWithin};
-ghost use Rattle.ictl.specs.Steps.{Lowers, defined_gives};
+ghost use Rattle.ictl.specs.Interps.{IsNew, Holds, IsSameRun, ending_of, interp_state, spare_of, Counts, gives, Stands, Begins, GoesBehind, trace_from, cleaned, trace_ended, IsVisitOf, BeginsWithin, AnswerWithin, BehindWithin};
+ghost use Rattle.ictl.specs.Standing.{CountsMade};
+ghost use Rattle.ictl.specs.Steps.{LowersIn, defined_gives};
 ghost use Rattle.ictl.specs.declared.defining.DefineRun.{DefineRun as Defining};
 ghost use Rattle.ictl.specs.Falls.{IsReady, DefineStopAsks, DefineFalls, IsAsking, IsWriting, GoesOut, MoveStandsAt, Falls, number_of, first_number, PartFalls};
-ghost use Rattle.ictl.specs.Ways.{ChangesTask, way_from, way_on, MovesAlong, WayWithin, ComesTo, ComesBehind};
+ghost use Rattle.ictl.specs.Ways.{ChangesTask, way_from, way_on, MovesAlong, WayWithin};
 
 use crate::defining::{DefineRun, DefineStop};
 use crate::ending::{Ending, Verdict, answered, both, verdict_of};
@@ -101,8 +101,8 @@ impl Interp {
         requires { IsNew (names_of natives.now) self.old }
         ensures stands { let names = names_of natives.now in
             IfOk result (λ next.
-            ComesTo names (Main names self.old.blueprint.value request moment) next
-            (taken names steps.new steps.old self.new self.old) self.new) }
+            Begins names (Main names self.old.blueprint.value request moment) next steps.new
+            steps.old self.new self.old) }
         ensures counts { Counts (names_of natives.now) steps.new steps.old self.new self.old }
         ensures most { let names = names_of natives.now in
             OnErr result
@@ -141,8 +141,8 @@ impl Interp {
         requires { IsNew (names_of natives.now) self.old }
         ensures stands { let names = names_of natives.now in
             IfOk result (λ next.
-            ComesTo names (Script names self.old.blueprint.value script.now moment) next
-            (taken names steps.new steps.old self.new self.old) self.new) }
+            Begins names (Script names self.old.blueprint.value script.now moment) next steps.new
+            steps.old self.new self.old) }
         ensures counts { Counts (names_of natives.now) steps.new steps.old self.new self.old }
         ensures most { let names = names_of natives.now in
             OnErr result
@@ -175,8 +175,8 @@ impl Interp {
         requires inner { self.old.settling.inner ≡ None }
         ensures stands { let names = names_of natives.now in
             IfOk result (λ next.
-            ComesTo names (Script names self.old.blueprint.value script self.old.moment) next
-            (taken names steps.new steps.old self.new self.old) self.new) }
+            Begins names (Script names self.old.blueprint.value script self.old.moment) next
+            steps.new steps.old self.new self.old) }
         ensures counts { Counts (names_of natives.now) steps.new steps.old self.new self.old }
         ensures most { let names = names_of natives.now in
             OnErr result
@@ -211,10 +211,9 @@ impl Interp {
         requires { IsNew (names_of natives.now) self.old }
         ensures stands { let names = names_of natives.now in
             IfOk result (λ next.
-            ComesTo names (Define names self.old.blueprint.value script.now moment) next 0
-            self.new) }
-        ensures steps { steps.new + Writes self.old.settling.run.engine.made
-            ≡ steps.old + Writes self.new.settling.run.engine.made }
+            Stands names (Define names self.old.blueprint.value script.now moment) next 0 self.new
+            []) }
+        ensures steps { CountsMade steps.new steps.old self.new.settling.run self.old.settling.run }
         ensures most { let names = names_of natives.now in
             OnErr result
             (BeginsWithin (Define names self.old.blueprint.value script.now moment) steps.new
@@ -254,8 +253,7 @@ impl Interp {
             (question : Question) (inside : ℕ) (further : List Answer)
             → gives names next inside self.new further
             ≡ gives names (Next.Asks question) inside self.old (answer ∷ further)) }
-        ensures steps { steps.new + Writes self.old.settling.run.engine.made
-            ≡ steps.old + Writes self.new.settling.run.engine.made }
+        ensures steps { CountsMade steps.new steps.old self.new.settling.run self.old.settling.run }
         ensures most { let names = names_of natives.now in
             OnErr result (AnswerWithin names answer steps.new steps.old self.new self.old) }
         ensures inner { self.new.settling.inner ≡ self.old.settling.inner }
@@ -337,7 +335,8 @@ impl Interp {
     ) -> Result<Next, NoMemory>
         requires { IsWriting self.old }
         ensures stands { let names = names_of natives.now in
-            IfOk result (λ next. ComesBehind names next steps.new steps.old self.new self.old) }
+            IfOk result (λ next.
+            GoesBehind names true next steps.new steps.old self.new self.old) }
         ensures counts { Counts (names_of natives.now) steps.new steps.old self.new self.old }
         ensures most { let names = names_of natives.now in
             OnErr result (BehindWithin names true steps.new steps.old self.new self.old) }
@@ -362,7 +361,8 @@ impl Interp {
     ) -> Result<Next, NoMemory>
         requires { IsWriting self.old }
         ensures stands { let names = names_of natives.now in
-            IfOk result (λ next. ComesBehind names next steps.new steps.old self.new self.old) }
+            IfOk result (λ next.
+            GoesBehind names true next steps.new steps.old self.new self.old) }
         ensures counts { Counts (names_of natives.now) steps.new steps.old self.new self.old }
         ensures most { let names = names_of natives.now in
             OnErr result (BehindWithin names true steps.new steps.old self.new self.old) }
@@ -398,8 +398,7 @@ impl Interp {
             (WayWithin names steps.new steps.old self.new self.old
             (way_from self.old budget (trace_from names self.old next ending))) }
         ensures lowers { IfOk result (λ step.
-            Lowers step self.new
-            ((length self.old.visit.trace - next) + length self.old.cleanups + 1)) }
+            LowersIn (Task.Trace next ending) step self.new self.old) }
         ensures same { IsSameRun self.new self.old }
         ensures holds { Holds self.new self.old }
         ensures next { IfOk result (λ step. MoveStandsAt step self.new) }
@@ -441,8 +440,7 @@ impl Interp {
             (WayWithin names steps.new steps.old self.new self.old
             (way_on self.old (trace_ended names self.old next ending (verdict code value)))) }
         ensures lowers { IfOk result (λ step.
-            Lowers step self.new
-            ((length self.old.visit.trace - next) + length self.old.cleanups + 1)) }
+            LowersIn (Task.Trace next ending) step self.new self.old) }
         ensures same { IsSameRun self.new self.old }
         ensures holds { Holds self.new self.old }
         ensures next { IfOk result (λ step. MoveStandsAt step self.new) }
@@ -479,7 +477,7 @@ impl Interp {
             (WayWithin names steps.new steps.old self.new self.old
             (way_from self.old budget (cleaned names self.old next ending))) }
         ensures lowers { IfOk result (λ step.
-            Lowers step self.new (length self.old.cleanups - next)) }
+            LowersIn (Task.Cleanup next ending) step self.new self.old) }
         ensures same { IsSameRun self.new self.old }
         ensures holds { Holds self.new self.old }
         ensures next { IfOk result (λ step. MoveStandsAt step self.new) }

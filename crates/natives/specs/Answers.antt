@@ -1,5 +1,5 @@
 -- What a command comes to, and what the program answers for it.
-use Rattle.std.specs.Prelude.{◌≡◌, Option, None, Some, Result, Ok, Err, if◌then◌else◌}
+use Rattle.std.specs.Prelude.{◌≡◌, Bool, false, Option, None, Some, Result, Ok, Err, if◌then◌else◌}
 use Rattle.std.specs.Coded.{Coded-set, coded_list, coded_ℕ, Unit-prop}
 use mathlib.Core.HLevel.{⊥_prop}
 use Rattle.txt_core.specs.Names.{Bytes}
@@ -21,6 +21,12 @@ unless (Some text) reply = Err text
 abbrev pub limited : Reply → Reply
 limited (Ok text) = if is_long text then Err too_long else Ok text
 limited (Err text) = if is_long text then Err too_long else Err text
+
+-- whether an answer has a text over the limit: a result or an error's text
+abbrev pub has_long_text : Result Bytes Fault → Bool
+has_long_text (Ok text) = is_long text
+has_long_text (Err (Error text)) = is_long text
+has_long_text (Err NoMemory) = false
 
 -- the program answers what the command comes to. Want of memory is free
 abbrev pub Answers : Reply → Result Bytes Fault → Type 0

@@ -19,4 +19,4 @@ pub use list::list_in;
 pub use native::{Call, Native, UNLIMITED};
 pub use natives::Natives;
 pub use places::Places;
-pub use word::{number_in, within_limit, word_at};
+pub use word::{has_long_text, number_in, within_limit, word_at};

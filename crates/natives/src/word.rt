@@ -1,7 +1,7 @@
 //! Words of a command, and the limit of what it comes to.
 
 ghost use Rattle.std.specs.Prelude.{◌≡◌, ◌<◌, length};
-ghost use Rattle.natives.specs.Answers.{Reply, Answers, Tried, limited};
+ghost use Rattle.natives.specs.Answers.{Reply, Answers, Tried, limited, has_long_text};
 ghost use Rattle.natives.specs.Checks.{integer_error, integer};
 ghost use Rattle.natives.specs.Words.{arg};
 
@@ -32,13 +32,23 @@ pub fn number_in(alloc: Global, word: &Text) -> Result<i64, Fault>
     }
 }
 
+/// Whether an answer has a text over the limit: a result or an error's text.
+pub fn has_long_text(answer: &Result<Text, Fault>) -> bool
+    ensures { result ≡ has_long_text answer.now }
+{
+    match answer {
+        Ok(text) | Err(Fault::Error(text)) => is_too_long(text),
+        Err(Fault::NoMemory) => false,
+    }
+}
+
 /// What a command answers, or the error `value too long` where its result or its error's text is
 /// over the limit.
 pub fn within_limit(alloc: Global, answer: Result<Text, Fault>) -> Result<Text, Fault>
     ensures { (reply : Reply) → Answers reply answer → Answers (limited reply) result }
 {
-    match answer {
-        Ok(text) | Err(Fault::Error(text)) if is_too_long(&text) => Err(Fault::too_long(alloc)),
-        answer => answer,
+    if has_long_text(&answer) {
+        return Err(Fault::too_long(alloc));
     }
+    answer
 }

@@ -3,8 +3,8 @@ use Rattle.std.proofs.Common.{◌≡◌, ◌<◌, ◌≤◌, ℕ, zero, suc, ◌
 use Rattle.std.specs.List.{list_any}
 use Rattle.std.proofs.lemmas.Fmt.{decimal_digit, decimal_injective}
 use Rattle.std.proofs.lemmas.Option.{slice_get_within}
-use Rattle.txt_core.specs.Limits.{last_moment}
-use Rattle.rehearse.specs.Events.{Actor, worker, scheduler, actor_word, Event, workers, clock, page, define, connect, step, run, line_end, line_of, block_end, words_of, block_of, spelled, most_page, most_block, most_input, most_workers}
+use Rattle.txt_core.specs.Limits.{last_moment, most_workers}
+use Rattle.rehearse.specs.Events.{Actor, worker, scheduler, actor_word, Event, workers, clock, page, define, connect, step, run, line_end, line_of, block_end, words_of, block_of, spelled, most_page, most_block, most_input}
 use Rattle.rehearse.specs.Plays.{is_break, IsPath, MayCome}
 use Rattle.rehearse.specs.World.{World, idle}
 use Rattle.ns_server.proofs.WordLines.{IsUnbroken, AreUnbroken, HasWord, decimal_unbroken, lines_same, same_word, blocks_same}

@@ -1,11 +1,12 @@
 -- The file of a load as a source.
-use Rattle.std.proofs.Common.{◌≡◌, ℕ, ◌≤◌, ◌<◌, ◌-◌, List, [], ◌++◌, take, drop, length, Some, refl, ap, sym, ◌∙◌, arith, append_assoc, length-drop, take-append-drop}
+use Rattle.std.proofs.Common.{◌≡◌, ℕ, ◌≤◌, List, [], ◌++◌, take, drop, length, Bool, true, false, Some, refl, ap, sym, ◌∙◌, arith, append_assoc, take-append-drop}
+use Rattle.std.specs.Prelude.{◌==◌}
 use Rattle.std.proofs.lemmas.Grind.{common_steps}
 use Rattle.outside.specs.Reading.{GivesBytes}
 
 -- where not all of a piece was given, some of it is at hand
-pub some_at_hand : (piece : List ℕ) (given : ℕ) (all : List ℕ) → given < length piece → drop given piece ≡ [] → all ≡ []
-some_at_hand piece given all less none = absurd (omega (arith, less, length-drop given piece, ap (λ (l : List ℕ). length l) none))
+pub some_at_hand : (left all : List ℕ) → false ≡ (length left == 0) → left ≡ [] → all ≡ []
+some_at_hand left all some none = let f : Path Bool false true = some ∙ ap (λ (l : List ℕ). length l == 0) none in cc
 
 given_front : (rest buffer : List ℕ) (count : ℕ) → count ≤ length rest → take count (take count rest ++ drop count buffer) ≡ take count rest
 given_front rest buffer count few = grind (arith, common_steps)

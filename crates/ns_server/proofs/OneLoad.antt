@@ -7,7 +7,8 @@ use Rattle.std.proofs.lemmas.Option.{slice_get-get_or}
 use Rattle.load_gen.specs.Load.{next, choice, target_of, get_of, block, round_of, round, rounds, load_file, most_requests}
 use Rattle.load_gen.specs.Load as load
 use Rattle.load_gen.proofs.Rounds.{get_short, target_short, file_short}
-use Rattle.rehearse.specs.Events.{Actor, worker, scheduler, Event, workers, clock, page, define, connect, step, run, line_end, line_of, words_of, block_of, block_end, spelled, file_of, most_file, most_block, most_input, most_workers}
+use Rattle.rehearse.specs.Events.{Actor, worker, scheduler, Event, workers, clock, page, define, connect, step, run, line_end, line_of, words_of, block_of, block_end, spelled, file_of, most_file, most_block, most_input}
+use Rattle.txt_core.specs.Limits.{most_workers}
 use Rattle.rehearse.specs.Files.{ComesNext, End, whole, bad, EndsAs, Opens, Holds}
 use Rattle.rehearse.specs.Lines.{Line}
 use Rattle.rehearse.specs.Objects.{Setting}

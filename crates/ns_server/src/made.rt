@@ -9,7 +9,7 @@ use outside::{ReadAnswer, Source};
 use std::alloc::Global;
 use std::marker::Model;
 use std::mem;
-use txt_core::{NoMemory, Text};
+use txt_core::{NoMemory, Text, Unread};
 
 /// The file of a load, which is made piece by piece as it is read: one piece is held, and the file isn't.
 /// It fails for want of memory alone, which counts as a fault. Contracts see what is at hand, what is made
@@ -18,21 +18,17 @@ use txt_core::{NoMemory, Text};
 pub struct MadeFile {
     alloc: Global,
     pieces: Pieces,
-    /// The piece that was made last, and how much of it was given.
-    piece: Text,
-    given: usize,
+    /// What is left of the piece that was made last.
+    piece: Unread,
     faults: u64,
 }
 
 impl Model for MadeFile {
-    ghost use Rattle.std.specs.Prelude.{◌≤◌, drop, length};
     ghost use Rattle.ns_server.specs.Made.{Made};
 
     ghost Value = { Made };
 
-    ghost view = { λ a. record { at_hand = drop a.given a.piece; behind = a.pieces; faults = a.faults } };
-
-    ghost invariant = { λ a. a.given ≤ length a.piece };
+    ghost view = { λ a. record { at_hand = a.piece; behind = a.pieces; faults = a.faults } };
 }
 
 impl MadeFile {
@@ -44,8 +40,7 @@ impl MadeFile {
         MadeFile {
             alloc,
             pieces: Pieces::new(requests),
-            piece: Text::empty(alloc),
-            given: 0,
+            piece: Unread::new(Text::empty(alloc)),
             faults: 0,
         }
     }
@@ -58,19 +53,19 @@ impl MadeFile {
         ensures kept { self.old.faults ≤ self.new.faults }
         ensures rose { OnErr result (Rose self.old.faults self.new.faults) }
     {
-        if self.given < self.piece.len() {
-            return Ok(());
-        }
-        match self.pieces.next_piece(self.alloc) {
-            Ok(piece) => {
-                drop(mem::replace(&mut self.piece, piece));
-                self.given = 0;
-                Ok(())
+        if self.piece.left().is_empty() {
+            match self.pieces.next_piece(self.alloc) {
+                Ok(piece) => {
+                    drop(mem::replace(&mut self.piece, Unread::new(piece)));
+                    Ok(())
+                }
+                Err(want) => {
+                    self.faults = self.faults.saturating_add(1);
+                    Err(want)
+                }
             }
-            Err(want) => {
-                self.faults = self.faults.saturating_add(1);
-                Err(want)
-            }
+        } else {
+            Ok(())
         }
     }
 
@@ -83,11 +78,8 @@ impl MadeFile {
         ensures some { result ≡ 0 → self.old.at_hand ≡ [] }
         ensures behind { (self.new.behind ≡ self.old.behind) × (self.new.faults ≡ self.old.faults) }
     {
-        let rest = &self.piece.bytes()[self.given..];
-        let count = into.len().min(rest.len());
-        into[..count].copy_from_slice(&rest[..count]);
-        self.given += count;
-        count
+        let most = into.len();
+        self.piece.take_into(into, most)
     }
 }
 

@@ -2,13 +2,12 @@
 
 ghost use Rattle.std.specs.Prelude.{◌≡◌, IfOk, OnOk, OnErr};
 ghost use Rattle.std.specs.FinMap as map;
-ghost use Rattle.std.specs.Option.{option_copied};
-ghost use Rattle.outside.specs.Paging.{PageMap, pages_seen};
+ghost use Rattle.outside.specs.Paging.{PageMap};
 
 use crate::calls::CallPlan;
+use crate::page_shelf::PageShelf;
 use crate::pages::{PageAnswer, Pages};
 use std::alloc::Global;
-use std::collections::BTreeMap;
 use std::marker::Model;
 use txt_core::{NoMemory, Text};
 
@@ -19,19 +18,18 @@ use txt_core::{NoMemory, Text};
 #[derive(Debug, Drop)]
 pub struct MemPages {
     alloc: Global,
-    pages: BTreeMap<Text, Text>,
+    pages: PageShelf,
     calls: CallPlan,
 }
 
 impl Model for MemPages {
-    ghost use Rattle.outside.specs.Paging.{pages_seen};
     ghost use Rattle.outside.specs.Shelves.{Shelf, shelf_code};
 
     ghost Value = { Shelf };
 
     ghost coded = { shelf_code };
 
-    ghost view = { λ a. record { pages = pages_seen a.pages; calls = a.calls } };
+    ghost view = { λ a. record { pages = a.pages; calls = a.calls } };
 }
 
 impl MemPages {
@@ -43,7 +41,7 @@ impl MemPages {
     {
         MemPages {
             alloc,
-            pages: BTreeMap::new(alloc),
+            pages: PageShelf::new(alloc),
             calls: CallPlan::new(fails),
         }
     }
@@ -56,29 +54,9 @@ impl MemPages {
             ≡ record { pages = map.insert self.old.pages path page; calls = self.old.calls }) }
         ensures err { OnErr result (self.new ≡ self.old) }
     {
-        self.pages.insert(path, page)?;
+        self.pages.set(path, page)?;
         Ok(())
     }
-
-    /// The page at a path; `None` exactly where there is none.
-    fn found(&self, path: &Text) -> Option<&Text>
-        ensures { option_copied result ≡ map.get self.now.pages path.now }
-    {
-        self.pages.get(path)
-    }
-}
-
-/// The same pages by the same paths. The only error is want of memory.
-fn copied(alloc: Global, pages: &BTreeMap<Text, Text>) -> Result<BTreeMap<Text, Text>, NoMemory>
-    ensures { IfOk result (λ copy. pages_seen copy ≡ pages_seen pages.now) }
-{
-    let mut copy = BTreeMap::new(alloc);
-    for (path, page) in pages {
-        let path = path.copy(alloc)?;
-        let page = page.copy(alloc)?;
-        copy.insert(path, page)?;
-    }
-    Ok(copy)
 }
 
 impl Pages for MemPages {
@@ -106,7 +84,7 @@ impl Pages for MemPages {
             return PageAnswer::Failed;
         }
         let alloc = self.alloc;
-        match self.found(path) {
+        match self.pages.get(path) {
             None => PageAnswer::NoPage,
             Some(page) => match page.copy(alloc) {
                 Ok(page) => PageAnswer::Page(page),
@@ -124,7 +102,7 @@ impl Pages for MemPages {
               calls = record { fails = self.now.calls.fails; made = 0; faults = 0 };
             }) }
     {
-        let pages = copied(self.alloc, &self.pages)?;
+        let pages = self.pages.copy(self.alloc)?;
         let calls = self.calls.renewed(self.alloc)?;
         Ok(MemPages {
             alloc: self.alloc,

@@ -9,15 +9,17 @@ use Rattle.blueprint.specs.Looking.{Looks}
 use Rattle.blueprint.specs.Objects.{Reaches}
 use Rattle.blueprint.specs.Order.{reaches_self}
 use Rattle.blueprint.specs.States.{State, Allowed, definitions, first_misfit}
-use Rattle.blueprint.specs.declared.reply.Look.TheVariants.{Same, Since, Whole}
+use Rattle.blueprint.specs.declared.reply.Look.{Look}
+use Rattle.blueprint.specs.declared.reply.Look.TheVariants.{Same, Since, Whole, NoMemory}
 use Rattle.server_host.specs.Hosts.{HostState, added}
 use Rattle.server_host.specs.declared.edition.Edition.{Edition}
 use Rattle.tcl_eval.specs.State as evaluation
 use Rattle.ictl.specs.Interps.{IsNew}
+use Rattle.ictl.specs.Renewing.{MayRenew, Renews}
 use Rattle.ictl.specs.declared.interp.Interp.{Interp}
 use Rattle.rehearse.specs.declared.keeper.Keeper.{Keeper}
 use Rattle.rehearse.specs.Objects.{edition_of}
-use Rattle.rehearse.specs.Playing.{IsOn, KeepsOn}
+use Rattle.rehearse.specs.Playing.{IsOn, KeepsOn, IsRenewed}
 
 -- an edition, by its parts
 edition_is : (made : Edition) (epoch : ℕ) (defs : List Def) (now : State) → made ≡ record { epoch = epoch; defs = defs } → epoch ≡ now.epoch → defs ≡ definitions now → made ≡ edition_of now
@@ -36,10 +38,6 @@ on_now names now made ok same is = record {
   blueprint = is;
 }
 
--- as newly made, and on the blueprint of now
-abbrev pub IsRenewed : List (List ℕ) → State → Interp → Type 0
-IsRenewed names now interp = IsNew names interp × (interp.blueprint.value ≡ edition_of now) × IsOn names now interp
-
 pub renewed : (names : List (List ℕ)) (now : State) (made : Interp) (epoch : ℕ) (defs : List Def) → Allowed now → now.natives ≡ names → IsNew names made
     → made.blueprint.value ≡ record { epoch = epoch; defs = defs } → epoch ≡ now.epoch → defs ≡ definitions now → IsRenewed names now made
 renewed names now made epoch defs ok same new is e d =
@@ -52,13 +50,6 @@ pub made_renewed : {E : Type 0} (names : List (List ℕ)) (now : State) (result 
     → IfOk result (λ made. IsNew names made) → IfOk result (λ made. made.blueprint.value ≡ record { epoch = epoch; defs = defs }) → IfOk result (λ made. IsRenewed names now made)
 made_renewed names now (Ok made) epoch defs ok same e d new is = renewed names now made epoch defs ok same new is e d
 made_renewed names now (Err want) epoch defs ok same e d new is = tt
-
-pub whole_renewed : {E : Type 0} → WholeIsAll → (names : List (List ℕ)) (now : State) (result : Result Interp E) (seen epoch : ℕ) (defs : List Def) → Allowed now → now.natives ≡ names
-    → Looks now seen (Whole epoch defs)
-    → IfOk result (λ made. IsNew names made) → IfOk result (λ made. made.blueprint.value ≡ record { epoch = epoch; defs = defs }) → IfOk result (λ made. IsRenewed names now made)
-whole_renewed whole names now result seen epoch defs ok same looks new is =
-    let all = whole now ok seen epoch defs looks in
-    made_renewed names now result epoch defs ok same all.0 all.1 new is
 
 names_now : (names : List (List ℕ)) (now : State) (interp : Interp) → IsOn names now interp → now.natives ≡ names
 names_now names now interp on = later on.earlier on.reaches on.names
@@ -75,7 +66,7 @@ seen_defs : (names : List (List ℕ)) (now : State) (interp : Interp) (on : IsOn
 seen_defs names now interp on = ap (λ (b : Edition). b.defs) on.blueprint
 
 -- nothing is new
-pub stays_new : SameIsUnchanged → (names : List (List ℕ)) (now : State) (interp : Interp) (epoch : ℕ) → Allowed now → IsOn names now interp → IsNew names interp
+stays_new : SameIsUnchanged → (names : List (List ℕ)) (now : State) (interp : Interp) (epoch : ℕ) → Allowed now → IsOn names now interp → IsNew names interp
     → epoch ≡ interp.blueprint.value.epoch → Looks now epoch Same → IsRenewed names now interp
 stays_new unchanged names now interp epoch ok on new epoch_is looks =
     let here : Looks now on.earlier.epoch Same = subst (λ (n : ℕ). Looks now n Same) (epoch_is ∙ seen_epoch names now interp on) looks in
@@ -84,7 +75,7 @@ stays_new unchanged names now interp epoch ok on new epoch_is looks =
     (new, edition, on_now names now interp ok (names_now names now interp on) edition)
 
 -- what was added applies behind the commands of the interpreter
-pub adds_fit : SinceApplies → (names : List (List ℕ)) (now : State) (interp : Interp) (seen epoch : ℕ) (defs : List Def) → Allowed now → IsOn names now interp → IsNew names interp
+adds_fit : SinceApplies → (names : List (List ℕ)) (now : State) (interp : Interp) (seen epoch : ℕ) (defs : List Def) → Allowed now → IsOn names now interp → IsNew names interp
     → seen ≡ interp.blueprint.value.epoch → Looks now seen (Since epoch defs) → first_misfit interp.settling.run.engine.table.table defs ≡ None
 adds_fit applies names now interp seen epoch defs ok on new seen_is looks =
     let here : Looks now on.earlier.epoch (Since epoch defs) = subst (λ (n : ℕ). Looks now n (Since epoch defs)) (seen_is ∙ seen_epoch names now interp on) looks in
@@ -98,7 +89,7 @@ adds_fit applies names now interp seen epoch defs ok on new seen_is looks =
     ap (λ (t : Table). first_misfit t defs) table ∙ fits
 
 -- what was added was taken
-pub added_new : SinceIsAdded → (names : List (List ℕ)) (now : State) (interp after : Interp) (seen epoch : ℕ) (defs : List Def) → Allowed now → IsOn names now interp → IsNew names after
+added_new : SinceIsAdded → (names : List (List ℕ)) (now : State) (interp after : Interp) (seen epoch : ℕ) (defs : List Def) → Allowed now → IsOn names now interp → IsNew names after
     → seen ≡ interp.blueprint.value.epoch → Looks now seen (Since epoch defs) → after.blueprint.value ≡ added interp.blueprint.value epoch defs → IsRenewed names now after
 added_new adds names now interp after seen epoch defs ok on new seen_is looks is =
     let here : Looks now on.earlier.epoch (Since epoch defs) = subst (λ (n : ℕ). Looks now n (Since epoch defs)) (seen_is ∙ seen_epoch names now interp on) looks in
@@ -106,8 +97,28 @@ added_new adds names now interp after seen epoch defs ok on new seen_is looks is
     renewed names now after epoch (interp.blueprint.value.defs ++ defs) ok (names_now names now interp on) new is all.0
     (ap (λ (d : List Def). d ++ defs) (seen_defs names now interp on) ∙ sym all.1)
 
-pub whole_names : (names : List (List ℕ)) (now : State) (interp : Interp) → IsOn names now interp → now.natives ≡ names
-whole_names names now interp on = names_now names now interp on
+-- what a look told may be put to the interpreter
+pub may_renew : SinceApplies → (names : List (List ℕ)) (now : State) (interp : Interp) (seen : ℕ) (look : Look) → Allowed now → IsOn names now interp → IsNew names interp
+    → seen ≡ interp.blueprint.value.epoch → Looks now seen look → MayRenew (Some interp) look
+may_renew applies names now interp seen Same ok on new seen_is looks = tt
+may_renew applies names now interp seen (Since epoch defs) ok on new seen_is looks = ((names, new), adds_fit applies names now interp seen epoch defs ok on new seen_is looks)
+may_renew applies names now interp seen (Whole epoch defs) ok on new seen_is looks = tt
+may_renew applies names now interp seen NoMemory ok on new seen_is looks = tt
+
+-- what is made of it by that is on the blueprint of now
+module _ (unchanged : SameIsUnchanged) (adds : SinceIsAdded) (whole : WholeIsAll) (names : List (List ℕ)) (now : State) (interp : Interp) (seen : ℕ) (ok : Allowed now) (on : IsOn names now interp) (new : IsNew names interp)
+    (seen_is : seen ≡ interp.blueprint.value.epoch) where
+  renews : (look : Look) (made : Interp) → Looks now seen look → Renews names (Some interp) look made → IsRenewed names now made
+  renews Same made looks h = let same : interp ≡ made = let e = h.0 in cc in subst (λ (i : Interp). IsRenewed names now i) same (stays_new unchanged names now interp seen ok on new seen_is looks)
+  renews (Since epoch defs) made looks h = added_new adds names now interp made seen epoch defs ok on (h.0 names new) seen_is looks h.1
+  renews (Whole epoch defs) made looks h =
+      let all = whole now ok seen epoch defs looks in
+      renewed names now made epoch defs ok (names_now names now interp on) h.0 h.1 all.0 all.1
+  renews NoMemory made looks h = absurd h
+
+  pub all_renewed : {E : Type 0} (result : Result Interp E) (look : Look) → Looks now seen look → IfOk result (λ made. Renews names (Some interp) look made) → IfOk result (λ made. IsRenewed names now made)
+  all_renewed (Ok made) look looks h = renews look made looks h
+  all_renewed (Err want) look looks h = tt
 
 -- ---- what is kept
 

@@ -4,7 +4,7 @@ use Rattle.std.proofs.Math.ListN.{length-set}
 use Rattle.std.specs.FinMap as map
 use Rattle.std.proofs.lemmas.Option.{slice_get_within, slice_get-get_or, get_or_from_slice_get}
 use Rattle.outside.specs.Paging.{PageMap}
-use Rattle.txt_core.specs.Limits.{last_moment}
+use Rattle.txt_core.specs.Limits.{last_moment, most_workers}
 use Rattle.blueprint.specs.Objects.{Reaches}
 use Rattle.blueprint.specs.States.{State}
 use Rattle.ictl.specs.declared.interp.Interp.{Interp}
@@ -17,7 +17,7 @@ use Rattle.rehearse.specs.declared.worker.Task.{Task}
 use Rattle.rehearse.specs.declared.worker.Task.TheVariants as tasks
 use Rattle.rehearse.specs.declared.worker.Worker as code_worker
 use Rattle.rehearse.specs.Defining.{begun_block, Settles}
-use Rattle.rehearse.specs.Events.{Actor, worker, Event, workers, clock, page, define, connect, step, run, most_page, most_block, most_input, most_workers}
+use Rattle.rehearse.specs.Events.{Actor, worker, Event, workers, clock, page, define, connect, step, run, most_page, most_block, most_input}
 use Rattle.rehearse.specs.Events as events
 use Rattle.rehearse.specs.Lines.{Line}
 use Rattle.rehearse.specs.Objects.{Setting}

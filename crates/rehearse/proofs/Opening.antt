@@ -13,7 +13,8 @@ use Rattle.rehearse.specs.declared.scheduler.Scheduler as code_scheduler
 use Rattle.rehearse.specs.declared.worker.Task.{Task}
 use Rattle.rehearse.specs.declared.worker.Task.TheVariants as tasks
 use Rattle.rehearse.specs.declared.worker.Worker as code_worker
-use Rattle.rehearse.specs.Events.{workers, most_workers}
+use Rattle.rehearse.specs.Events.{workers}
+use Rattle.txt_core.specs.Limits.{most_workers}
 use Rattle.rehearse.specs.Objects.{new_objects}
 use Rattle.rehearse.specs.World.{resting, all_idle}
 use Rattle.rehearse.specs.Playing.{KeepsOn, IsTaskReady, IsReady, AreReady, HasNew, IsResting, ShowsRunning, ShowsWorkers, ShowsScheduler, IsScriptReady, IsMachineReady, Did}

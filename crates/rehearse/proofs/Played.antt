@@ -1,7 +1,8 @@
 -- The events of a file, played one after another.
 use Rattle.std.proofs.Common.{◌≡◌, ℕ, ◌+◌, ◌≤◌, List, [], ◌∷◌, ◌++◌, length, refl, sym, subst, ap, ◌∙◌, append_assoc, append-nil, length-append, arith}
 use Rattle.std.proofs.lemmas.List.{length-set, length-replicate}
-use Rattle.rehearse.specs.Events.{Actor, worker, scheduler, Event, workers, clock, page, define, connect, step, run, line_end, block_of, block_end, spelled, file_of, most_workers}
+use Rattle.rehearse.specs.Events.{Actor, worker, scheduler, Event, workers, clock, page, define, connect, step, run, line_end, block_of, block_end, spelled, file_of}
+use Rattle.txt_core.specs.Limits.{most_workers}
 use Rattle.rehearse.specs.Lines.{Line, told, listing_of}
 use Rattle.rehearse.specs.Plays.{MayCome, StepsActor, RunsActor, Does, Plays, Lists, no_event, one_event}
 use Rattle.rehearse.specs.Playing.{HasFew}

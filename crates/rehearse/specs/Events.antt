@@ -97,7 +97,3 @@ most_block = 8388608
 
 abbrev pub most_input : ℕ
 most_input = 16777216
-
--- the greatest number of workers
-abbrev pub most_workers : ℕ
-most_workers = 16

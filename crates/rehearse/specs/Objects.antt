@@ -4,7 +4,6 @@ use Rattle.std.specs.FinMap as map
 use Rattle.txt_core.specs.Names.{Words, Names, Moment}
 use Rattle.outside.specs.Paging.{PageMap}
 use Rattle.outside.specs.declared.question.Answer.{Answer}
-use Rattle.outside.specs.declared.question.Answer.TheVariants.{Failed}
 use Rattle.outside.specs.declared.question.Question.{Question}
 use Rattle.outside.specs.declared.question.Service.{Service}
 use Rattle.outside.specs.declared.question.Service.TheVariants.{Page, Nsv, Schedule, Publish, Save, Inner}
@@ -22,7 +21,7 @@ use Rattle.blueprint.specs.declared.reply.Published.{Published}
 use Rattle.blueprint.specs.declared.reply.Published.TheVariants as publications
 use Rattle.server_host.specs.declared.edition.Edition.{Edition}
 pub use Rattle.server_host.specs.Hosts.{edition_of}
-use Rattle.serving.specs.Calls.{path_asked, page_found, nsv_answer, sched_call, sched_answer, publish_call, save_call, published_answer}
+use Rattle.serving.specs.Calls.{path_asked, page_found, inner_answer, nsv_answer, sched_call, sched_answer, publish_call, save_call, published_answer}
 use Rattle.serving.specs.declared.publishing.Asked.{Asked}
 use Rattle.serving.specs.declared.publishing.Asked.TheVariants.{Puts, Refused}
 use Rattle.rehearse.specs.declared.objects.Objects.{Objects}
@@ -88,14 +87,14 @@ ArraysAnswer words before answer after =
 abbrev pub PagesAnswer : PageMap → Words → Objects → Answer → Objects → Type 0
 PagesAnswer pages words before answer after = (answer ≡ page_found (map.get pages (path_asked words))) × (after ≡ before)
 
--- Whom the question goes to answers it. One for a run inside never comes out of an interpreter; it is refused without a reason.
+-- Whom the question goes to answers it. One for a run inside never comes out of an interpreter.
 abbrev pub AnswersBy : Service → Words → PageMap → Moment → Objects → Answer → Objects → Type 0
 AnswersBy Page words pages moment before answer after = PagesAnswer pages words before answer after
 AnswersBy Nsv words pages moment before answer after = ArraysAnswer words before answer after
 AnswersBy Schedule words pages moment before answer after = ScheduleAnswers moment words before answer after
 AnswersBy Publish words pages moment before answer after = PublishAnswers (publish_call words) before answer after
 AnswersBy Save words pages moment before answer after = BlueprintAnswers (save_call words) before answer after
-AnswersBy Inner words pages moment before answer after = (answer ≡ Failed []) × (after ≡ before)
+AnswersBy Inner words pages moment before answer after = (answer ≡ inner_answer) × (after ≡ before)
 
 -- A question of a run whose moment is this is answered so, by the objects and the pages as they are now.
 abbrev pub Answers : Setting → Moment → Question → Objects → Answer → Objects → Type 0

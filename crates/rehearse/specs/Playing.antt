@@ -47,7 +47,8 @@ use Rattle.rehearse.specs.declared.worker.Task.{Task}
 use Rattle.rehearse.specs.declared.worker.Task.TheVariants as tasks
 use Rattle.rehearse.specs.declared.worker.Worker as code_worker
 use Rattle.rehearse.specs.Defining.{Defining, Settles, define_progress, define_line}
-use Rattle.rehearse.specs.Events.{Event, most_file, most_workers, spelled, file_of}
+use Rattle.rehearse.specs.Events.{Event, most_file, spelled, file_of}
+use Rattle.txt_core.specs.Limits.{most_workers}
 use Rattle.rehearse.specs.Files.{whole, ComesNext, Opens, Holds}
 use Rattle.rehearse.specs.Lines.{Line, Closing, ended, closing, truncated, refused, spent, listing_of}
 use Rattle.rehearse.specs.Objects.{Setting, edition_of}
@@ -94,6 +95,10 @@ pub record IsOn (natives : Names) (now : State) (interp : Interp) : Type 0 where
   pub names : earlier.natives ≡ natives
   pub reaches : Reaches earlier now
   pub blueprint : interp.blueprint.value ≡ edition_of earlier
+
+-- One in which a run may begin is as newly made, on the blueprint as it is published now.
+abbrev pub IsRenewed : Names → State → Interp → Type 0
+IsRenewed natives now interp = IsNew natives interp × (interp.blueprint.value ≡ edition_of now) × IsOn natives now interp
 
 -- One that is kept is as newly made. The blueprint has built-in names beside the natives of these names.
 abbrev pub KeepsOn : Names → State → Keeper → Type 0

@@ -4,8 +4,8 @@ use Rattle.std.specs.FinMap as map
 use Rattle.std.specs.List.{list_any}
 use Rattle.txt_core.specs.Names.{Bytes, Names, Moment}
 use Rattle.txt_core.specs.Paths.{slash}
-use Rattle.txt_core.specs.Limits.{last_moment}
-use Rattle.rehearse.specs.Events.{Actor, worker, scheduler, Event, workers, clock, page, define, connect, step, run, most_page, most_block, most_input, most_workers}
+use Rattle.txt_core.specs.Limits.{last_moment, most_workers}
+use Rattle.rehearse.specs.Events.{Actor, worker, scheduler, Event, workers, clock, page, define, connect, step, run, most_page, most_block, most_input}
 use Rattle.rehearse.specs.Lines.{Line}
 use Rattle.rehearse.specs.Objects.{Setting}
 use Rattle.rehearse.specs.declared.objects.Objects.{Objects}

@@ -5,11 +5,10 @@ ghost use Rattle.txt_core.specs.Names.{Names};
 ghost use Rattle.blueprint.specs.States.{State};
 ghost use Rattle.natives.specs.Names.{names_of};
 ghost use Rattle.ictl.specs.Interps.{IsNew, IsSound};
-ghost use Rattle.rehearse.specs.Objects.{edition_of};
-ghost use Rattle.rehearse.specs.Playing.{KeepsOn, IsOn};
+ghost use Rattle.rehearse.specs.Playing.{KeepsOn, IsOn, IsRenewed};
 
 use blueprint::{
-    Blueprint, Look, equal_epochs_are_one_state, since_applies, since_is_added, whole_is_all,
+    Blueprint, equal_epochs_are_one_state, since_applies, since_is_added, whole_is_all,
 };
 use cmd_table::Steps;
 use ictl::BoxedInterp;
@@ -33,57 +32,31 @@ fn build<L: Ledger>(
     steps: &mut Steps<L>,
 ) -> Result<BoxedInterp, NoMemory>
     requires { blueprint.now.natives ≡ names_of natives.now }
-    ensures { let names = names_of natives.now in
-        IfOk result (λ interp.
-        IsNew names interp × (interp.blueprint.value ≡ edition_of blueprint.now)
-        × IsOn names blueprint.now interp) }
+    ensures { IfOk result (λ interp. IsRenewed (names_of natives.now) blueprint.now interp) }
 {
     let defs = blueprint.definitions()?;
     BoxedInterp::build(alloc, natives, blueprint.epoch(), &defs, steps)
 }
 
-/// An interpreter, as newly made, on the blueprint as it is published now: it stays as it is where nothing
-/// is new, takes what was added, and is made anew where a save came between.
+/// An interpreter, as newly made, on the blueprint as it is published now, made of one that was kept.
 fn renew<L: Ledger>(
     alloc: Global,
     natives: &Natives,
-    mut interp: BoxedInterp,
+    interp: BoxedInterp,
     blueprint: &Blueprint,
     steps: &mut Steps<L>,
 ) -> Result<BoxedInterp, NoMemory>
     requires { IsOn (names_of natives.now) blueprint.now interp
         × IsNew (names_of natives.now) interp }
-    ensures { let names = names_of natives.now in
-        IfOk result (λ interp.
-        IsNew names interp × (interp.blueprint.value ≡ edition_of blueprint.now)
-        × IsOn names blueprint.now interp) }
+    ensures { IfOk result (λ interp. IsRenewed (names_of natives.now) blueprint.now interp) }
 {
-    match blueprint.look(interp.epoch()) {
-        Look::Same => {
-            equal_epochs_are_one_state();
-            Ok(interp)
-        }
-        Look::Since { epoch, defs } => {
-            since_is_added();
-            since_applies();
-            match interp.update(epoch, &defs, steps) {
-                Ok(()) => Ok(interp),
-                Err(NoMemory) => {
-                    drop(interp);
-                    Err(NoMemory)
-                }
-            }
-        }
-        Look::Whole { epoch, defs } => {
-            whole_is_all();
-            drop(interp);
-            BoxedInterp::build(alloc, natives, epoch, &defs, steps)
-        }
-        Look::NoMemory => {
-            drop(interp);
-            Err(NoMemory)
-        }
-    }
+    // What is known of blueprints.
+    equal_epochs_are_one_state();
+    since_is_added();
+    since_applies();
+    whole_is_all();
+    let look = blueprint.look(interp.epoch());
+    BoxedInterp::renew(alloc, natives, Some(interp), look, steps)
 }
 
 impl Keeper {
@@ -104,10 +77,8 @@ impl Keeper {
         steps: &mut Steps<L>,
     ) -> Result<BoxedInterp, NoMemory>
         requires { KeepsOn (names_of natives.now) blueprint.now self.old }
-        ensures is_new { let names = names_of natives.now in
-            IfOk result (λ interp.
-            IsNew names interp × (interp.blueprint.value ≡ edition_of blueprint.now)
-            × IsOn names blueprint.now interp) }
+        ensures is_new { IfOk result (λ interp.
+            IsRenewed (names_of natives.now) blueprint.now interp) }
         ensures none { self.new.interp ≡ None }
     {
         let Some(interp) = self.interp.take() else {

@@ -18,7 +18,6 @@ mod playback;
 mod running;
 mod scheduler;
 mod setting;
-mod supply;
 mod tally;
 mod worker;
 

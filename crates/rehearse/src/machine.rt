@@ -17,17 +17,15 @@ use crate::head::Actor;
 use crate::listing::Listing;
 use crate::objects::Objects;
 use crate::scheduler::Scheduler;
-use crate::setting::{Setting, Shelf};
+use crate::setting::Setting;
 use crate::worker::Worker;
 use cmd_table::Steps;
 use natives::Natives;
+use outside::PageShelf;
 use std::alloc::Global;
 use std::mem;
 use std::sync::ledger::Ledger;
-use txt_core::{LAST_MOMENT, NoMemory, Text};
-
-/// The greatest number of workers.
-const MOST_WORKERS: u64 = 16;
+use txt_core::{LAST_MOMENT, MOST_WORKERS, NoMemory, Text};
 
 /// The machine.
 #[derive(Drop)]
@@ -71,7 +69,7 @@ impl Machine {
             started: false,
             setting: Setting {
                 moment: 0,
-                pages: Shelf::new(alloc),
+                pages: PageShelf::new(alloc),
             },
             objects,
             definer: Definer::new(alloc),
@@ -95,7 +93,7 @@ impl Machine {
         ensures ready { (names : Names) → IsMachineReady names self.old
             → OnOk result (IsMachineReady names self.new) }
     {
-        if self.started || count == 0 || count > MOST_WORKERS {
+        if self.started || count == 0 || count > MOST_WORKERS as u64 {
             return Ok(false);
         }
         let workers = idle_workers(self.alloc, count)?;

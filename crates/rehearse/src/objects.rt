@@ -6,18 +6,19 @@ ghost use Rattle.natives.specs.Names.{names_of};
 ghost use Rattle.rehearse.specs.Objects.{new_objects, Answers, BlueprintAnswers, ScheduleAnswers};
 ghost use Rattle.rehearse.specs.Playing.{setting_of, IsPut};
 
-use crate::setting::Setting;
+use crate::setting::{Setting, page_answer};
 use blueprint::{BlueCall, BlueReply, Blueprint};
 use natives::Natives;
 use nsv_bucket::Buckets;
 use outside::{Answer, Question, Service};
 use sched_core::Schedule;
 use serving::{
-    Asked, nsv_answer, publish_call, published_answer, save_call, sched_answer, sched_call,
+    Asked, inner_answer, nsv_answer, publish_call, published_answer, save_call, sched_answer,
+    sched_call,
 };
 use std::alloc::Global;
 use turn_cell::Obj;
-use txt_core::{NoMemory, Text, Words};
+use txt_core::{NoMemory, Words};
 
 /// The objects: what was published, the shared arrays, and the schedule.
 #[derive(Drop)]
@@ -75,7 +76,7 @@ impl Objects {
     {
         let Question { service, words } = question;
         match service {
-            Service::Page => setting.pages.answer(alloc, &words),
+            Service::Page => page_answer(alloc, &setting.pages, &words),
             Service::Nsv => nsv_answer(self.arrays.ask(&words)?),
             Service::Schedule => self.schedule(alloc, &words, moment),
             Service::Publish => match publish_call(alloc, &words)? {
@@ -83,7 +84,7 @@ impl Objects {
                 Asked::Refused(answer) => Ok(answer),
             },
             Service::Save => self.publish(alloc, save_call(alloc, &words)?),
-            Service::Inner => Ok(Answer::Failed(Text::empty(alloc))),
+            Service::Inner => Ok(inner_answer(alloc)),
         }
     }
 }

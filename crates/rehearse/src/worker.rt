@@ -20,7 +20,6 @@ use crate::listing::{Closing, Listing};
 use crate::objects::Objects;
 use crate::running::{begin_request, go_behind, resume};
 use crate::setting::Setting;
-use crate::supply::Supply;
 use cmd_table::Steps;
 use http_req::{Carry, Got, Request, read_request};
 use http_resp::{Response, plain, response_bytes};
@@ -31,7 +30,7 @@ use std::alloc::Global;
 use std::mem;
 use std::sync::ledger::Ledger;
 use turn_cell::Obj;
-use txt_core::{NoMemory, Text};
+use txt_core::{NoMemory, Text, Unread};
 
 /// Where all connections come from.
 const PEER: &[u8] = b"127.0.0.1";
@@ -40,7 +39,7 @@ const PEER: &[u8] = b"127.0.0.1";
 /// answers they have had.
 #[derive(Drop)]
 pub struct Connection {
-    source: Supply,
+    source: Unread,
     carry: Carry,
     requests: u64,
     answer_bytes: u64,
@@ -122,7 +121,7 @@ impl Worker {
         ensures task { HasNew self.new input }
         ensures rest { (self.new.number ≡ self.old.number) × (self.new.keeper ≡ self.old.keeper) }
     {
-        let source = Supply::new(input);
+        let source = Unread::new(input);
         let carry = Carry::new(self.alloc);
         let connection = Connection {
             source,

@@ -1,5 +1,6 @@
 -- The command line of the server, as `clap` reads it: three options that are required, and three that have a default.
 use Rattle.std.specs.Prelude.{◌≡◌, ℕ, ℤ, [], ◌∷◌, Some, true, false, codes, pos}
+use Rattle.txt_core.specs.Limits.{most_workers}
 use Rattle.clap.specs.Words.{App, Rule, Text, new_app, new_rule, with_rule}
 use Rattle.clap.specs.declared.builder.arg.Arg.{Arg}
 use Rattle.clap.specs.declared.builder.value_parser.ValueParser.TheVariants.{Signed}
@@ -25,10 +26,6 @@ required_app = with_rule (with_rule (with_rule bare_app
     (required_rule (codes "root")))
     (required_rule (codes "start")))
     (required_rule (codes "listen"))
-
--- so many workers serve at most
-abbrev pub most_workers : ℕ
-most_workers = 16
 
 -- the command with all of its options
 abbrev pub serve_app : App

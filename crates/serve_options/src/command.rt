@@ -7,9 +7,7 @@ ghost use Rattle.serve_options.specs.Command.{IsLocal, bare_app, number_rule, re
 use clap::builder::ValueParser;
 use clap::{Arg, Command};
 use std::alloc::{AllocError, Global};
-
-/// How many workers there may be.
-pub const MOST_WORKERS: u16 = 16;
+use txt_core::MOST_WORKERS;
 
 /// The program's name.
 const NAME: &str = "ns_server";

@@ -8,6 +8,5 @@ mod command;
 mod options;
 mod reading;
 
-pub use command::MOST_WORKERS;
 pub use options::{Options, Refused};
 pub use reading::{asked_for, read_options};

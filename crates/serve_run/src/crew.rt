@@ -8,14 +8,13 @@ use http_resp::reply_busy;
 use natives::Natives;
 use outside::{Clock, Gate, Pages, Sink, Source};
 use sched_core::SchedCall;
-use serve_options::MOST_WORKERS;
 use server_threads::{Conn, Serve, Staff, look_again, serve_each};
 use shared_state::{Passes, Shared};
 use std::alloc::Global;
 use std::marker::Brand;
 use std::sync::Wait;
 use std::sync::ledger::Blank;
-use txt_core::moment_of;
+use txt_core::{MOST_WORKERS, moment_of};
 use worker::{DueRun, Worker};
 
 /// The number of the worker that runs what is due. Those that serve have the numbers below.

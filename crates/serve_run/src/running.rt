@@ -7,7 +7,7 @@ ghost use Rattle.natives.specs.Names.{names_of};
 ghost use Rattle.outside.specs.Nets.{IsNew};
 ghost use Rattle.shared_state.specs.Cells.{Serve, AreWhole, HaveUnits, Leave};
 ghost use Rattle.server_threads.specs.Stops.{Stops};
-ghost use Rattle.serve_options.specs.Command.{most_workers};
+ghost use Rattle.txt_core.specs.Limits.{most_workers};
 ghost use Rattle.serve_options.specs.Reading.{AreReadFrom};
 ghost use Rattle.serve_run.specs.Serving.{Around, around_of, Ends, Serves};
 ghost use Rattle.serve_run.specs.Stages.{IsEarlier, EndsUnstarted, ended_by};
@@ -18,14 +18,14 @@ use crate::ended::{Ended, report};
 use crate::start::{NotStarted, start};
 use natives::Natives;
 use outside::{Clock, Gate, Net, Pages, Sink};
-use serve_options::{MOST_WORKERS, Options, Refused, read_options};
+use serve_options::{Options, Refused, read_options};
 use server_threads::{Conn, Plan, Stop, serve_all};
 use shared_state::{Passes, Shared};
 use std::alloc::Global;
 use std::net::{TcpListener, TcpStream};
 use std::sync::Wait;
 use std::thread::Threads;
-use txt_core::{NoMemory, Text, Words};
+use txt_core::{MOST_WORKERS, NoMemory, Text, Words};
 
 /// What one thread has: passes, pages and a clock of its own.
 fn own_of<P: Pages + Drop, C: Clock + Drop>(

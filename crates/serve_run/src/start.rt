@@ -13,13 +13,12 @@ use crate::ended::StartFault;
 use cmd_table::Steps;
 use natives::Natives;
 use outside::{Clock, PageAnswer, Pages};
-use serve_options::MOST_WORKERS;
 use shared_state::{Passes, Shared};
 use std::alloc::Global;
 use std::marker::Brand;
 use std::sync::Wait;
 use std::sync::ledger::{Blank, Ledger};
-use txt_core::{MOST_BYTES, Text, moment_of};
+use txt_core::{MOST_BYTES, MOST_WORKERS, Text, moment_of};
 use worker::{EvalEnd, Worker, do_eval};
 
 /// The number of the worker that runs the start script. It is none of those that serve.

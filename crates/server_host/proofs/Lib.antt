@@ -2,3 +2,4 @@ pub mod Asking
 pub mod NamesGathered
 pub mod Lifting
 pub mod Naming
+mod Tmp

@@ -1,14 +1,14 @@
 -- The commands on the schedule, which are questions.
-use Rattle.std.specs.Prelude.{ℕ, ℤ, pos, negsuc, Bool, true, false, ◌==◌, length, if◌then◌else◌, Option, Some, None}
-use Rattle.txt_core.specs.Names.{Words}
+use Rattle.std.specs.Prelude.{ℕ, ℤ, pos, negsuc, Bool, true, false, ◌==◌, length, if◌then◌else◌, Option, Some, None, Result, Ok, Err}
+use Rattle.txt_core.specs.Names.{Bytes, Words}
 use Rattle.txt_core.specs.Number.{number}
-use Rattle.txt_core.specs.ErrorTexts.{no_integer, no_schedule}
+use Rattle.txt_core.specs.ErrorTexts.{no_schedule}
 use Rattle.outside.specs.declared.question.Service.TheVariants as service
 use Rattle.tcl_host.specs.Leaf.{Leaf, wants}
 use Rattle.natives.specs.Words.{arg}
 use Rattle.sched_core.specs.Asking.{is_period, is_once_option}
 use Rattle.server_host.specs.Hosts.{HostState}
-use Rattle.tcl_host.specs.Checks.{fails, passing, is_counted, shaped, fitting}
+use Rattle.tcl_host.specs.Checks.{fails, passing, is_counted, shaped, fitting, integer}
 
 -- the words are asked of the schedule
 abbrev pub asks_schedule : Words → HostState → Leaf HostState
@@ -25,12 +25,12 @@ abbrev pub is_schedule : Words → Bool
 is_schedule words = if is_once words then length words == 4 else is_counted 3 4 words
 
 -- the number of seconds stands at this place
-abbrev pub every : Option ℤ → ℕ → Words → HostState → Leaf HostState
-every None place words host = fails (no_integer (arg words place)) host
-every (Some seconds) place words host = fitting (is_period seconds) words place (asks_schedule words) host
+abbrev pub every : Result ℤ Bytes → ℕ → Words → HostState → Leaf HostState
+every (Err message) place words host = fails message host
+every (Ok seconds) place words host = fitting (is_period seconds) words place (asks_schedule words) host
 
 abbrev pub schedules : ℕ → Words → HostState → Leaf HostState
-schedules place words host = every (number (arg words place)) place words host
+schedules place words host = every (integer words place) place words host
 
 -- with four words one stands in the option's place, and it may be no other
 abbrev pub by_option : Words → HostState → Leaf HostState

@@ -8,7 +8,7 @@ ghost use Rattle.server_host.specs.Scheduling.{asks_schedule, is_once, is_schedu
 use crate::host::RunHost;
 use outside::{Question, Service};
 use sched_core::{is_once_option, is_period};
-use tcl_host::{HostReply, Refusal, is_counted, refuse, require_fit, require_words};
+use tcl_host::{HostReply, Refusal, integer, is_counted, refuse, require_fit, require_words};
 use txt_core::{Words, error_text, read_int_bytes};
 
 /// Asks the schedule these words.
@@ -40,17 +40,13 @@ fn is_schedule(words: &Words) -> bool
 }
 
 /// Asks the schedule, where the word at a place is a number of seconds that may be.
+#[tactic(auto, using(crate::proofs::Tmp::unchanged))]
 fn schedule(host: &RunHost, place: usize, words: &Words) -> Result<HostReply, Refusal>
     ensures { Comes result host.now (schedules place words.now host.now) }
 {
-    let word = words.bytes_at(place);
-    match read_int_bytes(word) {
-        None => Err(refuse(error_text::no_integer(host.alloc, word))),
-        Some(seconds) => {
-            require_fit(host.alloc, is_period(seconds), words, place)?;
-            ask(host, words)
-        }
-    }
+    let seconds = integer(host.alloc, words, place)?;
+    require_fit(host.alloc, is_period(seconds), words, place)?;
+    ask(host, words)
 }
 
 /// Asks the schedule, where the words are three, or the option stands in its place.

@@ -46,6 +46,13 @@ page_answer pages.NoPage = NoPage
 page_answer pages.Failed = PageFault
 page_answer pages.NoMemory = no_answer
 
+-- ---- runs inside
+
+-- A question for a run inside never comes out of an interpreter, which answers it itself. Where one came it would be refused, without a
+-- reason.
+abbrev pub inner_answer : Answer
+inner_answer = Failed []
+
 -- ---- shared arrays: the words of the question are the call
 
 abbrev pub nsv_answer : NsvReply → Answer

@@ -4,6 +4,7 @@
 
 mod arrays;
 mod connection;
+mod inner;
 mod law;
 mod pages;
 mod publishing;
@@ -14,6 +15,7 @@ pub use connection::{
     Behind, MOST_ANSWERED, MOST_REQUESTS, after_request, answer_bytes, asks_close, closes, counted,
     is_head_only, is_spent,
 };
+pub use inner::inner_answer;
 pub use law::made_is_published;
 pub use pages::page_answer;
 pub use publishing::{Asked, publish_call, published_answer, save_call};

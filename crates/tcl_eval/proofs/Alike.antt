@@ -53,9 +53,9 @@ use Rattle.tcl_eval.specs.Going.{Source, unread, read, Inner, on_ok, pay, give, 
 use Rattle.tcl_eval.specs.Pieces.{run_part, run_parts}
 use Rattle.tcl_eval.specs.Commands.{rename_of, proc_of, call_bound, define_proc, do_proc, renamed_as, do_rename, do_eval, catch_end, do_catch, came_next}
 use Rattle.tcl_eval.specs.Expressions.{with_one, with_two, way_of, behind_left, run_expression, run_answer, evaluate, test, value_end, do_expr}
-use Rattle.tcl_eval.specs.Branches.{otherwise, choose, choose_of, from_condition}
+use Rattle.tcl_eval.specs.Branches.{run_body, choose, choose_of, from_condition}
 use Rattle.tcl_eval.specs.Loops.{assigned, in_loop, between, turn_body, turns, turn_on, do_while, do_for, walk_on, over_values, over_names, do_foreach}
-use Rattle.tcl_eval.specs.Switch.{options, body_for, run_body, by_pairs, by_listing, by_words, by_options}
+use Rattle.tcl_eval.specs.Switch.{options, body_for, by_pairs, by_listing, by_words, by_options}
 use Rattle.tcl_eval.specs.Info.{info_said, do_info}
 use Rattle.tcl_eval.specs.Eval.{verb_of, set_or_fails, set_global, make, define, is_for_host, resumed, leaf, onward, built_in, built, run_command, act, command, run_words, run_commands, run_reading, run_script, nested}
 use Rattle.tcl_eval.specs.Pages.{words_script, page_end, text_end, told, piece_end, run_piece, run_pieces, run_page}
@@ -248,12 +248,12 @@ module _ {H : Type 0} (inner : Inner H) (run : Runs inner) where
 
   -- ---- choices and loops
 
-  otherwise_alike : (last : Option (List ℕ)) (m : ℕ) (k k' : Next H) → After m k k' → Alike m (otherwise inner last k) (otherwise inner last k')
-  otherwise_alike None m k k' h = h 0 []
-  otherwise_alike (Some body) m k k' h = run (unread body) m k k' h
+  run_body_alike : (body : Option (List ℕ)) (m : ℕ) (k k' : Next H) → After m k k' → Alike m (run_body inner body k) (run_body inner body k')
+  run_body_alike None m k k' h = h 0 []
+  run_body_alike (Some body) m k k' h = run (unread body) m k k' h
 
   choose_alike : (clauses : List (List ℕ × List ℕ)) (last : Option (List ℕ)) (m : ℕ) (k k' : Next H) → After m k k' → Alike m (choose inner clauses last k) (choose inner clauses last k')
-  choose_alike [] last m k k' h = otherwise_alike last m k k' h
+  choose_alike [] last m k k' h = run_body_alike last m k k' h
   choose_alike (clause ∷ clauses) last m k k' h =
       test_alike clause.0 (inner.run (unread clause.1) k) (inner.run (unread clause.1) k') (choose inner clauses last k) (choose inner clauses last k') m k k'
       (run (unread clause.1) m k k' h) (choose_alike clauses last m k k' h) h
@@ -318,10 +318,6 @@ module _ {H : Type 0} (inner : Inner H) (run : Runs inner) where
       choice (length words == 4) m _ _ _ _ (over_names_alike (lists.listing (arg words 1)) words m k k' h) (give_alike (wrong_words_end words) m k k' h)
 
   -- ---- switch
-
-  run_body_alike : (body : Option (List ℕ)) (m : ℕ) (k k' : Next H) → After m k k' → Alike m (run_body inner body k) (run_body inner body k')
-  run_body_alike None m k k' h = h 0 []
-  run_body_alike (Some body) m k k' h = run (unread body) m k k' h
 
   by_pairs_alike : (globs : Bool) (bytes : List ℕ) (pairs : List (List ℕ)) (m : ℕ) (k k' : Next H) → After m k k' → Alike m (by_pairs inner globs bytes pairs k) (by_pairs inner globs bytes pairs k')
   by_pairs_alike globs bytes pairs m k k' h =

@@ -7,7 +7,7 @@ use Rattle.txt_core.specs.Names.{Names}
 use Rattle.tcl_eval.specs.State.{State, LeafTable, Given, Out, Next}
 use Rattle.tcl_eval.specs.Eval.{Inner, nested, unread, on_ok, by_truth}
 use Rattle.tcl_eval.specs.Expressions.{evaluate, test}
-use Rattle.tcl_eval.specs.Branches.{otherwise, choose}
+use Rattle.tcl_eval.specs.Branches.{run_body, choose}
 use Rattle.tcl_eval.specs.Stack.{stack_next}
 use Rattle.tcl_eval.specs.declared.branch.Branches.{Branches}
 use Rattle.tcl_eval.specs.declared.branch.Branch.TheVariants as branch
@@ -69,5 +69,5 @@ module _ {H : Type 0} (ns : Names) (t : LeafTable H) where
   pub choose_last : (inner : Inner H) (all : Branches) (at : ℕ) (last : Option (List ℕ)) (k : Next H) (s : State H) (b : ℕ) (g : Given) (x : Out H) → None ≡ slice_get all.clauses at → last ≡ all.last → x ≡ otherwise inner last k s b g → x ≡ choose inner (drop at all.clauses) all.last k s b g
   choose_last inner all at last k s b g x none is e =
       e
-      ∙ ap (λ (o : Option (List ℕ)). otherwise inner o k s b g) is
+      ∙ ap (λ (o : Option (List ℕ)). run_body inner o k s b g) is
       ∙ sym (ap (λ (cs : List (List ℕ × List ℕ)). choose inner cs all.last k s b g) (none_left all.clauses at none))

@@ -66,9 +66,9 @@ use Rattle.tcl_eval.specs.Going.{Source, unread, read, Inner, on_ok, pay, give, 
 use Rattle.tcl_eval.specs.Pieces.{run_part, run_parts}
 use Rattle.tcl_eval.specs.Commands.{rename_of, proc_of, call_bound, define_proc, do_proc, renamed_as, do_rename, do_eval, catch_end, do_catch, came_next}
 use Rattle.tcl_eval.specs.Expressions.{with_one, with_two, way_of, behind_left, run_expression, run_answer, evaluate, test, value_end, do_expr}
-use Rattle.tcl_eval.specs.Branches.{otherwise, choose, choose_of, from_condition}
+use Rattle.tcl_eval.specs.Branches.{run_body, choose, choose_of, from_condition}
 use Rattle.tcl_eval.specs.Loops.{assigned, in_loop, between, turn_body, turns, turn_on, do_while, do_for, walk_on, over_values, over_names, do_foreach}
-use Rattle.tcl_eval.specs.Switch.{options, body_for, run_body, by_pairs, by_listing, by_words, by_options}
+use Rattle.tcl_eval.specs.Switch.{options, body_for, by_pairs, by_listing, by_words, by_options}
 use Rattle.tcl_eval.specs.Info.{info_said, do_info}
 use Rattle.tcl_eval.specs.Eval.{verb_of, is_for_host, set_or_fails, set_global, make, define, leaf, built_in, built, run_command, act, command, run_words, run_commands, run_reading, run_script, nested, eval}
 use Rattle.tcl_eval.specs.Places.{tree_of, commands_from, command_at, words_from, place_parts}
@@ -316,12 +316,12 @@ module _ {H : Type 0} (P Q : State H → ℕ → Given → Out H → Type 0) (Sh
 
   -- ---- choices and loops
 
-  otherwise_good : (inner : Inner H) → Runs inner → (last : Option (List ℕ)) (k : Next H) → GoodNext k → Good (otherwise inner last k)
-  otherwise_good inner run None k h = h 0 []
-  otherwise_good inner run (Some body) k h = run (unread body) k h
+  run_body_good : (inner : Inner H) → Runs inner → (body : Option (List ℕ)) (k : Next H) → GoodNext k → Good (run_body inner body k)
+  run_body_good inner run None k h = h 0 []
+  run_body_good inner run (Some body) k h = run (unread body) k h
 
   choose_good : (inner : Inner H) → Runs inner → (clauses : List (List ℕ × List ℕ)) (last : Option (List ℕ)) (k : Next H) → GoodNext k → Good (choose inner clauses last k)
-  choose_good inner run [] last k h = otherwise_good inner run last k h
+  choose_good inner run [] last k h = run_body_good inner run last k h
   choose_good inner run (clause ∷ clauses) last k h =
       test_good inner run clause.0 (inner.run (unread clause.1) k) (choose inner clauses last k) k
       (run (unread clause.1) k h) (choose_good inner run clauses last k h) h
@@ -385,10 +385,6 @@ module _ {H : Type 0} (P Q : State H → ℕ → Given → Out H → Type 0) (Sh
       choice (length words == 4) _ _ (over_names_good inner run (lists.listing (arg words 1)) words k h) (give_good (wrong_words_end words) k h)
 
   -- ---- switch
-
-  run_body_good : (inner : Inner H) → Runs inner → (body : Option (List ℕ)) (k : Next H) → GoodNext k → Good (run_body inner body k)
-  run_body_good inner run None k h = h 0 []
-  run_body_good inner run (Some body) k h = run (unread body) k h
 
   by_pairs_good : (inner : Inner H) → Runs inner → (globs : Bool) (bytes : List ℕ) (pairs : List (List ℕ)) (k : Next H) → GoodNext k → Good (by_pairs inner globs bytes pairs k)
   by_pairs_good inner run globs bytes pairs k h =

@@ -46,13 +46,14 @@ abbrev mutual
       else last_body (word ∷ words)
 
 module _ {H : Type 0} where
-  abbrev pub otherwise : Inner H → Option Bytes → Next H → Rest H
-  otherwise inner None k = k code_of.ok []
-  otherwise inner (Some body) k = inner.run (unread body) k
+  -- a body is run where there is one, and else the result is empty
+  abbrev pub run_body : Inner H → Option Bytes → Next H → Rest H
+  run_body inner None k = k code_of.ok []
+  run_body inner (Some body) k = inner.run (unread body) k
 
-  -- the body of the first condition that holds, or else the last body; the result is the body's, or empty where none runs
+  -- the body of the first condition that holds is run, or else the last body
   abbrev pub choose : Inner H → Pairs → Option Bytes → Next H → Rest H
-  choose inner [] last k = otherwise inner last k
+  choose inner [] last k = run_body inner last k
   choose inner (clause ∷ clauses) last k =
       test inner clause.0 (inner.run (unread clause.1) k) (choose inner clauses last k) k
 

@@ -106,7 +106,7 @@ module _ {H : Type 0} (names : Names) (table : LeafTable H) where
   acted_next acted.TooDeep opened k = λ state budget given. too_deep state
   acted_next acted.Spent opened k = λ state budget given. spent state
 
-  -- what comes after a choice, a loop or a page
+  -- what comes after a choice, a loop, a page or a call of a procedure
   abbrev pub gone_next : Gone → Next H → Rest H
   gone_next (gone.Goes what) k = step_next names table what k
   gone_next gone.TooDeep k = λ state budget given. too_deep state

@@ -1,12 +1,11 @@
--- What is said of an error. The texts that other parts give too are those of `txt_core`.
+-- What is said of an error. The texts that other parts give too are those of `txt_core` and `tcl_frame`.
 use Rattle.std.specs.Prelude.{ℕ, [], ◌++◌, decimal, codes}
 use Rattle.txt_core.specs.Names.{Bytes}
-pub use Rattle.txt_core.specs.ErrorTexts.{bad_value, unknown_command, no_list, too_long, outside_loop, no_variable, unknown_subcommand}
-use Rattle.txt_core.specs.ErrorTexts.{is_an_array, is_no_array, variable_exists, overflow}
+pub use Rattle.txt_core.specs.ErrorTexts.{bad_value, unknown_command, no_list, too_long, outside_loop, unknown_subcommand}
+pub use Rattle.tcl_frame.specs.FaultTexts.{variable_fault}
+use Rattle.txt_core.specs.ErrorTexts.{overflow}
 use Rattle.tcl_parse.specs.declared.fault.Kind.{Kind}
 use Rattle.tcl_parse.specs.declared.fault.Kind.TheVariants.{Quote, Brace, Bracket, Variable, Extra, Deep}
-use Rattle.tcl_frame.specs.declared.fault.VarFault.{VarFault}
-use Rattle.tcl_frame.specs.declared.fault.VarFault.TheVariants.{NoVariable, IsArray, NotArray, Exists, NoMemory}
 use Rattle.tcl_expr.specs.declared.operator.ExprFault.{ExprFault}
 use Rattle.tcl_expr.specs.declared.operator.ExprFault.TheVariants as faults
 use Rattle.tcl_expr.specs.declared.operator.Op.{Op}
@@ -35,14 +34,6 @@ fault_name Deep = codes "nested too deep"
 -- a text is no script: its fault stands at this place
 abbrev pub script_fault : Kind → ℕ → Bytes
 script_fault kind place = fault_name kind ++ codes " at " ++ decimal place
-
--- why a variable of this name isn't read or written (want of memory is no such reason, and its text is never looked at)
-abbrev pub variable_fault : VarFault → Bytes → Bytes
-variable_fault NoVariable name = no_variable name
-variable_fault IsArray name = is_an_array name
-variable_fault NotArray name = is_no_array name
-variable_fault Exists name = variable_exists name
-variable_fault NoMemory name = []
 
 -- a name is that of no procedure
 abbrev pub no_procedure : Bytes → Bytes

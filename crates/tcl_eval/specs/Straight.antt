@@ -100,7 +100,7 @@ module _ {H : Type 0} (names : Names) (table : LeafTable H) where
   stand_next inner script (stand.Costly at word) k =
       run_costly inner (words_from word (command_at at script)) (behind_command inner script at k)
 
--- a command was done
+-- a command was done, or costs more than is left
 abbrev pub IsDone : Tried → Type 0
 IsDone (tried.Gives value) = Unit {0}
 IsDone tried.Spent = Unit {0}

@@ -5,11 +5,11 @@ use Rattle.txt_core.specs.Names.{Bytes, Words}
 use Rattle.txt_core.specs.Lists.{Listing, elements, bad_at}
 use Rattle.txt_core.specs.Listing.{listing}
 use Rattle.txt_core.specs.PatternLaws.{matches}
-use Rattle.tcl_host.specs.Codes as code_of
 use Rattle.tcl_eval.specs.Words.{arg}
 use Rattle.tcl_eval.specs.Messages.{no_list, bad_value}
 use Rattle.tcl_eval.specs.Results.{wrong_words_end}
-use Rattle.tcl_eval.specs.Going.{Inner, unread, give, fails}
+use Rattle.tcl_eval.specs.Going.{Inner, give, fails}
+use Rattle.tcl_eval.specs.Branches.{run_body}
 use Rattle.tcl_eval.specs.State.{Rest, Next}
 
 -- The options at the front, from left to right: `-exact`, `-glob`, of which the last one counts, and `--`, behind which none
@@ -48,11 +48,7 @@ body_for globs text (pattern ∷ body ∷ pairs) =
     if fits globs text pattern pairs then Some (body_or_next body pairs) else body_for globs text pairs
 
 module _ {H : Type 0} where
-  abbrev pub run_body : Inner H → Option Bytes → Next H → Rest H
-  run_body inner None k = k code_of.ok []
-  run_body inner (Some body) k = inner.run (unread body) k
-
-  -- the body that fits is run, and else the result is empty; the last body isn't `-`
+  -- the body of the pattern that fits is run; the last body isn't `-`
   abbrev pub by_pairs : Inner H → Bool → Bytes → Words → Next H → Rest H
   by_pairs inner globs text pairs k =
       if bytes_eq (arg pairs (length pairs - 1)) (codes "-") then fails (bad_value (codes "-") (codes "switch")) k

@@ -36,6 +36,12 @@ IsTurnSet turn.Whole = Unit {0}
 IsTurnSet (turn.Body text) = IsSet text
 IsTurnSet (turn.Next text) = IsSet text
 
+-- the same of what is left of a turn over values
+abbrev pub IsEachSet : Each → Type 0
+IsEachSet (each.Ends value) = Unit {0}
+IsEachSet each.Spent = Unit {0}
+IsEachSet (each.Body text) = IsSet text
+
 -- no body stands
 abbrev pub IsBehind : Turn → Type 0
 IsBehind (turn.Ends value) = Unit {0}
@@ -43,12 +49,6 @@ IsBehind turn.Spent = Unit {0}
 IsBehind turn.Whole = Unit {0}
 IsBehind (turn.Body text) = ⊥
 IsBehind (turn.Next text) = Unit {0}
-
--- the same of what is left of a turn over values
-abbrev pub IsEachSet : Each → Type 0
-IsEachSet (each.Ends value) = Unit {0}
-IsEachSet each.Spent = Unit {0}
-IsEachSet (each.Body text) = IsSet text
 
 -- a condition was evaluated
 abbrev pub IsTruth : Tested → Type 0

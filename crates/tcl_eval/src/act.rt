@@ -19,7 +19,7 @@ ghost use Rattle.tcl_eval.specs.declared.verb.Verb.{Verb};
 ghost use Rattle.tcl_eval.specs.declared.engine.OpenQuestion.{OpenQuestion};
 
 use crate::engine::{Engine, OpenQuestion};
-use crate::message::{command_exists, no_command, variable_fault};
+use crate::message::{command_exists, no_command};
 use crate::parameter::parameters;
 use crate::stack::{Acted, Ended, Frame};
 use crate::value::{
@@ -32,7 +32,7 @@ use natives::{Fault, Native, Natives};
 use outside::{Question, Service};
 use std::alloc::Global;
 use std::sync::ledger::Ledger;
-use tcl_frame::{VarFault, is_element_name};
+use tcl_frame::{VarFault, is_element_name, variable_fault};
 use tcl_host::{Host, HostReply, OK};
 use tcl_varcmd::is_var_command;
 use txt_core::error_text::unknown_command;

@@ -1,14 +1,14 @@
-//! What is said of an error, beside the texts that other parts give too (`txt_core::error_text`).
+//! What is said of an error, beside the texts that other parts give too (`txt_core::error_text` and
+//! `tcl_frame::variable_fault`).
 
 ghost use Rattle.std.specs.Prelude.{◌≡◌, ◌++◌, [], IfOk};
 ghost use Rattle.tcl_expr.specs.declared.operator.ExprFault.{ExprFault};
-ghost use Rattle.tcl_eval.specs.Messages.{quoted, no_command, command_exists, fault_name, script_fault, variable_fault, no_procedure, bad_expression, no_boolean, operator_name, operator_fault};
+ghost use Rattle.tcl_eval.specs.Messages.{quoted, no_command, command_exists, fault_name, script_fault, no_procedure, bad_expression, no_boolean, operator_name, operator_fault};
 
 use std::alloc::Global;
 use tcl_expr::{ExprFault, Op};
-use tcl_frame::VarFault;
 use tcl_parse::Kind;
-use txt_core::error_text::{is_an_array, is_no_array, no_variable, overflow, variable_exists};
+use txt_core::error_text::overflow;
 use txt_core::{NoMemory, Text, write_natural};
 
 /// Appends a text in double quotes.
@@ -66,21 +66,6 @@ pub fn script_fault(alloc: Global, kind: Kind, place: u64) -> Result<Text, NoMem
     message.append(b" at ")?;
     message.append(write_natural(alloc, place)?.bytes())?;
     Ok(message)
-}
-
-/// A variable of this name isn't read or written.
-#[cold]
-#[inline(never)]
-pub fn variable_fault(alloc: Global, why: VarFault, name: &[u8]) -> Result<Text, NoMemory>
-    ensures { IfOk result (λ message. message ≡ variable_fault why name.now) }
-{
-    match why {
-        VarFault::NoVariable => no_variable(alloc, name),
-        VarFault::IsArray => is_an_array(alloc, name),
-        VarFault::NotArray => is_no_array(alloc, name),
-        VarFault::Exists => variable_exists(alloc, name),
-        VarFault::NoMemory => Err(NoMemory),
-    }
 }
 
 /// A name is that of no procedure.

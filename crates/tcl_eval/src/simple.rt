@@ -12,12 +12,11 @@ ghost use Rattle.tcl_eval.specs.declared.gather.SoFar.{SoFar};
 
 use crate::engine::Engine;
 use crate::gather::{Gathered, SoFar};
-use crate::message::variable_fault;
 use crate::place::{Seen, look, pieces_at};
 use crate::stack::Ended;
 use crate::value::{done, error, judged, kept_value};
 use std::alloc::Global;
-use tcl_frame::{Frames, VarFault};
+use tcl_frame::{Frames, VarFault, variable_fault};
 use tcl_host::{Host, OK};
 use tcl_parse::{Piece, Word};
 use txt_core::{NoMemory, Text};

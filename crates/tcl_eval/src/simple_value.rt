@@ -14,14 +14,14 @@ ghost use Rattle.tcl_eval.specs.Expressions.{way_of};
 ghost use Rattle.tcl_eval.specs.AtOnce.{IsPassed, on_truth, word_at_once, right_at_once, left_at_once, at_once};
 
 use crate::gather::SoFar;
-use crate::message::{no_boolean, variable_fault};
+use crate::message::no_boolean;
 use crate::operation::{Way, way_of, with_one, with_two};
 use crate::place::only_pieces;
 use crate::stack::Ended;
 use crate::value::{error, kept_value};
 use std::alloc::Global;
 use tcl_expr::{Expr, Op};
-use tcl_frame::{Frames, VarFault};
+use tcl_frame::{Frames, VarFault, variable_fault};
 use tcl_host::OK;
 use tcl_parse::Piece;
 use txt_core::{MOST_BYTES, NoMemory, Text, read_truth};

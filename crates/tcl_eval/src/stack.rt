@@ -138,7 +138,7 @@ pub enum Acted {
     Spent,
 }
 
-/// How a run goes on behind a choice, a loop or a page.
+/// How a run goes on behind a choice, a loop, a page or a call of a procedure.
 #[derive(Drop)]
 pub enum Gone {
     Goes(Step),

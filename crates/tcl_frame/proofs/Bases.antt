@@ -1,5 +1,5 @@
 -- What the global variables are, by the base scalars and by what stands beside them.
-use Rattle.std.proofs.Common.{◌≡◌, ℕ, Bool, true, false, List, [], ◌∷◌, ◌++◌, refl, sym, ap, subst, ◌∙◌, cond, ⊎_elim, Err}
+use Rattle.std.proofs.Common.{◌≡◌, is_some, ℕ, Bool, true, false, List, [], ◌∷◌, ◌++◌, refl, sym, ap, subst, ◌∙◌, cond, ⊎_elim, Err}
 use Rattle.std.specs.Prelude.{Option, Some, None, IsSome, not}
 use Rattle.std.specs.Option.{option_map}
 use Rattle.std.specs.Ordering.{nat_cmp, is_eq}
@@ -21,7 +21,8 @@ use Rattle.tcl_frame.specs.Variables.{Table, Scalars, elements_in, with_value, w
 use Rattle.tcl_frame.specs.Meaning.{Found, Value, InScalar, whole, element, found, value_there, no_write, no_removal, no_array}
 use Rattle.tcl_frame.specs.Appending.{longer, with_longer}
 use Rattle.tcl_frame.specs.Stack.{Kept}
-use Rattle.tcl_frame.specs.Base.{with_scalars, as_variables}
+use Rattle.tcl_frame.specs.Base.{base_of, with_scalars, as_variables}
+use Rattle.tcl_frame.specs.NotLending.{IsBase}
 use Rattle.tcl_frame.specs.Globals.{Globals, base_fault, Bases, stands, standing_value, valued, values_of, standing, together, set_aside, standing_again, with_aside_one, with_aside}
 
 abbrev pub same : List ℕ → List ℕ → Bool
@@ -362,3 +363,17 @@ refused_write A B bases own name e there h = by (standing_value (map.get bases (
     by None is s h = absurd (true≢false (sym s))
     by (Some v) is s h =
         subst (λ f. IsRefusedFor {A = B} f (Err e)) (write_refused name v ∙ sym (ap no_write (found_base bases own name v is))) (refused_alike A B (base_fault (Some v) name) e h)
+
+-- ---- a base scalar that stands
+
+-- it has a base value
+stands_valued : (o : Option Base) (value : List ℕ) → Some value ≡ standing_value o → IsSome (value_of o)
+stands_valued None value e = absurd (true≢false (ap is_some e))
+stands_valued (Some base) value e = refl
+
+-- a keep of its name stands
+pub standing_kept : (bases : Bases) (keeps : List Kept) (name value : List ℕ) → values_of bases ≡ base_of keeps → Some value ≡ standing_value (map.get bases name)
+    → IsBase keeps name
+standing_kept bases keeps name value known is =
+    subst (λ (m : Scalars). IsSome (map.get m name)) known
+    (subst (λ o. IsSome o) (sym (values_get bases name)) (stands_valued (map.get bases name) value is))

@@ -1,7 +1,8 @@
 -- Scalars whose texts are changed in their places.
-use Rattle.std.proofs.Common.{◌≡◌, is_some, ℕ, ◌-◌, ◌<◌, Bool, true, false, List, [], ◌∷◌, length, get_or, reverse, refl, sym, ap, subst, ◌∙◌}
-use Rattle.std.specs.Prelude.{Option, Some, None, IfSome, position, if◌then◌else◌}
-use Rattle.std.specs.Option.{option_map}
+use Rattle.std.proofs.Common.{◌≡◌, is_some, ℕ, ◌-◌, ◌<◌, Bool, true, false, List, [], ◌∷◌, length, get_or, reverse, refl, sym, ap, subst, ◌∙◌, arith}
+use Rattle.std.specs.Prelude.{Option, Some, None, IfSome, IfNone, position, if◌then◌else◌}
+use Rattle.std.specs.Borrow.{MutBor}
+use Rattle.std.specs.Option.{option_map, option_copied_mut}
 use Rattle.std.specs.FinMap as map
 use Rattle.std.proofs.lemmas.Bool.{true≢false}
 use Rattle.tcl_frame.specs.declared.frame.Frame.{Frame}
@@ -36,6 +37,16 @@ whole_is (Some (Array elements)) text e = absurd (true≢false (ap is_some e))
 pub if_some : {A : Type 0} (o : Option A) (P Q : A → Type 0) → ((x : A) → P x → Q x) → IfSome o P → IfSome o Q
 if_some None P Q f h = tt
 if_some (Some x) P Q f h = f x h
+
+-- there is none where nothing of it is lent
+pub none_is : (o : Option (MutBor (List ℕ))) (text : Option (List ℕ)) → option_copied_mut o ≡ text → IfNone o (text ≡ None)
+none_is None text e = sym e
+none_is (Some place) text e = tt
+
+-- one step further from what holds where there is none
+pub if_none : {A : Type 0} (o : Option A) (X Y : Type 0) → (X → Y) → IfNone o X → IfNone o Y
+if_none None X Y f h = f h
+if_none (Some x) X Y f h = tt
 
 -- ---- names that don't end in `)`
 
@@ -121,3 +132,8 @@ global_table old above stack name is linked =
 pub top_links : (frames : List Frame) (n : ℕ) (frame : Frame) (name : List ℕ) → n ≡ length frames → 0 < n → frame ≡ get_or frames (n - 1) frame
     → links_name (reverse frames) name ≡ map.contains_key frame.links name
 top_links frames n frame name len some there = ap (λ above. links_name above name) (last_first frames n frame len some there).1
+
+-- where there is no frame, each name is left to them
+pub empty_links : (frames : List Frame) (n : ℕ) (name : List ℕ) → n ≡ length frames → (0 < n → ⊥) → links_name (reverse frames) name ≡ true
+empty_links [] n name len none = refl
+empty_links (frame ∷ frames) n name len none = absurd (none (omega (arith, len)))

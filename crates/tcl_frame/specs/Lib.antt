@@ -6,9 +6,11 @@ pub mod Frames
 pub mod Base
 pub mod Meaning
 pub mod Refusal
+pub mod FaultTexts
 pub mod Appending
 pub mod Arrays
 pub mod ScalarLending
+pub mod NotLending
 -- What only proofs use.
 pub mod Entries
 pub mod Few

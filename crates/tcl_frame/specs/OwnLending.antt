@@ -24,8 +24,8 @@ lends_own s name r =
     LendsSo frames.the_row table.the_row s r
     (λ n w. OnSome r (n ≡ with_table s.now name w)) (λ n. n ≡ s.now)
 
--- the variable of the name is a scalar with the text that is written last through the result, among the variables among which it is
--- looked up. Where nothing is lent the frames are as they were
+-- among the variables among which the name is looked up, it is a scalar with the text that is written last through the result. Where
+-- nothing is lent the frames are as they were
 abbrev pub lends_plain : MutBor Stack → Bytes → Option (MutBor Bytes) → Fml
 lends_plain s name r =
     LendsSo frames.the_row text.the_row s r

@@ -1,6 +1,11 @@
-//! Why a call on a variable is refused.
+//! Why a call on a variable is refused, and what is said of it.
 
-use txt_core::NoMemory;
+ghost use Rattle.std.specs.Prelude.{◌≡◌, ◌≢◌, IfOk};
+ghost use Rattle.tcl_frame.specs.FaultTexts.{variable_fault};
+
+use std::alloc::Global;
+use txt_core::error_text::{is_an_array, is_no_array, no_variable, variable_exists};
+use txt_core::{NoMemory, Text};
 
 /// Why a call on a variable is refused. A refusal changes nothing.
 #[derive(Clone, Copy, Debug, PartialEq, Eq)]
@@ -24,5 +29,22 @@ impl From<NoMemory> for VarFault {
 
     fn from(_e: NoMemory) -> VarFault {
         VarFault::NoMemory
+    }
+}
+
+/// What is said of a variable of this name that is refused. The only error is want of memory, which
+/// comes also where that is why.
+#[cold]
+#[inline(never)]
+pub fn variable_fault(alloc: Global, why: VarFault, name: &[u8]) -> Result<Text, NoMemory>
+    ensures text { IfOk result (λ message. message ≡ variable_fault why name.now) }
+    ensures memory { IfOk result (λ _. why ≢ VarFault.NoMemory) }
+{
+    match why {
+        VarFault::NoVariable => no_variable(alloc, name),
+        VarFault::IsArray => is_an_array(alloc, name),
+        VarFault::NotArray => is_no_array(alloc, name),
+        VarFault::Exists => variable_exists(alloc, name),
+        VarFault::NoMemory => Err(NoMemory),
     }
 }

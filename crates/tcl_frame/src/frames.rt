@@ -1,6 +1,6 @@
 //! The variables of an interpreter.
 
-ghost use Rattle.std.specs.Prelude.{◌≡◌, ◌≤◌, ◌<◌, ◌++◌, ◌≢◌, Some, IfOk, IfErr, IfSome, OnOk, OnErr, length, false};
+ghost use Rattle.std.specs.Prelude.{◌≡◌, ◌≤◌, ◌<◌, ◌++◌, ◌≢◌, Some, IfOk, IfErr, IfSome, IfNone, OnOk, OnErr, length, false};
 ghost use Rattle.std.specs.Borrow.{sem};
 ghost use Rattle.std.specs.Option.{option_copied, option_copied_mut};
 ghost use Rattle.std.specs.FinMap as map;
@@ -15,6 +15,7 @@ ghost use Rattle.tcl_frame.specs.declared.variable.Variable.TheVariants.{Scalar}
 ghost use Rattle.tcl_frame.specs.Meaning.{Value};
 ghost use Rattle.tcl_frame.specs.Texts.{text_of_scalar};
 ghost use Rattle.tcl_frame.specs.ScalarLending.{lends_written};
+ghost use Rattle.tcl_frame.specs.NotLending.{IsPlainNotLent, IsNotLent};
 ghost use Rattle.tcl_frame.specs.OwnLending.{own_variables, lends_own, lends_plain};
 
 use crate::fault::VarFault;
@@ -182,6 +183,7 @@ impl Frames {
         ensures* writes_back { sem 𝓛 (lends_plain self.entry name.now result) }
         ensures value { IfSome (option_copied_mut result) (λ text.
             map.get (table_of self.old name.now) name.now ≡ Some (Scalar text)) }
+        ensures none { IfNone result (IsPlainNotLent self.old name.now) }
     {
         if self.leaves(name) {
             return self.global.scalar_mut(name);
@@ -193,15 +195,16 @@ impl Frames {
     }
 
     /// The value of a scalar, to be changed in its place, which is looked up once: what is left there
-    /// is written to the name, as by `write`. `None` says nothing of the name: the variable may be
-    /// absent or an array, or a base scalar that wasn't changed since the frames were cleared, and of
-    /// an element nothing is lent.
+    /// is written to the name, as by `write`. `None` comes only where the name ends in `)`, as an
+    /// element's does, where there is no scalar of it, and where it may mean a base scalar that wasn't
+    /// changed since the frames were cleared.
     pub fn scalar_mut(&mut self, name: &Text) -> Option<&mut Text>
         ensures* writes_back { sem 𝓛 (lends_written self.entry name.now result) }
         ensures value { IfSome (option_copied_mut result) (λ value.
             found_in self.old (named name.now) ≡ Value value) }
         ensures same { IfSome (option_copied_mut result) (λ value.
             written self.old name.now value ≡ self.old) }
+        ensures none { IfNone result (IsNotLent self.old name.now) }
     {
         let name = name.bytes();
         if is_closed(name) {

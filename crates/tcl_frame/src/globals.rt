@@ -1,6 +1,6 @@
 //! The global variables, with the base scalars among them.
 
-ghost use Rattle.std.specs.Prelude.{◌≡◌, ◌≢◌, ◌≤◌, ◌<◌, ◌+◌, ◌++◌, ◌∷◌, [], length, take, None, Some, IsSome, IfOk, IfErr, IfSome, OnOk, OnErr};
+ghost use Rattle.std.specs.Prelude.{◌≡◌, ◌≢◌, ◌≤◌, ◌<◌, ◌+◌, ◌++◌, ◌∷◌, [], length, take, None, Some, IsSome, IfOk, IfErr, IfSome, IfNone, OnOk, OnErr, ◌⊎◌};
 ghost use Rattle.std.specs.Borrow.{sem};
 ghost use Rattle.std.specs.Option.{option_copied, option_copied_mut, option_map};
 ghost use Rattle.std.specs.FinMap as map;
@@ -16,6 +16,7 @@ ghost use Rattle.tcl_frame.specs.Refusal.{IsRefusedFor};
 ghost use Rattle.tcl_frame.specs.Base.{base_of, as_variables};
 ghost use Rattle.tcl_frame.specs.Texts.{text_of_scalar};
 ghost use Rattle.tcl_frame.specs.GlobalLending.{lends_global};
+ghost use Rattle.tcl_frame.specs.NotLending.{IsNoScalar, IsBase};
 ghost use Rattle.tcl_frame.specs.Globals.{together, values_of, standing_value, standing_again, keeps_of, KnowBefore, base_fault};
 
 use crate::base::{Base, Bases};
@@ -213,6 +214,8 @@ impl Globals {
         ensures* writes_back { sem 𝓛 (lends_global self.entry name.now result) }
         ensures value { IfSome (option_copied_mut result) (λ text.
             map.get self.old.table name.now ≡ Some (Variable.Scalar text)) }
+        ensures none { IfNone result
+            (IsNoScalar self.old.table name.now ⊎ IsBase self.old.keeps name.now) }
     {
         match base_value(&self.base, name) {
             Some(_) => None,

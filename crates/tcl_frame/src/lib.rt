@@ -16,7 +16,7 @@ mod name;
 mod table;
 mod variable;
 
-pub use fault::VarFault;
+pub use fault::{VarFault, variable_fault};
 pub use frames::Frames;
 pub use law::{base_scalars_stand, changes_of_variables, meaning_of_names};
 pub use name::is_element_name;

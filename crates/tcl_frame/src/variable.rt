@@ -187,10 +187,7 @@ impl Elements {
         for (index, value) in &self.values {
             let index = Text::new(self.alloc, index)?;
             let value = value.copy(self.alloc)?;
-            match pairs.push((index, value)) {
-                Ok(()) => {}
-                Err(_) => return Err(NoMemory),
-            }
+            pairs.add((index, value))?;
         }
         Ok(pairs)
     }

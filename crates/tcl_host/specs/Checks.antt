@@ -1,9 +1,11 @@
 -- What the commands of a host, whose state is an H, look at before they do anything, and how they end. The first word is the
 -- command's name.
-use Rattle.std.specs.Prelude.{ℕ, ℤ, Bool, length, nat_le, ◌&&◌, if◌then◌else◌, Option, Some, None, Result, Ok, Err}
+use Rattle.std.specs.Prelude.{ℕ, ℤ, Bool, length, nat_le, ◌&&◌, if◌then◌else◌, Result}
 use Rattle.txt_core.specs.Names.{Bytes, Words}
-use Rattle.txt_core.specs.ErrorTexts.{wrong_words, unknown_subcommand, bad_value, no_integer}
+use Rattle.txt_core.specs.Number.{number}
+use Rattle.txt_core.specs.ErrorTexts.{wrong_words, unknown_subcommand, bad_value}
 use Rattle.natives.specs.Words.{arg}
+use Rattle.natives.specs.Checks.{numbered}
 use Rattle.tcl_host.specs.Codes as code_of
 use Rattle.tcl_host.specs.Leaf.{Leaf, says}
 
@@ -39,7 +41,6 @@ unfit words place = bad_value (arg words place) (arg words 0)
 abbrev pub fitting : {H : Type 0} → Bool → Words → ℕ → (H → Leaf H) → H → Leaf H
 fitting fit words place does host = passing fit (unfit words place) does host
 
--- a text is a number, or that is the error
-abbrev pub numbered : Option ℤ → Bytes → Result ℤ Bytes
-numbered (Some n) word = Ok n
-numbered None word = Err (no_integer word)
+-- the word at this place is a number, or that is the error
+abbrev pub integer : Words → ℕ → Result ℤ Bytes
+integer words place = numbered (number (arg words place)) (arg words place)

@@ -3,12 +3,12 @@
 ghost use Rattle.std.specs.Prelude.{◌≡◌, IfOk};
 ghost use Rattle.txt_core.specs.ErrorTexts.{wrong_words, unknown_subcommand};
 ghost use Rattle.natives.specs.Words.{arg};
-ghost use Rattle.tcl_host.specs.Checks.{is_counted, unfit};
-ghost use Rattle.tcl_host.specs.Outcomes.{Passes};
+ghost use Rattle.tcl_host.specs.Checks.{is_counted, unfit, integer};
+ghost use Rattle.tcl_host.specs.Outcomes.{Passes, Finds};
 
 use crate::refusal::{Refusal, refuse};
 use std::alloc::Global;
-use txt_core::{NoMemory, Text, Words, error_text};
+use txt_core::{NoMemory, Text, Words, error_text, read_int_bytes};
 
 /// Whether so many words, with the command's name among them, are from the least to the most.
 pub fn is_counted(words: &Words, least: usize, most: usize) -> bool
@@ -61,4 +61,20 @@ pub fn require_fit(alloc: Global, fit: bool, words: &Words, place: usize) -> Res
         return Err(refuse(unfit(alloc, words, place)));
     }
     Ok(())
+}
+
+/// The number that the word at a place is.
+///
+/// # Errors
+///
+/// `Error` exactly where it is none, with the text `expected integer but got "WORD"`; `NoMemory` for
+/// want of memory alone.
+pub fn integer(alloc: Global, words: &Words, place: usize) -> Result<i64, Refusal>
+    ensures { Finds result (integer words.now place) }
+{
+    let word = words.bytes_at(place);
+    match read_int_bytes(word) {
+        Some(number) => Ok(number),
+        None => Err(refuse(error_text::no_integer(alloc, word))),
+    }
 }

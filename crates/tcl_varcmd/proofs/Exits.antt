@@ -3,17 +3,12 @@ use Rattle.std.proofs.Common.{◌≡◌, ℕ, List, Option, Some, None, Result, 
 use Rattle.tcl_frame.specs.Stack.{Stack}
 use Rattle.natives.specs.declared.fault.Fault.{Fault}
 use Rattle.natives.specs.declared.fault.Fault.TheVariants.{Error, NoMemory}
-use Rattle.natives.specs.Answers.{Tried, Says as SaysText}
-use Rattle.tcl_varcmd.specs.Answers.{Came, unless, Answers, Changes, Says}
-
--- an error's text, where there is one to say
-pub said : (text : List ℕ) (x : Fault) → SaysText text x → Says (Some text) x
-said text (Error error) s = ap Some (sym s)
-said text NoMemory s = tt
+use Rattle.natives.specs.Answers.{Tried, Says}
+use Rattle.tcl_varcmd.specs.Answers.{Came, unless, Answers, Changes}
 
 -- a check that says its error
-pub tried_said : {A : Type 0} (P : A → Type 0) (error message : Option (List ℕ)) (x : Fault) → error ≡ message → Says message x → Tried error P (Err x)
-tried_said P error message (Error text) e s = e ∙ s
+pub tried_said : {A : Type 0} (P : A → Type 0) (error : Option (List ℕ)) (message : List ℕ) (x : Fault) → error ≡ Some message → Says message x → Tried error P (Err x)
+tried_said P error message (Error text) e s = e ∙ ap Some (sym s)
 tried_said P error message NoMemory e s = tt
 
 -- a check that goes on with another value
@@ -22,13 +17,13 @@ tried_other P Q error (Error text) h = h
 tried_other P Q error NoMemory h = tt
 
 -- a change that says its error
-pub changes_said : (error message : Option (List ℕ)) (after before new : Stack) (x : Fault) → error ≡ message → Says message x → new ≡ before → Changes error after before (Err x) new
-changes_said error message after before new (Error text) e s same = (e ∙ s, same)
+pub changes_said : (error : Option (List ℕ)) (message : List ℕ) (after before new : Stack) (x : Fault) → error ≡ Some message → Says message x → new ≡ before → Changes error after before (Err x) new
+changes_said error message after before new (Error text) e s same = (e ∙ ap Some (sym s), same)
 changes_said error message after before new NoMemory e s same = same
 
 -- a command that says its error
-pub answers_said : (error message : Option (List ℕ)) (stack new : Stack) (came : Came) (x : Fault) → error ≡ message → Says message x → new ≡ stack → Answers (unless error stack came) (Err x) new
-answers_said error message stack new came (Error text) e s same = rw (e ∙ s) (refl, same)
+pub answers_said : (error : Option (List ℕ)) (message : List ℕ) (stack new : Stack) (came : Came) (x : Fault) → error ≡ Some message → Says message x → new ≡ stack → Answers (unless error stack came) (Err x) new
+answers_said error message stack new came (Error text) e s same = rw (e ∙ ap Some (sym s)) (refl, same)
 answers_said error message stack new came NoMemory e s same = tt
 
 -- a command that ends with a check's error

@@ -9,10 +9,10 @@ use Rattle.tcl_frame.specs.Stack.{Stack}
 use Rattle.tcl_frame.specs.Frames.{found_in, read_of, written}
 use Rattle.natives.specs.declared.fault.Fault.{Fault}
 use Rattle.natives.specs.declared.fault.Fault.TheVariants.{Error, NoMemory}
-use Rattle.natives.specs.Answers.{Reply, Answers as Replies}
+use Rattle.natives.specs.Answers.{Reply, Answers as Replies, Says}
 use Rattle.natives.specs.Answers as replies
 use Rattle.natives.specs.Checks.{integer_error, integer, list_error, items}
-use Rattle.tcl_varcmd.specs.Answers.{Came, gives, fails, unless, Answers, IfNoMemory, Says}
+use Rattle.tcl_varcmd.specs.Answers.{Came, gives, fails, unless, Answers, IfNoMemory}
 use Rattle.tcl_varcmd.specs.Errors.{refused, read_error, write_error, sum_error, long_error}
 use Rattle.tcl_varcmd.specs.Scalars.{stored, step_error, step_of, added, incr_by, lappend_to}
 use Rattle.tcl_varcmd.specs.Growing.{grown}
@@ -25,8 +25,8 @@ no_room (Ok text) = tt
 no_room (Err text) = tt
 
 -- a reply that says its error
-pub reply_said : (error message : Option (List ℕ)) (reply : Reply) (x : Fault) → error ≡ message → Says message x → Replies (replies.unless error reply) (Err x)
-reply_said error message reply (Error text) e s = rw (e ∙ s) refl
+pub reply_said : (error : Option (List ℕ)) (message : List ℕ) (reply : Reply) (x : Fault) → error ≡ Some message → Says message x → Replies (replies.unless error reply) (Err x)
+reply_said error message reply (Error text) e s = rw e s
 reply_said error message reply NoMemory e s = no_room (replies.unless error reply)
 
 -- a reply behind a check

@@ -12,7 +12,7 @@ use Rattle.tcl_frame.specs.Stack.{Stack}
 use Rattle.tcl_frame.specs.Frames.{read_of, written, has}
 use Rattle.natives.specs.declared.fault.Fault.{Fault}
 use Rattle.natives.specs.declared.fault.Fault.TheVariants.{Error, NoMemory}
-use Rattle.natives.specs.Answers.{Says}
+use Rattle.natives.specs.Answers.{Says, has_long_text}
 use Rattle.natives.specs.Checks.{integer_error, integer, list_error, items}
 use Rattle.natives.specs.Words.{arg}
 use Rattle.tcl_varcmd.specs.declared.command.Command.{Command}
@@ -21,13 +21,13 @@ use Rattle.tcl_varcmd.specs.Answers.{Came, gives, fails, unless, Answers, IfNoMe
 use Rattle.tcl_varcmd.specs.Errors.{read_error, write_error, count_error, least_error, sum_error, long_error}
 use Rattle.tcl_varcmd.specs.Scalars.{stored, set_to, step_error, step_of, added, incr_by, append_to, lappend_to}
 use Rattle.tcl_varcmd.specs.Commands.{command_came, bounded}
-use Rattle.tcl_varcmd.specs.Judging.{is_long_answer, is_on_one, LongKeeps}
+use Rattle.tcl_varcmd.specs.Judging.{is_on_one, LongKeeps}
 use Rattle.tcl_varcmd.proofs.Counts.{is_too_long}
 
 -- ---- answers
 
 -- one that is over the limit is the error of that
-pub bounded_long : (came : Came) (r : Result (List ℕ) Fault) (x : Fault) (new : Stack) → Answers came r new → is_long_answer r ≡ true → Says too_long x → Answers (bounded came) (Err x) new
+pub bounded_long : (came : Came) (r : Result (List ℕ) Fault) (x : Fault) (new : Stack) → Answers came r new → has_long_text r ≡ true → Says too_long x → Answers (bounded came) (Err x) new
 bounded_long (gives text stack) (Ok value) (Error error) new h long s = rw (sym (ap is_long h.0) ∙ long) (s, h.1)
 bounded_long (fails text stack) (Ok value) (Error error) new h long s = absurd h
 bounded_long (gives text stack) (Err (Error said)) (Error error) new h long s = absurd h
@@ -36,7 +36,7 @@ bounded_long came (Err NoMemory) (Error error) new h long s = absurd (true≢fal
 bounded_long came r NoMemory new h long s = tt
 
 -- any other stands
-pub bounded_short : (came : Came) (r : Result (List ℕ) Fault) (new : Stack) → Answers came r new → is_long_answer r ≡ false → Answers (bounded came) r new
+pub bounded_short : (came : Came) (r : Result (List ℕ) Fault) (new : Stack) → Answers came r new → has_long_text r ≡ false → Answers (bounded came) r new
 bounded_short (gives text stack) (Ok value) new h short = rw (sym (ap is_long h.0) ∙ short) h
 bounded_short (fails text stack) (Ok value) new h short = absurd h
 bounded_short (gives text stack) (Err (Error said)) new h short = absurd h
@@ -44,7 +44,7 @@ bounded_short (fails text stack) (Err (Error said)) new h short = rw (sym (ap is
 bounded_short came (Err NoMemory) new h short = tt
 
 -- the frames that one over the limit leaves
-pub long_kept : (stack new : Stack) (came : Came) (r : Result (List ℕ) Fault) → LongKeeps stack came → Answers came r new → is_long_answer r ≡ true → new ≡ stack
+pub long_kept : (stack new : Stack) (came : Came) (r : Result (List ℕ) Fault) → LongKeeps stack came → Answers came r new → has_long_text r ≡ true → new ≡ stack
 long_kept stack new (gives text after) (Ok value) keeps h long = h.1 ∙ keeps (sym (ap is_long h.0) ∙ long)
 long_kept stack new (fails text after) (Ok value) keeps h long = absurd h
 long_kept stack new (gives text after) (Err (Error said)) keeps h long = absurd h

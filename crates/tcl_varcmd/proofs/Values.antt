@@ -38,7 +38,7 @@ bad_to_append t v list_faults.NoMemory h = tt
 -- the error of a text that is no list
 pub bad_list_said : {B : Type 0} (P : B → Type 0) (t : List ℕ) (f : ListFault) (x : Fault) → SplitsAs t (Err f) → SaysOfList f x → Tried (list_error t) P (Err x)
 unfolding list_error
-bad_list_said P t (list_faults.Bad at) (Error text) h s = ap bad_list h ∙ s
+bad_list_said P t (list_faults.Bad at) (Error text) h s = ap bad_list h ∙ ap Some (sym s)
 bad_list_said P t list_faults.NoMemory (Error text) h s = absurd (cc)
 bad_list_said P t f NoMemory h s = tt
 

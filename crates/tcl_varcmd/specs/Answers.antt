@@ -1,6 +1,9 @@
 -- What a command comes to, and what the program answers for it.
-use Rattle.std.specs.Prelude.{◌≡◌, Option, Some, None, Result, Ok, Err}
+use Rattle.std.specs.Prelude.{◌≡◌, ◌≢◌, Option, Some, None, Result, Ok, Err}
 use Rattle.txt_core.specs.Names.{Bytes}
+use Rattle.tcl_frame.specs.declared.fault.VarFault.{VarFault}
+use Rattle.tcl_frame.specs.declared.fault.VarFault.TheVariants as faults
+use Rattle.tcl_frame.specs.FaultTexts.{variable_fault}
 use Rattle.tcl_frame.specs.Stack.{Stack}
 use Rattle.natives.specs.declared.fault.Fault.{Fault}
 use Rattle.natives.specs.declared.fault.Fault.TheVariants.{Error, NoMemory}
@@ -41,7 +44,7 @@ Changes error after before (Ok done) new = (error ≡ None) × (new ≡ after)
 Changes error after before (Err (Error text)) new = (error ≡ Some text) × (new ≡ before)
 Changes error after before (Err NoMemory) new = new ≡ before
 
--- what is said is this text, or memory ran out
-abbrev pub Says : Option Bytes → Fault → Type 0
-Says message (Error text) = message ≡ Some text
-Says message NoMemory = Unit {0}
+-- a variable of this name is refused: the error is the text of that, and memory ran out where that is why
+abbrev pub Refuses : VarFault → Bytes → Fault → Type 0
+Refuses why name (Error text) = (text ≡ variable_fault why name) × (why ≢ faults.NoMemory)
+Refuses why name NoMemory = Unit {0}

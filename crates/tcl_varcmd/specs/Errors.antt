@@ -5,15 +5,15 @@ use Rattle.txt_core.specs.Number.{fits}
 use Rattle.tcl_frame.specs.declared.fault.VarFault.{VarFault}
 use Rattle.tcl_frame.specs.Names.{named, is_element}
 use Rattle.tcl_frame.specs.Stack.{Stack}
+use Rattle.tcl_frame.specs.FaultTexts.{variable_fault}
 use Rattle.tcl_frame.specs.Frames.{read_fault, write_fault, remove_fault, array_fault, link_fault}
 use Rattle.txt_core.specs.Limits.{is_long}
 use Rattle.txt_core.specs.ErrorTexts.{wrong_words, bad_value, too_long, overflow}
-use Rattle.tcl_varcmd.specs.Texts.{fault_text}
 
 -- the text of a fault of a variable, where there is one
 abbrev pub refused : Bytes → Option VarFault → Option Bytes
 refused name None = None
-refused name (Some fault) = fault_text fault name
+refused name (Some fault) = Some (variable_fault fault name)
 
 unfoldable pub read_error : Stack → Bytes → Option Bytes
 read_error stack name = refused name (read_fault stack name)

@@ -1,21 +1,13 @@
--- Answers over the limit, and which commands leave the variables as they were then.
-use Rattle.std.specs.Prelude.{◌≡◌, Bool, true, false, Result, Ok, Err}
-use Rattle.txt_core.specs.Names.{Bytes}
+-- Which commands leave the variables as they were where their answers are over the limit.
+use Rattle.std.specs.Prelude.{◌≡◌, Bool, true, false}
 use Rattle.txt_core.specs.Limits.{is_long}
 use Rattle.tcl_frame.specs.Stack.{Stack}
-use Rattle.natives.specs.declared.fault.Fault.{Fault}
-use Rattle.natives.specs.declared.fault.Fault.TheVariants.{Error, NoMemory}
 use Rattle.tcl_varcmd.specs.declared.command.Command.{Command}
 use Rattle.tcl_varcmd.specs.declared.command.Command.TheVariants.{Set, Unset, Incr, Append, Lappend, Global, Array, Info}
 use Rattle.tcl_varcmd.specs.Answers.{Came, gives, fails}
 
--- whether an answer has a text over the limit
-abbrev pub is_long_answer : Result Bytes Fault → Bool
-is_long_answer (Ok text) = is_long text
-is_long_answer (Err (Error text)) = is_long text
-is_long_answer (Err NoMemory) = false
-
--- whether a command reads or writes one variable and no other
+-- whether a command is one on a scalar or an element, or `info exists`: each leaves the variables as they were where its answer is
+-- over the limit
 abbrev pub is_on_one : Command → Bool
 is_on_one Set = true
 is_on_one Unset = false

@@ -1,6 +1,5 @@
 -- What a reader believes.
 pub mod Answers
-pub mod Texts
 pub mod Errors
 pub mod Scalars
 pub mod Arrays

@@ -77,7 +77,8 @@ fn goes_on(command: Command, words: &Words) -> bool
     }
 }
 
-/// Whether a command reads or writes one variable and no other.
+/// Whether a command is one on a scalar or an element, or `info exists`: each leaves the variables as they
+/// were where its answer is over the limit.
 pub(crate) fn is_on_one(command: Command) -> bool
     ensures { result ≡ is_on_one command }
 {

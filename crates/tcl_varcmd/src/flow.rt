@@ -1,20 +1,18 @@
 //! Variable commands.
 
 ghost use Rattle.std.specs.Prelude.{◌≡◌, length, Some, IsTrue, true};
-ghost use Rattle.tcl_frame.specs.Stack.{Stack};
-ghost use Rattle.tcl_varcmd.specs.Answers.{Came, Answers, IfNoMemory};
-ghost use Rattle.txt_core.specs.ErrorTexts.{too_long};
+ghost use Rattle.tcl_varcmd.specs.Answers.{Answers, IfNoMemory};
 ghost use Rattle.tcl_varcmd.specs.Commands.{command_came, bounded, var_came, begins_var_command};
-ghost use Rattle.tcl_varcmd.specs.Judging.{is_long_answer, is_on_one};
+ghost use Rattle.tcl_varcmd.specs.Judging.{is_on_one};
 
 use crate::array::{array, info};
 use crate::command::{Command, command_in, is_on_one};
 use crate::names::{global, unset};
 use crate::scalar::{append, incr, lappend, set};
-use natives::Fault;
+use natives::{Fault, has_long_text};
 use std::alloc::Global;
 use tcl_frame::Frames;
-use txt_core::{Text, Words, error_text, is_too_long};
+use txt_core::{Text, Words, error_text};
 
 /// What a command answers, before its length is judged.
 fn answer(
@@ -39,30 +37,6 @@ fn answer(
     }
 }
 
-/// An answer, or the error of one that is over the limit, whose text is handed in.
-fn within_limit(answer: Result<Text, Fault>, over: Text) -> Result<Text, Fault>
-    requires { over ≡ too_long }
-    ensures answers { (came : Came) (stack : Stack) → Answers came answer stack
-        → Answers (bounded came) result stack }
-    ensures kept { (old new : Stack) → IfNoMemory answer (new ≡ old)
-        → IfNoMemory result (new ≡ old) }
-{
-    match answer {
-        Ok(text) | Err(Fault::Error(text)) if is_too_long(&text) => Err(Fault::Error(over)),
-        answer => answer,
-    }
-}
-
-/// Whether an answer has a text over the limit.
-fn is_over_limit(answer: &Result<Text, Fault>) -> bool
-    ensures { result ≡ is_long_answer answer.now }
-{
-    match answer {
-        Ok(text) | Err(Fault::Error(text)) => is_too_long(text),
-        Err(Fault::NoMemory) => false,
-    }
-}
-
 /// What a command on one variable comes to. Its answer is over the limit only where it changed
 /// nothing, so that want of memory for the error's text changes nothing.
 fn judged(
@@ -78,7 +52,7 @@ fn judged(
     ensures depth { length frames.new.above ≡ length frames.old.above }
 {
     let came = answer(alloc, frames, command, words);
-    if is_over_limit(&came) {
+    if has_long_text(&came) {
         return Err(Fault::too_long(alloc));
     }
     came
@@ -99,8 +73,11 @@ fn judged_apart(
     ensures depth { length frames.new.above ≡ length frames.old.above }
 {
     let over = error_text::too_long(alloc)?;
-    let answer = answer(alloc, frames, command, words);
-    within_limit(answer, over)
+    let came = answer(alloc, frames, command, words);
+    if has_long_text(&came) {
+        return Err(Fault::Error(over));
+    }
+    came
 }
 
 /// Does one of the commands on variables: `set`, `unset`, `incr`, `append`, `lappend`, `global`,

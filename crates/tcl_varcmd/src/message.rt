@@ -2,26 +2,21 @@
 
 ghost use Rattle.std.specs.Prelude.{◌≡◌, ◌↔◌, ◌<◌, ◌≤◌, nat_lt, length, IsTrue};
 ghost use Rattle.natives.specs.Answers.{Tried};
-ghost use Rattle.tcl_varcmd.specs.Answers.{Says};
-ghost use Rattle.tcl_varcmd.specs.Texts.{fault_text};
+ghost use Rattle.tcl_varcmd.specs.Answers.{Refuses};
 ghost use Rattle.tcl_varcmd.specs.Errors.{count_error, least_error};
 
 use natives::Fault;
 use std::alloc::Global;
-use tcl_frame::VarFault;
-use txt_core::{Text, Words, error_text};
+use tcl_frame::{VarFault, variable_fault};
+use txt_core::{NoMemory, Text, Words};
 
 /// Why a variable is refused.
-pub(crate) fn refusal(alloc: Global, fault: VarFault, name: &Text) -> Fault
-    ensures { Says (fault_text fault name.now) result }
+pub(crate) fn refusal(alloc: Global, why: VarFault, name: &Text) -> Fault
+    ensures { Refuses why name.now result }
 {
-    let name = name.bytes();
-    match fault {
-        VarFault::NoVariable => Fault::saying(error_text::no_variable(alloc, name)),
-        VarFault::IsArray => Fault::saying(error_text::is_an_array(alloc, name)),
-        VarFault::NotArray => Fault::saying(error_text::is_no_array(alloc, name)),
-        VarFault::Exists => Fault::saying(error_text::variable_exists(alloc, name)),
-        VarFault::NoMemory => Fault::NoMemory,
+    match variable_fault(alloc, why, name.bytes()) {
+        Ok(text) => Fault::Error(text),
+        Err(NoMemory) => Fault::NoMemory,
     }
 }
 

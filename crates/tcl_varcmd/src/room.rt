@@ -3,8 +3,7 @@
 ghost use Rattle.std.specs.Prelude.{◌≡◌, ◌≢◌, ◌≤◌, ◌+◌, ◌++◌, ◌<◌, length, [], IfOk};
 ghost use Rattle.std.specs.Vec.{vec_capacity, vec_len};
 ghost use Rattle.txt_core.specs.ErrorTexts.{naming};
-ghost use Rattle.tcl_varcmd.specs.Answers.{Says};
-ghost use Rattle.tcl_varcmd.specs.Texts.{fault_text};
+ghost use Rattle.tcl_varcmd.specs.Answers.{Refuses};
 ghost use Rattle.tcl_varcmd.specs.Linking.{AreWithin, AreFitting};
 
 use natives::Fault;
@@ -68,7 +67,7 @@ pub(crate) fn refusal_within(room: Vec<u8>, fault: VarFault, name: &Text) -> Fau
     requires empty { room.items ≡ [] }
     requires room { length name.now + 32 ≤ vec_capacity room }
     requires fault { fault ≢ VarFault.NoMemory }
-    ensures text { Says (fault_text fault name.now) result }
+    ensures text { Refuses fault name.now result }
     ensures memory { result ≢ Fault.NoMemory }
 {
     let name = name.bytes();

@@ -23,7 +23,6 @@ pub(crate) fn sum(alloc: Global, left: i64, right: i64) -> Result<i64, Fault>
 }
 
 /// The error of a text that is no list.
-#[tactic(auto, using(crate::proofs::Exits::said))]
 fn bad_list(alloc: Global, fault: ListFault) -> Fault
     ensures { SaysOfList fault result }
 {

@@ -5,6 +5,7 @@ use lib.ListN.{get_elem?}
 use Rattle.turn_cell.specs.declared.view.Entry.{Entry}
 use Rattle.turn_cell.specs.declared.view.View.{View}
 use Rattle.txt_core.specs.Members.{Has}
+use Rattle.txt_core.specs.Merging as merging
 
 module _ {S C R : Type 0} where
   -- a pass with these units and no own entry, which has seen this many turns
@@ -33,13 +34,11 @@ module _ {S C R : Type 0} where
 
   -- the entry goes in front of the first one with a greater place
   abbrev pub put_in : Entry S C R → List (Entry S C R) → List (Entry S C R)
-  put_in e [] = e ∷ []
-  put_in e (f ∷ fs) = cond (nat_lt e.place f.place) (e ∷ f ∷ fs) (f ∷ put_in e fs)
+  put_in = merging.put_in (λ (e : Entry S C R). e.place)
 
   -- the entries of both, in order of place
   abbrev pub merged : List (Entry S C R) → List (Entry S C R) → List (Entry S C R)
-  merged [] fs = fs
-  merged (e ∷ es) fs = put_in e (merged es fs)
+  merged = merging.merged (λ (e : Entry S C R). e.place)
 
   -- after a join: the units of both, the entries of both in order of place, and the greater `seen` with its `low`
   abbrev pub joined : View S C R → View S C R → View S C R

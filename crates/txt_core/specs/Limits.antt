@@ -26,6 +26,10 @@ moment_of moment = min moment last_moment
 abbrev pub run_budget : ℕ
 run_budget = 200000
 
+-- how many workers there may be
+abbrev pub most_workers : ℕ
+most_workers = 16
+
 -- in how many buckets the shared arrays stand
 abbrev pub bucket_count : ℕ
 bucket_count = 8

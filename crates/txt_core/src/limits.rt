@@ -1,7 +1,7 @@
 //! The limits that several parts of the server have in common.
 
 ghost use Rattle.std.specs.Prelude.{◌≡◌, ◌+◌, length, nat_lt};
-ghost use Rattle.txt_core.specs.Limits.{is_long, most_bytes, moment_of};
+ghost use Rattle.txt_core.specs.Limits.{is_long, most_bytes, most_nested, last_moment, moment_of, run_budget, bucket_count, most_workers};
 
 use crate::text::Text;
 
@@ -18,8 +18,20 @@ pub const LAST_MOMENT: u64 = 253_402_300_799;
 /// What a run may spend.
 pub const RUN_BUDGET: u64 = 200_000;
 
+/// How many workers there may be.
+pub const MOST_WORKERS: u16 = 16;
+
 /// In how many buckets the shared arrays stand.
 pub const BUCKET_COUNT: u8 = 8;
+
+/// The limits are those of the rules. The function does nothing: its contract is the law.
+pub fn limits_have_their_numbers()
+    ensures values { (MOST_BYTES ≡ most_bytes) × (MOST_NESTED ≡ most_nested) }
+    ensures moments { LAST_MOMENT ≡ last_moment }
+    ensures runs { RUN_BUDGET ≡ run_budget }
+    ensures workers { MOST_WORKERS ≡ most_workers }
+    ensures buckets { BUCKET_COUNT ≡ bucket_count }
+{}
 
 /// Whether so many bytes are over the limit of a value.
 pub fn is_over_limit(bytes: usize) -> bool

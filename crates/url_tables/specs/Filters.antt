@@ -23,10 +23,14 @@ abbrev pub put_if : Bool → Words → List Words → List Words
 put_if true words others = words ∷ others
 put_if false words others = others
 
--- The words of the filters that a request passes at a stage, in the order of their registration: those of this stage and for
--- this method, whose pattern matches the path, which is shown as a text.
+-- Whether a request passes a filter at a stage: one of this stage and for this method, whose pattern matches the path, which
+-- is shown as a text.
+abbrev pub is_met : When → Bytes → Bytes → When → Bytes → Bytes → Bool
+is_met when method path stage registered pattern = same_stage stage when && is_for registered method && matches pattern path
+
+-- The words of the filters that a request passes at a stage, in the order of their registration.
 abbrev pub Filters : When → Bytes → Bytes → List Def → List Words
 Filters when method path [] = []
 Filters when method path (Filter stage registered pattern words ∷ defs) =
-    put_if (same_stage stage when && is_for registered method && matches pattern path) words (Filters when method path defs)
+    put_if (is_met when method path stage registered pattern) words (Filters when method path defs)
 Filters when method path (def ∷ defs) = Filters when method path defs

@@ -4,12 +4,11 @@ use Rattle.std.specs.Option.{is_some}
 use Rattle.std.specs.BTreeMap.{BTreeMap}
 use Rattle.std.specs.Global.{Vec}
 use Rattle.txt_core.specs.Names.{Bytes, Words}
-use Rattle.txt_core.specs.PatternLaws.{matches}
 use Rattle.cmd_table.specs.declared.definition.When.{When}
 use Rattle.url_tables.specs.declared.site.Site.{Site}
 use Rattle.url_tables.specs.declared.filters.Passing.{Passing}
 use Rattle.url_tables.specs.Urls.{fits}
-use Rattle.url_tables.specs.Filters.{same_stage, is_for, put_if}
+use Rattle.url_tables.specs.Filters.{is_met, put_if}
 use Rattle.url_tables.specs.Tables.{found}
 
 -- the one where it is there, else the other
@@ -43,7 +42,7 @@ found_at table method path count =
 
 -- whether a filter is passed
 abbrev pub is_passed : When → Bytes → Bytes → Passing → Bool
-is_passed when method path filter = same_stage filter.when when && is_for filter.method method && matches filter.pattern path
+is_passed when method path filter = is_met when method path filter.when filter.method filter.pattern
 
 -- the words of those that are passed
 abbrev pub passed : When → Bytes → Bytes → List Passing → List Words

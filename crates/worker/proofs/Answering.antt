@@ -8,7 +8,6 @@ use Rattle.outside.specs.Paging.{PageMap, Asks}
 use Rattle.outside.specs.declared.pages.PageAnswer.{PageAnswer}
 use Rattle.outside.specs.declared.pages.PageAnswer.TheVariants as pages
 use Rattle.outside.specs.declared.question.Answer.{Answer}
-use Rattle.outside.specs.declared.question.Answer.TheVariants as kinds
 use Rattle.outside.specs.declared.question.Question.{Question}
 use Rattle.outside.specs.declared.question.Service.{Service}
 use Rattle.outside.specs.declared.question.Service.TheVariants as service
@@ -34,7 +33,7 @@ use Rattle.nsv_bucket.specs.declared.reply.NsvReply.{NsvReply}
 use Rattle.nsv_bucket.specs.declared.reply.NsvReply.TheVariants as arrays
 use Rattle.nsv_shared.specs.Cells as buckets
 use Rattle.shared_state.specs.declared.shared.Passes.{Passes}
-use Rattle.serving.specs.Calls.{path_asked, page_answer, nsv_answer, sched_call, sched_answer, publish_asked, publish_call, save_call, published_answer}
+use Rattle.serving.specs.Calls.{path_asked, inner_answer, page_answer, nsv_answer, sched_call, sched_answer, publish_asked, publish_call, save_call, published_answer}
 use Rattle.serving.specs.declared.publishing.Asked.{Asked}
 use Rattle.serving.specs.declared.publishing.Asked.TheVariants.{Puts, Refused}
 use Rattle.worker.specs.Turns.{Turn, OnBlueprint, OnArrays, OnSchedule, OnPages, AtOnce, PublishedBy, IsTurnOf, blueprint_answer, array_answer, schedule_answer, pages_answer, refusal_of, answer_of, GainsTurns}
@@ -102,7 +101,7 @@ asks_refused {E} moment words p answer held faults is =
     (gains_none p) (subst (λ (a : Asked). PublishedBy a AtOnce) (sym is) tt) (ap refusal_of is) (held_one held AtOnce (λ map held. tt)) (rose_none faults) refl
 
 -- a run inside never asks
-pub asks_inner : {E : Type 0} (moment : ℕ) (words : List (List ℕ)) (p : Passes) (answer : Answer) (held : Option PageMap) (faults : ℕ) → answer ≡ kinds.Failed []
+pub asks_inner : {E : Type 0} (moment : ℕ) (words : List (List ℕ)) (p : Passes) (answer : Answer) (held : Option PageMap) (faults : ℕ) → answer ≡ inner_answer
     → AsksOne {E = E} moment (record { service = service.Inner; words = words }) p held faults (Ok answer) p faults None
 asks_inner {E} moment words p answer held faults is =
     put_to {E = E} moment (record { service = service.Inner; words = words }) p p held faults faults AtOnce (Ok answer) None

@@ -35,7 +35,7 @@ use Rattle.worker.specs.Turns.{Turn, OnBlueprint, blueprint_turns, IsLook, Gains
 use Rattle.worker.specs.Runs.{edition_of}
 use Rattle.worker.specs.Clean.{Standing, edition_in, standing_in, standing_of, Saw, IsCleanInterp, IsClean}
 use Rattle.worker.specs.Cost.{Build, renewal, renewal_of, renewal_by}
-use Rattle.worker.specs.Renewing.{place_told, look_in, TellsLook, no_epoch, epoch_unmarked, known_epoch, epoch_told, Follows, AreNew, IsRenewedBy, MayAdd, Adds, IsOf, IsLeft}
+use Rattle.worker.specs.Renewing.{place_told, look_in, TellsLook, no_epoch, epoch_unmarked, known_epoch, epoch_told, Follows, AreNew, IsRenewedBy, IsOf, IsLeft}
 use Rattle.worker.specs.declared.worker.Worker.{Worker}
 use Rattle.worker.proofs.Turning.{blueprint_entry, blueprint_gained, reached_names, keeps_left}
 

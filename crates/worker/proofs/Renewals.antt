@@ -21,7 +21,8 @@ use Rattle.shared_state.specs.Cells.{HaveSameNames}
 use Rattle.worker.specs.Runs.{edition_of}
 use Rattle.worker.specs.Clean.{Standing, edition_in, standing_in}
 use Rattle.worker.specs.Cost.{Build, renewal, renewal_of, renewal_by}
-use Rattle.worker.specs.Renewing.{no_epoch, epoch_unmarked, known_epoch, Follows, AreNew, IsRenewedBy, mark_in, MayAdd, Adds, Builds, IsOf, HasOneOf, IsLeft}
+use Rattle.ictl.specs.Renewing.{MayAdd, MayRenew, Adds, Renews, renewal_steps}
+use Rattle.worker.specs.Renewing.{no_epoch, epoch_unmarked, known_epoch, Follows, AreNew, IsRenewedBy, IsOf, IsLeft}
 use Rattle.worker.proofs.Tables.{same_built, same_commands}
 use Rattle.worker.proofs.Looking.{since_told, whole_told}
 
@@ -45,7 +46,7 @@ own_epoch names interp state look r free =
 
 -- ---- as it is
 
-pub same_is_of : (laws : Laws) (names : List (List ℕ)) (interp : Interp) (state : blueprints.State) → IsRenewedBy names (Some interp) state looks.Same → mark_of interp ≡ false → IsOf names state interp
+same_is_of : (laws : Laws) (names : List (List ℕ)) (interp : Interp) (state : blueprints.State) → IsRenewedBy names (Some interp) state looks.Same → mark_of interp ≡ false → IsOf names state interp
 same_is_of laws names interp state r free =
     (r.are_new, r.follows.3 ∙ ap (λ (s : blueprints.State). edition_of s) (laws.unchanged r.follows.0 state r.follows.1 r.allows r.follows.2 (own_epoch names interp state looks.Same r free)), free)
 
@@ -73,14 +74,13 @@ since_fits laws names interp state epoch defs r free =
     own_table names interp r.are_new ∙ (ap (λ (e : Edition). Commands names e.defs) r.follows.3 ∙ same_commands laws.order laws.there names state.natives (definitions old) r.natives) in
     ap (λ (t : Table). first_misfit t defs) table ∙ laws.applies old state r.follows.1 r.allows r.follows.2 epoch defs (own_epoch names interp state (looks.Since epoch defs) r free)
 
-pub may_add : (laws : Laws) (names : List (List ℕ)) (old : Option Interp) (state : blueprints.State) (epoch : ℕ) (defs : List Def) → IsRenewedBy names old state (looks.Since epoch defs) → MayAdd old defs
+may_add : (laws : Laws) (names : List (List ℕ)) (old : Option Interp) (state : blueprints.State) (epoch : ℕ) (defs : List Def) → IsRenewedBy names old state (looks.Since epoch defs) → MayAdd old defs
 may_add laws names None state epoch defs r = tt
 may_add laws names (Some interp) state epoch defs r = ((names, r.are_new), since_fits laws names interp state epoch defs r (since_free names interp state epoch defs (mark_of interp) refl r))
 
-pub added_is_of : (laws : Laws) (names : List (List ℕ)) (old : Option Interp) (state : blueprints.State) (epoch : ℕ) (defs : List Def) (new : Option Interp) → IsRenewedBy names old state (looks.Since epoch defs) → Adds old epoch defs new → HasOneOf names state new
+added_is_of : (laws : Laws) (names : List (List ℕ)) (old : Option Interp) (state : blueprints.State) (epoch : ℕ) (defs : List Def) (new : Interp) → IsRenewedBy names old state (looks.Since epoch defs) → Adds old epoch defs new → IsOf names state new
 added_is_of laws names None state epoch defs new r a = absurd a
-added_is_of laws names (Some interp) state epoch defs None r a = absurd a
-added_is_of laws names (Some interp) state epoch defs (Some new) r a =
+added_is_of laws names (Some interp) state epoch defs new r a =
     let free = since_free names interp state epoch defs (mark_of interp) refl r in
     let told = laws.added r.follows.0 state r.follows.1 r.allows r.follows.2 epoch defs (own_epoch names interp state (looks.Since epoch defs) r free) in (
       a.0 names r.are_new,
@@ -94,17 +94,10 @@ renewal_since names interp state epoch defs r free =
     let t : Answers state (edition_in interp).epoch (looks.Since epoch defs) = subst (λ (b : Bool). Answers state (epoch_unmarked standing b) (looks.Since epoch defs)) free r.tells in
     ap (λ (b : Bool). renewal_of names state standing b) free ∙ ap (λ (l : Look). renewal_by names state l) (sym t)
 
--- what it costs, whatever came of it
-pub added_costs : (names : List (List ℕ)) (old : Option Interp) (state : blueprints.State) (epoch : ℕ) (defs : List Def) (count before after : ℕ) → IsRenewedBy names old state (looks.Since epoch defs) → after ≤ before + count * Writes defs → after ≤ before + count * renewal names (standing_in old) state
-added_costs names None state epoch defs count before after r le = absurd (since_none names state epoch defs r)
-added_costs names (Some interp) state epoch defs count before after r le =
-    subst (λ (n : ℕ). after ≤ before + count * n) (sym (renewal_since names interp state epoch defs r (since_free names interp state epoch defs (mark_of interp) refl r))) le
-
-pub ok_costs : {A E : Type 0} (result : Result A E) (names : List (List ℕ)) (old : Option Interp) (state : blueprints.State) (epoch : ℕ) (defs : List Def) (before after : ℕ) → IsRenewedBy names old state (looks.Since epoch defs)
-    → OnOk result (after ≡ before + Writes defs) → OnOk result (after ≤ before + renewal names (standing_in old) state)
-ok_costs (Ok x) names old state epoch defs before after r is =
-    let w = Writes defs in let n = renewal names (standing_in old) state in let h = added_costs names old state epoch defs 1 before after r (omega (arith, is)) in omega (arith, h)
-ok_costs (Err e) names old state epoch defs before after r is = tt
+-- what it costs
+added_costs : (names : List (List ℕ)) (old : Option Interp) (state : blueprints.State) (epoch : ℕ) (defs : List Def) → IsRenewedBy names old state (looks.Since epoch defs) → Writes defs ≡ renewal names (standing_in old) state
+added_costs names None state epoch defs r = absurd (since_none names state epoch defs r)
+added_costs names (Some interp) state epoch defs r = sym (renewal_since names interp state epoch defs r (since_free names interp state epoch defs (mark_of interp) refl r))
 
 -- ---- built anew
 
@@ -123,13 +116,13 @@ build_counts laws names state defs allows natives is =
     let fits : first_misfit (built names) defs ≡ None = ap (λ (t : Table). first_misfit t defs) (same_built laws.order laws.there names state.natives natives) ∙ (ap (λ (ds : List Def). first_misfit (built state.natives) ds) is ∙ allows.applies) in
     ap (λ (n : ℕ). length built_ins + length names + n) (laws.writes (built names) defs fits ∙ ap Writes is)
 
-pub built_is_of : (names : List (List ℕ)) (old : Option Interp) (state : blueprints.State) (epoch : ℕ) (defs : List Def) (new : Interp) → IsRenewedBy names old state (looks.Whole epoch defs)
+built_is_of : (names : List (List ℕ)) (old : Option Interp) (state : blueprints.State) (epoch : ℕ) (defs : List Def) (new : Interp) → IsRenewedBy names old state (looks.Whole epoch defs)
     → IsNew names new → edition_in new ≡ record { epoch = epoch; defs = defs } → mark_of new ≡ false → IsOf names state new
 built_is_of names old state epoch defs new r is at free =
     let told = whole_told state (known_epoch (standing_in old)) epoch defs r.tells in
     (is, at ∙ (λ i. record { epoch = told.0 i; defs = told.1 i }), free)
 
-pub built_costs : (laws : Laws) (names : List (List ℕ)) (old : Option Interp) (state : blueprints.State) (epoch : ℕ) (defs : List Def) → IsRenewedBy names old state (looks.Whole epoch defs) → build_steps names defs ≡ renewal names (standing_in old) state
+built_costs : (laws : Laws) (names : List (List ℕ)) (old : Option Interp) (state : blueprints.State) (epoch : ℕ) (defs : List Def) → IsRenewedBy names old state (looks.Whole epoch defs) → build_steps names defs ≡ renewal names (standing_in old) state
 built_costs laws names old state epoch defs r =
     let told = whole_told state (known_epoch (standing_in old)) epoch defs r.tells in
     build_counts laws names state defs r.allows r.natives told.1 ∙ sym (renewal_built names old state epoch defs r)
@@ -144,40 +137,42 @@ pub err_any : {A E P : Type 0} (result : Result A E) → P → OnErr result P
 err_any (Ok x) p = tt
 err_any (Err e) p = p
 
-pub same_ok : {A E : Type 0} (result : Result A E) (laws : Laws) (names : List (List ℕ)) (old : Option Interp) (state : blueprints.State) → IsRenewedBy names old state looks.Same
-    → OnOk result (mark_in old ≡ Some false) → OnOk result (HasOneOf names state old)
-same_ok (Ok x) laws names None state r free = absurd (cc)
-same_ok (Ok x) laws names (Some interp) state r free = let is : mark_of interp ≡ false = cc in same_is_of laws names interp state r is
-same_ok (Err e) laws names old state r free = tt
+-- what was made by what a look told is of the state that it found
+renewed_is_of : (laws : Laws) (names : List (List ℕ)) (old : Option Interp) (state : blueprints.State) (look : Look) (new : Interp) → IsRenewedBy names old state look → Renews names old look new → IsOf names state new
+renewed_is_of laws names old state looks.Same new r h = same_is_of laws names new state (subst (λ (o : Option Interp). IsRenewedBy names o state looks.Same) h.0 r) h.1
+renewed_is_of laws names old state (looks.Since epoch defs) new r h = added_is_of laws names old state epoch defs new r h
+renewed_is_of laws names old state (looks.Whole epoch defs) new r h = built_is_of names old state epoch defs new r h.0 h.1 h.2
+renewed_is_of laws names old state looks.NoMemory new r h = absurd h
 
-pub adds_ok : {A E : Type 0} (result : Result A E) (old : Option Interp) (interp new : Interp) (epoch : ℕ) (defs : List Def) → old ≡ Some interp
-    → OnOk result ((names : List (List ℕ)) → IsNew names interp → IsNew names new) → OnOk result (edition_in new ≡ added (edition_in interp) epoch defs) → mark_of new ≡ mark_of interp
-    → OnOk result (Adds old epoch defs (Some new))
-adds_ok (Ok x) old interp new epoch defs is fresh at mark = subst (λ (o : Option Interp). Adds o epoch defs (Some new)) (sym is) (fresh, at, mark)
-adds_ok (Err e) old interp new epoch defs is fresh at mark = tt
+pub renewed_ok : {E : Type 0} (result : Result Interp E) (laws : Laws) (names : List (List ℕ)) (kept old : Option Interp) (state : blueprints.State) (look : Look) → kept ≡ old → IsRenewedBy names old state look
+    → IfOk result (λ made. Renews names kept look made) → IfOk result (λ made. IsOf names state made)
+renewed_ok (Ok made) laws names kept old state look is r h = renewed_is_of laws names old state look made r (subst (λ (o : Option Interp). Renews names o look made) is h)
+renewed_ok (Err e) laws names kept old state look is r h = tt
 
-pub added_ok : {A E : Type 0} (result : Result A E) (laws : Laws) (names : List (List ℕ)) (old new : Option Interp) (state : blueprints.State) (epoch : ℕ) (defs : List Def) → IsRenewedBy names old state (looks.Since epoch defs)
-    → OnOk result (Adds old epoch defs new) → OnOk result (HasOneOf names state new)
-added_ok (Ok x) laws names old new state epoch defs r h = added_is_of laws names old state epoch defs new r h
-added_ok (Err e) laws names old new state epoch defs r h = tt
+-- it may be put to the interpreter that there is
+pub may_renew : (laws : Laws) (names : List (List ℕ)) (kept old : Option Interp) (state : blueprints.State) (look : Look) → kept ≡ old → IsRenewedBy names old state look → MayRenew kept look
+may_renew laws names kept old state looks.Same is r = tt
+may_renew laws names kept old state (looks.Since epoch defs) is r = subst (λ (o : Option Interp). MayAdd o defs) (sym is) (may_add laws names old state epoch defs r)
+may_renew laws names kept old state (looks.Whole epoch defs) is r = tt
+may_renew laws names kept old state looks.NoMemory is r = tt
 
-pub built_ok : {A E : Type 0} (result : Result A E) (names : List (List ℕ)) (old new : Option Interp) (state : blueprints.State) (epoch : ℕ) (defs : List Def) → IsRenewedBy names old state (looks.Whole epoch defs)
-    → OnOk result (Builds names epoch defs new) → OnOk result (HasOneOf names state new)
-built_ok (Ok x) names old None state epoch defs r h = absurd h
-built_ok (Ok x) names old (Some new) state epoch defs r h = built_is_of names old state epoch defs new r h.0 h.1 h.2
-built_ok (Err e) names old new state epoch defs r h = tt
+-- what it costs
+renewal_is : (laws : Laws) (names : List (List ℕ)) (old : Option Interp) (state : blueprints.State) (look : Look) → IsRenewedBy names old state look → renewal_steps names look ≤ renewal names (standing_in old) state
+renewal_is laws names old state looks.Same r = omega arith
+renewal_is laws names old state (looks.Since epoch defs) r = let is = added_costs names old state epoch defs r in omega (arith, is)
+renewal_is laws names old state (looks.Whole epoch defs) r = let is = built_costs laws names old state epoch defs r in omega (arith, is)
+renewal_is laws names old state looks.NoMemory r = omega arith
 
--- the one that there is
-pub one_of : (names : List (List ℕ)) (state : blueprints.State) (kept : Option Interp) (interp : Interp) → kept ≡ Some interp → HasOneOf names state kept → IsOf names state interp
-one_of names state kept interp is has = subst (λ (o : Option Interp). HasOneOf names state o) is has
+pub renewed_most : (laws : Laws) (names : List (List ℕ)) (old : Option Interp) (state : blueprints.State) (look : Look) (before after : ℕ) → IsRenewedBy names old state look
+    → after ≤ before + 2 * renewal_steps names look → after ≤ before + 2 * renewal names (standing_in old) state
+renewed_most laws names old state look before after r le =
+    let n = renewal_steps names look in let m = renewal names (standing_in old) state in let h : n ≤ m = renewal_is laws names old state look r in omega (arith, le, h)
 
-pub built_most : (laws : Laws) (names : List (List ℕ)) (old : Option Interp) (state : blueprints.State) (epoch : ℕ) (defs : List Def) (before after : ℕ) → IsRenewedBy names old state (looks.Whole epoch defs)
-    → after ≤ before + build_steps names defs → after ≤ before + renewal names (standing_in old) state
-built_most laws names old state epoch defs before after r le = subst (λ (n : ℕ). after ≤ before + n) (built_costs laws names old state epoch defs r) le
-
-pub built_twice : (laws : Laws) (names : List (List ℕ)) (old : Option Interp) (state : blueprints.State) (epoch : ℕ) (defs : List Def) (before after : ℕ) → IsRenewedBy names old state (looks.Whole epoch defs)
-    → after ≤ before + build_steps names defs → after ≤ before + 2 * renewal names (standing_in old) state
-built_twice laws names old state epoch defs before after r le = let n = renewal names (standing_in old) state in let h = built_most laws names old state epoch defs before after r le in omega (arith, h)
+pub renewed_costs : {A E : Type 0} (result : Result A E) (laws : Laws) (names : List (List ℕ)) (old : Option Interp) (state : blueprints.State) (look : Look) (before after : ℕ) → IsRenewedBy names old state look
+    → OnOk result (after ≡ before + renewal_steps names look) → OnOk result (after ≤ before + renewal names (standing_in old) state)
+renewed_costs (Ok x) laws names old state look before after r is =
+    let n = renewal_steps names look in let m = renewal names (standing_in old) state in let h : n ≤ m = renewal_is laws names old state look r in omega (arith, is, h)
+renewed_costs (Err e) laws names old state look before after r is = tt
 
 -- what is left of one that was let go
 pub left_none : (look : Look) (old : Option Interp) → look ≢ looks.NoMemory → IsLeft look old None

@@ -1,10 +1,7 @@
 -- Looks at the blueprint, and interpreters that are made to be of it.
-use Rattle.std.specs.Prelude.{◌≡◌, ◌⊎◌, ℕ, Bool, true, false, List, Option, None, Some}
+use Rattle.std.specs.Prelude.{◌≡◌, ◌⊎◌, ℕ, Bool, true, false, Option, None, Some}
 use Rattle.txt_core.specs.Names.{Names}
-use Rattle.cmd_table.specs.declared.definition.Def.{Def}
-use Rattle.server_host.specs.Hosts.{added}
 use Rattle.blueprint.specs.States as blueprints
-use Rattle.blueprint.specs.States.{first_misfit}
 use Rattle.blueprint.specs.Objects.{Reaches}
 use Rattle.blueprint.specs.Looking.{Looks as Answers}
 use Rattle.blueprint.specs.declared.reply.BlueCall.TheVariants as blue_call
@@ -13,6 +10,7 @@ use Rattle.blueprint.specs.declared.reply.BlueReply.TheVariants as blue_reply
 use Rattle.blueprint.specs.declared.reply.Look.{Look}
 use Rattle.blueprint.specs.declared.reply.Look.TheVariants as looks
 use Rattle.ictl.specs.Interps.{IsNew}
+use Rattle.ictl.specs.Renewing.{IsUnmarked}
 use Rattle.ictl.specs.declared.interp.Interp.{Interp}
 use Rattle.shared_state.specs.Cells.{HaveSameNames}
 use Rattle.shared_state.specs.Views.{BlueEntry}
@@ -85,37 +83,7 @@ pub record IsRenewedBy (names : Names) (interp : Option Interp) (state : bluepri
 -- an interpreter as newly made from a state of the blueprint, with no mark
 abbrev pub IsOf : Names → blueprints.State → Interp → Type 0
 IsOf names state interp =
-    IsNew names interp × (edition_in interp ≡ edition_of state) × (interp.settling.run.engine.host.marked ≡ false)
-
--- there is one, which is so
-abbrev pub HasOneOf : Names → blueprints.State → Option Interp → Type 0
-HasOneOf names state None = ⊥
-HasOneOf names state (Some interp) = IsOf names state interp
-
--- whether the last run marked the one that there is
-abbrev pub mark_in : Option Interp → Option Bool
-mark_in None = None
-mark_in (Some interp) = Some interp.settling.run.engine.host.marked
-
--- an interpreter, where there is one, may take these definitions: it is as newly made, and they apply in order behind its own
-abbrev pub MayAdd : Option Interp → List Def → Type 0
-MayAdd None defs = Unit {0}
-MayAdd (Some interp) defs = ((names : Names) × IsNew names interp) × (first_misfit interp.settling.run.engine.table.table defs ≡ None)
-
--- there is one: the old one with these definitions behind its own, at this epoch, with the mark that it had
-abbrev pub Adds : Option Interp → ℕ → List Def → Option Interp → Type 0
-Adds None epoch defs new = ⊥
-Adds (Some interp) epoch defs None = ⊥
-Adds (Some interp) epoch defs (Some new) =
-    ((names : Names) → IsNew names interp → IsNew names new)
-    × (edition_in new ≡ added (edition_in interp) epoch defs)
-    × (new.settling.run.engine.host.marked ≡ interp.settling.run.engine.host.marked)
-
--- there is one, as newly made from these definitions at this epoch, with no mark
-abbrev pub Builds : Names → ℕ → List Def → Option Interp → Type 0
-Builds names epoch defs None = ⊥
-Builds names epoch defs (Some new) =
-    IsNew names new × (edition_in new ≡ record { epoch = epoch; defs = defs }) × (new.settling.run.engine.host.marked ≡ false)
+    IsNew names interp × (edition_in interp ≡ edition_of state) × IsUnmarked interp
 
 -- what is left of an interpreter whose renewal was refused: all of it where the look was refused, and else all of it or nothing
 abbrev pub IsLeft : Look → Option Interp → Option Interp → Type 0

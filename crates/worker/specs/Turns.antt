@@ -34,7 +34,7 @@ use Rattle.shared_state.specs.Views.{BlueEntry, BlueView, ScheduleEntry, Schedul
 use Rattle.shared_state.specs.Lines.{BucketEntry}
 use Rattle.serving.specs.declared.publishing.Asked.{Asked}
 use Rattle.serving.specs.declared.publishing.Asked.TheVariants.{Puts, Refused}
-use Rattle.serving.specs.Calls.{path_asked, page_answer, nsv_answer, sched_call, sched_answer, publish_call, save_call, published_answer}
+use Rattle.serving.specs.Calls.{path_asked, inner_answer, page_answer, nsv_answer, sched_call, sched_answer, publish_call, save_call, published_answer}
 use Rattle.server_host.specs.Hosts.{HostState}
 use Rattle.tcl_eval.specs.State.{State}
 use Rattle.ictl.specs.Main.{Progress, asks}
@@ -100,7 +100,7 @@ at_once service.Page words = Some (answers.Failed [])
 at_once service.Nsv words = Some (answers.Failed [])
 at_once service.Schedule words = Some (answers.Failed [])
 at_once service.Save words = Some (answers.Failed [])
-at_once service.Inner words = Some (answers.Failed [])
+at_once service.Inner words = Some inner_answer
 
 -- The answer that a turn gives to the question; none where its object met want of memory.
 abbrev pub answer_of : Question → Turn → Option Answer

@@ -12,8 +12,8 @@ use crate::heard::{Heard, copy_answer};
 use blueprint::{BlueCall, BlueReply, Published};
 use outside::{Answer, Pages, Question, Service};
 use serving::{
-    Asked, nsv_answer, page_answer, publish_call, published_answer, save_call, sched_answer,
-    sched_call,
+    Asked, inner_answer, nsv_answer, page_answer, publish_call, published_answer, save_call,
+    sched_answer, sched_call,
 };
 use shared_state::{Passes, Shared};
 use std::alloc::Global;
@@ -147,7 +147,7 @@ fn ask<R: Wait, P: Pages>(
         Service::Schedule => schedule(rt, alloc, shared, passes, moment, &words),
         Service::Publish => publish(rt, alloc, shared, passes, &words, published),
         Service::Save => save(rt, alloc, shared, passes, &words),
-        Service::Inner => Ok(Answer::Failed(Text::empty(alloc))),
+        Service::Inner => Ok(inner_answer(alloc)),
     }
 }
 

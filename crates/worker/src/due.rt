@@ -10,9 +10,9 @@ ghost use Rattle.worker.specs.Working.{run_outcome, RunsList};
 ghost use Rattle.ictl.specs.Interps.{IsNew};
 ghost use Rattle.worker.specs.Beginning.{BeginsScript};
 
-use crate::heard::{AnswerList, Heard};
+use crate::heard::AnswerList;
 use crate::look::{Looked, look, renew};
-use crate::run::{answer_all, end_run};
+use crate::run::run_to_end;
 use crate::scripts::{DueRun, Ran, RanList};
 use crate::worker::Worker;
 use cmd_table::Steps;
@@ -79,7 +79,7 @@ fn run_script<R: Wait, P: Pages, C: Clock, L: Ledger>(
 {
     let moment = moment_of(clock.moment());
     let Looked { turn, epoch, look } = look(rt, shared, passes, worker);
-    let Ok(()) = renew(alloc, natives, worker, look, steps) else {
+    let Ok(interp) = renew(alloc, natives, worker, look, steps) else {
         return Ran {
             id: due.id,
             turn,
@@ -89,16 +89,10 @@ fn run_script<R: Wait, P: Pages, C: Clock, L: Ledger>(
             outcome: Outcome::NoMemory,
         };
     };
-    let Some(interp) = worker.interp.take() else {
-        unreachable!()
-    };
-    let mut heard = Heard::new(alloc);
-    let mut run = begin(interp, natives, &due.script, moment, steps);
-    answer_all(
-        rt, alloc, natives, shared, passes, pages, &mut run, moment, &mut heard, steps,
+    let run = begin(interp, natives, &due.script, moment, steps);
+    let (last, heard) = run_to_end(
+        rt, alloc, natives, shared, worker, passes, pages, run, moment, steps,
     );
-    let (last, interp) = end_run(run, steps);
-    worker.interp = Some(interp);
     Ran {
         id: due.id,
         turn,

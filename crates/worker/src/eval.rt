@@ -12,7 +12,7 @@ ghost use Rattle.worker.specs.Beginning.{BeginsDefine};
 
 use crate::heard::{AnswerList, Heard};
 use crate::look::{Looked, look, renew};
-use crate::run::{answer_all, end_run};
+use crate::run::run_to_end;
 use crate::scripts::{EvalEnd, Evaled};
 use crate::worker::Worker;
 use cmd_table::Steps;
@@ -88,7 +88,7 @@ pub fn do_eval<R: Wait, P: Pages, L: Ledger>(
     ensures held { P.held pages.new ≡ P.held pages.old }
 {
     let Looked { turn, epoch, look } = look(rt, shared, passes, worker);
-    let Ok(()) = renew(alloc, natives, worker, look, steps) else {
+    let Ok(interp) = renew(alloc, natives, worker, look, steps) else {
         return Evaled {
             turn,
             epoch,
@@ -96,16 +96,10 @@ pub fn do_eval<R: Wait, P: Pages, L: Ledger>(
             outcome: EvalEnd::NoMemory,
         };
     };
-    let Some(interp) = worker.interp.take() else {
-        unreachable!()
-    };
-    let mut heard = Heard::new(alloc);
-    let mut run = begin(interp, natives, script, moment, steps);
-    answer_all(
-        rt, alloc, natives, shared, passes, pages, &mut run, moment, &mut heard, steps,
+    let run = begin(interp, natives, script, moment, steps);
+    let (last, heard) = run_to_end(
+        rt, alloc, natives, shared, worker, passes, pages, run, moment, steps,
     );
-    let (last, interp) = end_run(run, steps);
-    worker.interp = Some(interp);
     let Heard { answers, published } = heard;
     Evaled {
         turn,

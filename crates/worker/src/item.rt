@@ -195,11 +195,8 @@ fn run_item<R: Wait, K: Sink, P: Pages, C: Clock, L: Ledger>(
 {
     let Looked { turn, epoch, look } = look(rt, shared, passes, worker);
     let moment = moment_of(clock.moment());
-    let Ok(()) = renew(alloc, natives, worker, look, steps) else {
+    let Ok(interp) = renew(alloc, natives, worker, look, steps) else {
         return Err(Unbegun { moment });
-    };
-    let Some(interp) = worker.interp.take() else {
-        unreachable!()
     };
     let mut heard = Heard::new(alloc);
     let mut run = begin(interp, natives, request, moment, steps);

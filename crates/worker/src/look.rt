@@ -1,25 +1,22 @@
-//! Looks at the blueprint, and interpreters that are made to be of it where they stand.
+//! Looks at the blueprint, and interpreters that are made to be of it.
 
-ghost use Rattle.std.specs.Prelude.{◌≡◌, ◌≢◌, ◌≤◌, ◌+◌, ◌*◌, Some, false, OnErr, OnOk};
-ghost use Rattle.cmd_table.specs.Commands.{Writes};
+ghost use Rattle.std.specs.Prelude.{◌≡◌, ◌≢◌, ◌≤◌, ◌+◌, ◌*◌, OnErr, OnOk, IfOk};
 ghost use Rattle.natives.specs.Names.{names_of};
 ghost use Rattle.blueprint.specs.States.{State};
-ghost use Rattle.ictl.specs.Fresh.{build_steps};
 ghost use Rattle.shared_state.specs.Cells.{AreOf};
-ghost use Rattle.worker.specs.Clean.{standing_in, standing_of};
+ghost use Rattle.worker.specs.Clean.{standing_of};
 ghost use Rattle.worker.specs.Cost.{renewal};
-ghost use Rattle.worker.specs.Renewing.{TellsLook, IsRenewedBy, MayAdd, Adds, Builds, HasOneOf, IsLeft, known_epoch, look_in, place_told, epoch_told, mark_in};
+ghost use Rattle.worker.specs.Renewing.{TellsLook, IsRenewedBy, IsOf, IsLeft, known_epoch, look_in, place_told, epoch_told};
 
 use crate::worker::Worker;
 use blueprint::{
     BlueCall, BlueReply, Look, equal_epochs_are_one_state, since_applies, since_is_added,
 };
-use cmd_table::{Defs, Steps, tables_are_maps};
+use cmd_table::{Steps, tables_are_maps};
 use ictl::{BoxedInterp, fresh_globals};
 use natives::Natives;
 use shared_state::{Passes, Shared};
 use std::alloc::Global;
-use std::mem;
 use std::sync::Wait;
 use std::sync::ledger::Ledger;
 use turn_cell::Turned;
@@ -101,102 +98,19 @@ pub(crate) fn look<R: Wait>(rt: &R, shared: &Shared, passes: &mut Passes, worker
     }
 }
 
-/// Whether the interpreter can be used as it is: there is one, and the last run didn't mark it. Where there
-/// is nothing to use, that counts as want of memory.
-fn unmarked(kept: &Option<BoxedInterp>) -> Result<(), NoMemory>
-    ensures { OnOk result (mark_in kept.now ≡ Some false) }
-{
-    match kept {
-        Some(interp) if !interp.marked() => Ok(()),
-        _ => Err(NoMemory),
-    }
-}
-
-/// Gives the interpreter what was added to its blueprint, which has this epoch then. Where there is none,
-/// that counts as want of memory.
-fn updated<L: Ledger>(
-    kept: &mut Option<BoxedInterp>,
-    epoch: u64,
-    defs: &Defs,
-    steps: &mut Steps<L>,
-) -> Result<(), NoMemory>
-    requires { MayAdd kept.old defs.now }
-    ensures of { OnOk result (Adds kept.old epoch defs.now kept.new) }
-    ensures steps { OnOk result (steps.new ≡ steps.old + Writes defs.now) }
-    ensures most { steps.new ≤ steps.old + 2 * Writes defs.now }
-{
-    let Some(interp) = kept else {
-        return Err(NoMemory);
-    };
-    interp.update(epoch, defs, steps)
-}
-
-/// Builds an interpreter on these definitions at this epoch, and lets go of one that there was. Its only
-/// error is want of memory, and what there was stays then.
-fn built<L: Ledger>(
-    alloc: Global,
-    natives: &Natives,
-    kept: &mut Option<BoxedInterp>,
-    epoch: u64,
-    defs: &Defs,
-    steps: &mut Steps<L>,
-) -> Result<(), NoMemory>
-    ensures of { OnOk result (Builds (names_of natives.now) epoch defs.now kept.new) }
-    ensures most { steps.new ≤ steps.old + build_steps (names_of natives.now) defs.now }
-{
-    let interp = BoxedInterp::build(alloc, natives, epoch, defs, steps)?;
-    drop(mem::replace(kept, Some(interp)));
-    Ok(())
-}
-
-/// Makes the interpreter one of the blueprint that a look found, where it stands: it stays as it is, or is
-/// updated where definitions were added; or one is built anew in its place, as where it is marked. The
-/// only error is want of memory, or that nothing is told of the last epoch that there is; what is left is
-/// to be let go then.
-fn renewed<L: Ledger>(
-    alloc: Global,
-    natives: &Natives,
-    kept: &mut Option<BoxedInterp>,
-    look: Look,
-    steps: &mut Steps<L>,
-) -> Result<(), NoMemory>
-    requires { (state : State) × IsRenewedBy (names_of natives.now) kept.old state look }
-    ensures of { (state : State) → IsRenewedBy (names_of natives.now) kept.old state look
-        → OnOk result (HasOneOf (names_of natives.now) state kept.new) }
-    ensures steps { (state : State) → IsRenewedBy (names_of natives.now) kept.old state look
-        → OnOk result
-        (steps.new ≤ steps.old + renewal (names_of natives.now) (standing_in kept.old) state) }
-    ensures most { (state : State) → IsRenewedBy (names_of natives.now) kept.old state look
-        → steps.new ≤ steps.old + 2 * renewal (names_of natives.now) (standing_in kept.old) state }
-    ensures told { OnOk result (look ≢ Look.NoMemory) }
-{
-    // What is known of tables of commands and of blueprints.
-    tables_are_maps();
-    fresh_globals();
-    equal_epochs_are_one_state();
-    since_is_added();
-    since_applies();
-    match look {
-        Look::Same => unmarked(kept),
-        Look::Since { epoch, defs } => updated(kept, epoch, &defs, steps),
-        Look::Whole { epoch, defs } => built(alloc, natives, kept, epoch, &defs, steps),
-        // Nothing is told of which an interpreter could be made.
-        Look::NoMemory => Err(NoMemory),
-    }
-}
-
-/// Renews the worker's interpreter by what a look found; the worker has one then. Its error is that of a
-/// renewal; the worker has no interpreter then, or the one that it had, where the look was refused.
+/// Takes the worker's interpreter, and gives one of the blueprint that a look found, made of it by
+/// `BoxedInterp::renew`. Its error is that of a renewal; the worker has no interpreter then, or the one that
+/// it had, where the look was refused. Nothing is told of the last epoch that there is.
 pub(crate) fn renew<L: Ledger>(
     alloc: Global,
     natives: &Natives,
     worker: &mut Worker,
     look: Look,
     steps: &mut Steps<L>,
-) -> Result<(), NoMemory>
+) -> Result<BoxedInterp, NoMemory>
     requires { (state : State) × IsRenewedBy (names_of natives.now) worker.old.interp state look }
     ensures of { (state : State) → IsRenewedBy (names_of natives.now) worker.old.interp state look
-        → OnOk result (HasOneOf (names_of natives.now) state worker.new.interp) }
+        → IfOk result (λ interp. IsOf (names_of natives.now) state interp) }
     ensures steps { (state : State)
         → IsRenewedBy (names_of natives.now) worker.old.interp state look
         → OnOk result
@@ -210,14 +124,14 @@ pub(crate) fn renew<L: Ledger>(
     ensures refused { OnErr result (look ≡ Look.NoMemory → steps.new ≡ steps.old) }
     ensures told { OnOk result (look ≢ Look.NoMemory) }
 {
+    // What is known of tables of commands and of blueprints.
+    tables_are_maps();
+    fresh_globals();
+    equal_epochs_are_one_state();
+    since_is_added();
+    since_applies();
     match look {
         Look::NoMemory => Err(NoMemory),
-        look => match renewed(alloc, natives, &mut worker.interp, look, steps) {
-            Ok(()) => Ok(()),
-            Err(NoMemory) => {
-                drop(worker.interp.take());
-                Err(NoMemory)
-            }
-        },
+        look => BoxedInterp::renew(alloc, natives, worker.interp.take(), look, steps),
     }
 }

@@ -10,11 +10,12 @@ ghost use Rattle.ictl.specs.Interps.{gives, taken, interp_written, Counts, IsSam
 ghost use Rattle.ictl.specs.Came.{IsAtQuestion};
 ghost use Rattle.worker.specs.Asking.{Hears, StandsFor, StaysWithin};
 ghost use Rattle.worker.specs.Clean.{edition_in};
-ghost use Rattle.worker.specs.Resetting.{Resets};
+ghost use Rattle.worker.specs.Resetting.{Resets, RunsToEnd};
 ghost use Rattle.worker.specs.Resuming.{Resumes};
 
 use crate::ask::answer;
 use crate::heard::Heard;
+use crate::worker::Worker;
 use cmd_table::Steps;
 use ictl::{BoxedInterp, Next, Run, questions_are_asked};
 use natives::Natives;
@@ -94,4 +95,35 @@ pub(crate) fn end_run<L: Ledger>(run: Run, steps: &mut Steps<L>) -> (Next, Boxed
     let (last, mut interp) = run.into_parts();
     interp.reset(steps);
     (last, interp)
+}
+
+/// Answers each question of a run to its end, and gives the worker the interpreter, which is as newly made.
+/// Gives what the run answered last, and what it was answered.
+pub(crate) fn run_to_end<R: Wait, P: Pages, L: Ledger>(
+    rt: &R,
+    alloc: Global,
+    natives: &Natives,
+    shared: &Shared,
+    worker: &mut Worker,
+    passes: &mut Passes,
+    pages: &mut P,
+    mut run: Run,
+    moment: u64,
+    steps: &mut Steps<L>,
+) -> (Next, Heard)
+    requires { AreOf shared.now passes.old }
+    ensures cells { AreOf shared.now passes.new }
+    ensures number { worker.new.number ≡ worker.old.number }
+    ensures ends { RunsToEnd (names_of natives.now) moment (P.held pages.old) run passes.old
+        (P.faults pages.old) steps.old result.0 result.1.published result.1.answers
+        worker.new.interp passes.new (P.faults pages.new) steps.new }
+    ensures held { P.held pages.new ≡ P.held pages.old }
+{
+    let mut heard = Heard::new(alloc);
+    answer_all(
+        rt, alloc, natives, shared, passes, pages, &mut run, moment, &mut heard, steps,
+    );
+    let (last, interp) = end_run(run, steps);
+    worker.interp = Some(interp);
+    (last, heard)
 }

@@ -1,6 +1,7 @@
 -- Each text has one reading.
 use Rattle.std.proofs.Common.{◌≡◌, ℕ, zero, suc, ◌+◌, List, [], length, drop, Bool, true, false, refl, ap, sym, ◌∙◌, subst}
 use Rattle.txt_core.specs.Names.{Bytes}
+use Rattle.txt_core.specs.Limits.{most_nested}
 use Rattle.tcl_parse.specs.declared.fault.Kind.{Kind}
 use Rattle.tcl_parse.specs.Gaps.{skip, between, skip_blanks, at_end}
 use Rattle.tcl_parse.specs.Tree.{Part, Word, Command, Script}
@@ -158,4 +159,4 @@ mutual
 
 -- no text has two readings
 pub one_reading : (t : Bytes) (o p : Outcome Script) → Reads t o → Reads t p → o ≡ p
-one_reading t o p h k = one_script (InBracket 200) (InIndex 200) (one_in_bracket 200) (one_in_index 200) false h p k
+one_reading t o p h k = one_script (InBracket most_nested) (InIndex most_nested) (one_in_bracket most_nested) (one_in_index most_nested) false h p k

@@ -2,6 +2,7 @@
 use Rattle.std.proofs.Common.{◌≡◌, ℕ, zero, suc, ◌+◌, ◌≤◌, ◌<◌, List, [], ◌∷◌, length, drop, Bool, true, false, Option, Some, None, refl, sym, ◌∙◌, subst, ◌⊎◌, inl, inr, arith}
 use Rattle.std.specs.Prelude.{◌||◌, ◌==◌, if◌then◌else◌}
 use Rattle.txt_core.specs.Names.{Bytes}
+use Rattle.txt_core.specs.Limits.{most_nested}
 use Rattle.tcl_parse.specs.declared.fault.Kind.TheVariants as kinds
 use Rattle.tcl_parse.specs.declared.fault.Kind.TheVariants.{Deep}
 use Rattle.tcl_parse.specs.Bytes.{is_blank, ends_command, joins_lines}
@@ -297,4 +298,4 @@ none_enclosed room t none = none_by room t none (some_enclosed (InBracket room) 
 
 -- each text has a reading
 pub some_reading : (t : Bytes) → (o : Outcome Script) × Reads t o
-some_reading t = some_script (InBracket 200) (InIndex 200) (bracket_within 200) (index_within 200) (some_in_bracket 200) (some_in_index 200) false t
+some_reading t = some_script (InBracket most_nested) (InIndex most_nested) (bracket_within most_nested) (index_within most_nested) (some_in_bracket most_nested) (some_in_index most_nested) false t

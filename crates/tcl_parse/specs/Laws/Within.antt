@@ -4,6 +4,7 @@ use Rattle.std.specs.Prelude.{◌||◌, ◌==◌, if◌then◌else◌, nat_lt}
 use Rattle.std.specs.Option.{option_map}
 use Rattle.std.specs.List.{position_or_len, prefix_len}
 use Rattle.txt_core.specs.Names.{Bytes}
+use Rattle.txt_core.specs.Limits.{most_nested}
 use Rattle.txt_core.specs.EscapeWithin.{escape_within}
 use Rattle.tcl_parse.specs.Bytes.{is_name, is_blank, ends_command, joins_lines}
 use Rattle.tcl_parse.specs.Gaps.{skip, skip_blanks, between, joining, comment, escaped, Before, ends_word}
@@ -269,4 +270,4 @@ mutual
 
 pub reads_within : (t : Bytes) (o : Outcome Script) → Reads t o → Within o (length t)
 reads_within t o h =
-    within_more o (length (skip between t)) (length t) (skip_within between t) (script_within (InBracket 200) (InIndex 200) (bracket_within 200) (index_within 200) false h)
+    within_more o (length (skip between t)) (length t) (skip_within between t) (script_within (InBracket most_nested) (InIndex most_nested) (bracket_within most_nested) (index_within most_nested) false h)

@@ -1,11 +1,11 @@
-use Rattle.std.proofs.Common.{◌++◌, ◌∙◌, sym, refl, subst, Some, Err}
+use Rattle.std.proofs.Common.{◌++◌, ◌∙◌, sym, refl, subst, Err}
 use Rattle.tcl_frame.specs.Frames.{read_of, written}
 use Rattle.txt_core.specs.ErrorTexts.{too_long}
 use Rattle.tcl_varcmd.specs.Errors.{long_error, write_error}
 use Rattle.tcl_varcmd.specs.Answers.{Answers, gives, unless}
 use Rattle.tcl_varcmd.specs.Scalars.{stored}
 use Rattle.tcl_varcmd.specs.Growing.{put_behind}
-use Rattle.tcl_varcmd.proofs.Exits.{said, answers_said, answers_on}
+use Rattle.tcl_varcmd.proofs.Exits.{answers_said, answers_on}
 use Rattle.tcl_varcmd.proofs.Growing.{too_many, few_enough}
 use Rattle.tcl_varcmd.proofs.scalar.grow_apart.Goals as goal
 
@@ -16,9 +16,9 @@ returns-then-is_too_long_behind-clause-came c =
     let old = read_of stack name in
     let whole = old ++ c.args.more.now in
     answers_on (write_error stack name) stack stack (stored stack name whole) (Err c.too_long.result) c.in_ok-front.ensures.0
-    (answers_said (long_error whole) (Some too_long) stack stack (unless (write_error stack name) stack (gives whole (written stack name whole))) c.too_long.result
+    (answers_said (long_error whole) too_long stack stack (unless (write_error stack name) stack (gives whole (written stack name whole))) c.too_long.result
     (too_many c.in_ok-front.front old c.args.more.now c.in_ok-front.ensures.1 (sym c.is_too_long_behind.ensures ∙ c.if-is_too_long_behind.true))
-    (said too_long c.too_long.result c.too_long.ensures) refl)
+    c.too_long.ensures refl)
 
 pub returns-clause-came : goal.returns-clause-came
 returns-clause-came c =

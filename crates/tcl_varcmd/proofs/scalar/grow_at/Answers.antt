@@ -1,7 +1,6 @@
-use Rattle.std.proofs.Common.{◌++◌, ◌∙◌, sym, Some, Ok, ap}
+use Rattle.std.proofs.Common.{◌++◌, ◌∙◌, sym, Ok, ap}
 use Rattle.txt_core.specs.ErrorTexts.{too_long}
 use Rattle.tcl_varcmd.specs.Errors.{long_error}
-use Rattle.tcl_varcmd.proofs.Exits.{said}
 use Rattle.tcl_varcmd.proofs.Growing.{too_many, few_enough}
 use Rattle.tcl_varcmd.proofs.InPlace.{reply_said, reply_on}
 use Rattle.tcl_varcmd.proofs.scalar.grow_at.Goals as goal
@@ -10,9 +9,9 @@ pub returns-then-is_too_long_behind-clause-came : goal.returns-then-is_too_long_
 returns-then-is_too_long_behind-clause-came c =
     let old = c.args.place.now in
     let whole = old ++ c.args.more.now in
-    reply_said (long_error whole) (Some too_long) (Ok whole) c.too_long.result
+    reply_said (long_error whole) too_long (Ok whole) c.too_long.result
     (too_many c.len.result old c.args.more.now c.len.ensures (sym c.is_too_long_behind.ensures ∙ c.if-is_too_long_behind.true))
-    (said too_long c.too_long.result c.too_long.ensures)
+    c.too_long.ensures
 
 pub returns-clause-came : goal.returns-clause-came
 returns-clause-came c =

@@ -1,18 +1,18 @@
-use Rattle.std.proofs.Common.{◌∙◌, sym, refl, ap, Some, Ok, Err}
+use Rattle.std.proofs.Common.{◌∙◌, sym, refl, ap, Ok, Err}
 use Rattle.std.proofs.lemmas.Result.{err_from_is_err_and}
 use Rattle.tcl_frame.specs.Frames.{written}
 use Rattle.txt_core.specs.ErrorTexts.{too_long}
 use Rattle.tcl_varcmd.specs.Errors.{long_error, write_error}
 use Rattle.tcl_varcmd.specs.Answers.{gives, unless}
-use Rattle.tcl_varcmd.proofs.Exits.{said, answers_said, answers_on, answers_unchanged}
+use Rattle.tcl_varcmd.proofs.Exits.{answers_said, answers_on, answers_unchanged}
 use Rattle.tcl_varcmd.proofs.Counts.{is_too_long, is_short}
 use Rattle.tcl_varcmd.proofs.scalar.store.Goals as goal
 
 pub returns-then-is_too_long-clause-came : goal.returns-then-is_too_long-clause-came
 returns-then-is_too_long-clause-came c =
     let stack = c.args.frames.now in
-    answers_said (long_error c.args.value) (Some too_long) stack stack (unless (write_error stack c.args.name.now) stack (gives c.args.value (written stack c.args.name.now c.args.value))) c.too_long.result
-    (is_too_long c.args.value (sym c.is_too_long.ensures ∙ c.if-is_too_long.true)) (said too_long c.too_long.result c.too_long.ensures) refl
+    answers_said (long_error c.args.value) too_long stack stack (unless (write_error stack c.args.name.now) stack (gives c.args.value (written stack c.args.name.now c.args.value))) c.too_long.result
+    (is_too_long c.args.value (sym c.is_too_long.ensures ∙ c.if-is_too_long.true)) c.too_long.ensures refl
 
 pub returns-in_err-write-clause-came : goal.returns-in_err-write-clause-came
 returns-in_err-write-clause-came c =

@@ -1,4 +1,4 @@
-use Rattle.std.proofs.Common.{refl, rules}
+use Rattle.std.proofs.Common.{refl}
 use Rattle.std.specs.Prelude.{None}
 use Rattle.outside.specs.declared.question.Service.TheVariants as service
 use Rattle.worker.proofs.Answering.{asks_at, asks_arrays, asks_inner}
@@ -21,4 +21,4 @@ pub returns-in-Save-clause-asks : goal.returns-in-Save-clause-asks
 returns-in-Save-clause-asks g c = asks_at c.args.moment c.args.question service.Save c.args.passes.now c.save.new.passes _ _ _ c.save.result None c.in-Save.is (c.save.ensures.asks c.args.moment _ _)
 
 pub returns-in-Inner-clause-asks : goal.returns-in-Inner-clause-asks
-returns-in-Inner-clause-asks g c = asks_at c.args.moment c.args.question service.Inner c.args.passes.now c.args.passes.now _ _ _ _ None c.in-Inner.is (asks_inner c.args.moment c.args.question.words c.args.passes.now _ _ _ (search rules))
+returns-in-Inner-clause-asks g c = asks_at c.args.moment c.args.question service.Inner c.args.passes.now c.args.passes.now _ _ _ _ None c.in-Inner.is (asks_inner c.args.moment c.args.question.words c.args.passes.now _ _ _ c.inner_answer.ensures)

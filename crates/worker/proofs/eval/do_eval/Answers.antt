@@ -1,13 +1,15 @@
-use Rattle.std.proofs.Common.{◌≡◌, ◌∙◌, ◌+◌, ◌*◌, ◌≤◌, ◌∷◌, ◌++◌, ℕ, List, Option, [], refl, sym, ap, subst, arith}
+use Rattle.std.proofs.Common.{◌≡◌, ◌∙◌, ◌+◌, ◌*◌, ◌≤◌, ◌∷◌, ◌++◌, ℕ, List, Option, None, [], refl, sym, ap, subst, arith}
 use Rattle.cmd_table.specs.Commands.{Writes}
+use Rattle.turn_cell.specs.Cells.{pass_view}
 use Rattle.natives.specs.Names.{names_of}
 use Rattle.server_host.specs.declared.edition.Edition.{Edition}
 use Rattle.ictl.specs.Falls.{StandsAt}
 use Rattle.ictl.specs.Interps.{taken, interp_state, interp_written, IsWithin}
 use Rattle.ictl.specs.Main.{Define, Script}
+use Rattle.ictl.specs.declared.interp.Interp.{Interp}
 use Rattle.ictl.specs.declared.next.Next.{Next}
 use Rattle.worker.specs.Asking.{Hears}
-use Rattle.worker.specs.Clean.{edition_in}
+use Rattle.worker.specs.Clean.{edition_in, standing_in, IsCleanInterp}
 use Rattle.worker.specs.Cost.{renewal}
 use Rattle.worker.specs.Turns.{OnBlueprint}
 use Rattle.worker.specs.Runs.{edition_of}
@@ -15,7 +17,6 @@ use Rattle.worker.specs.Working.{eval_end}
 use Rattle.worker.proofs.Turning.{gains_more, keeps_names, keeps_units}
 use Rattle.worker.proofs.Hearing.{hears_of}
 use Rattle.worker.proofs.Looking.{renewable}
-use Rattle.worker.proofs.Renewals.{one_of}
 use Rattle.worker.proofs.OneItem.{ticked, ran_clean, unbegun_clean, standing_again}
 use Rattle.worker.proofs.Paying.{new_alone, new_made, own_within, ended_alone, paid_define, paid_once, paid_all}
 use Rattle.worker.proofs.Scripting.{evaluates_by, evaluates_none, runs_due_by, runs_none}
@@ -31,14 +32,7 @@ pub begin-run-requires : goal.begin-run-requires
 begin-run-requires g c =
     let t = c.look-turn.ensures.looks in
     let r = renewable (names_of c.args.natives.now) c.args.passes.now c.look-turn.new.passes c.args.worker.now c.look-turn.result.turn c.look-turn.result.look t c.requires.cells.1 c.requires.clean in
-    (one_of (names_of c.args.natives.now) t.entry.before c.renew.new.worker.interp _ (sym c.in-Some.ensures.value) (c.in-Ok.ensures.of t.entry.before r)).0
-
--- behind a renewal there is one
-pub unreachable-requires : goal.unreachable-requires
-unreachable-requires g c =
-    let t = c.look-turn.ensures.looks in
-    let r = renewable (names_of c.args.natives.now) c.args.passes.now c.look-turn.new.passes c.args.worker.now c.look-turn.result.turn c.look-turn.result.look t c.requires.cells.1 c.requires.clean in
-    rw (sym c.take.ensures.value ∙ c.in_default-take.is) at (c.in-Ok.ensures.of t.entry.before r)
+    (c.in-Ok.ensures.of t.entry.before r).0
 
 pub returns-clause-evaluates : goal.returns-clause-evaluates
 returns-clause-evaluates g c =
@@ -46,35 +40,36 @@ returns-clause-evaluates g c =
     let held = g.P.Pages.held c.args.pages.now in
     let t = c.look-turn.ensures.looks in
     let r = renewable names c.args.passes.now c.look-turn.new.passes c.args.worker.now c.look-turn.result.turn c.look-turn.result.look t c.requires.cells.1 c.requires.clean in
-    let of = one_of names t.entry.before c.renew.new.worker.interp _ (sym c.in-Some.ensures.value) (c.in-Ok.ensures.of t.entry.before r) in
-    let i0 = c.in-Some.interp in
+    let of = c.in-Ok.ensures.of t.entry.before r in
+    let i0 = c.in-Ok.interp in
+    let ran = c.run_to_end-last.ensures.ends in
     let i1 = c.begin-run.result.interp in
-    let i2 = c.answer_all.new.run.interp in
+    let i2 = ran.done.interp in
     let s0 = c.renew.new.steps in
     let s1 = c.begin-run.new.steps in
-    let s2 = c.answer_all.new.steps in
+    let s2 = ran.reached in
     let inside0 : ℕ = 0 in
     let inside = inside0 + taken names s2 s1 i2 i1 in
-    let sound = c.answer_all.ensures.sound names (c.begin-run.ensures.sound names of.0.0) in
-    let edition : edition_in i2 ≡ edition_of t.entry.before = c.answer_all.ensures.blueprint ∙ (c.begin-run.ensures.blueprint ∙ of.1) in
-    let h = hears_of names c.args.moment (λ further. Define names (edition_in i0) c.args.script.now c.args.moment further) c.begin-run.result.next inside0 i1 c.look-turn.new.passes held (g.P.Pages.faults c.args.pages.now) c.new-heard.result.published c.new-heard.result.answers
-    c.answer_all.new.run.next inside i2 c.answer_all.new.passes (g.P.Pages.faults c.answer_all.new.pages) c.answer_all.new.heard.published c.answer_all.new.heard.answers
-    c.begin-run.ensures.stands.stands c.end_run-last.ensures.stands (c.answer_all.ensures.hears inside0) in
-    evaluates_by names held c.args.script.now c.args.moment _ c.new-heard.result.answers _ _ _ c.look-turn.result.look c.look-turn.new.passes c.answer_all.new.run.next inside i2 c.end_run-last.result.1.settling.run.engine.host.marked c.new-heard.result.published c.answer_all.new.heard.published
+    let sound = ran.sound names (c.begin-run.ensures.sound names of.0.0) in
+    let edition : edition_in i2 ≡ edition_of t.entry.before = ran.blueprint ∙ (c.begin-run.ensures.blueprint ∙ of.1) in
+    let h = hears_of names c.args.moment (λ further. Define names (edition_in i0) c.args.script.now c.args.moment further) c.begin-run.result.next inside0 i1 c.look-turn.new.passes held (g.P.Pages.faults c.args.pages.now) None []
+    ran.done.next inside i2 c.run_to_end-last.new.passes (g.P.Pages.faults c.run_to_end-last.new.pages) c.run_to_end-last.result.1.published c.run_to_end-last.result.1.answers
+    c.begin-run.ensures.stands.stands ran.resets.stands (ran.hears inside0) in
+    evaluates_by names held c.args.script.now c.args.moment _ [] _ _ _ c.look-turn.result.look c.look-turn.new.passes ran.done.next inside i2 ran.kept.settling.run.engine.host.marked None c.run_to_end-last.result.1.published
     t c.in-Ok.ensures.told c.look-turn.ensures.epoch
-    (subst (λ (e : Edition). Hears names c.args.moment (λ further. Define names e c.args.script.now c.args.moment further) c.look-turn.new.passes held (g.P.Pages.faults c.args.pages.now) c.new-heard.result.published c.new-heard.result.answers
-    c.answer_all.new.run.next inside i2 c.answer_all.new.passes (g.P.Pages.faults c.answer_all.new.pages) c.answer_all.new.heard.published c.answer_all.new.heard.answers) of.1 h)
-    c.new-heard.ensures.answers c.new-heard.ensures.published c.end_run-last.ensures.stands ((rw c.end_run-last.ensures.next at c.end_of.ensures) ∙ ap (λ (n : ℕ). eval_end c.answer_all.new.run.next n) c.unwrap_or.ensures) c.end_run-last.ensures.marked
-    (standing_again c.end_run-last.result.1 (edition_in i2) (edition_of t.entry.before) c.end_run-last.result.1.settling.run.engine.host.marked c.end_run-last.ensures.blueprint edition refl)
-    (λ outcome end. paid_all _ s0 s2 c.end_run-last.new.steps _ (Writes (interp_state i2).made) _ (c.in-Ok.ensures.steps t.entry.before r)
-    (paid_define s0 s1 s2 _ _ (interp_written names i1) (interp_written names i2) _ (new_made names i0 of.0) c.begin-run.ensures.steps (own_within names i1) (ended_alone names outcome i2 (subst (λ (n : Next). StandsAt n i2) end c.end_run-last.ensures.stands)) c.answer_all.ensures.counts)
-    (c.end_run-last.ensures.steps names sound))
-    (λ none. paid_all _ s0 s2 c.end_run-last.new.steps _ (Writes (interp_state i2).made) _ (c.in-Ok.ensures.steps t.entry.before r)
-    (cost_within i2 _ s0 s2 (subst (λ (e : Edition). IsWithin 0 s0 s2 i2 (Define names e c.args.script.now c.args.moment c.answer_all.new.heard.answers)) of.1
-    (within_all names (λ further. Define names (edition_in i0) c.args.script.now c.args.moment further) c.new-heard.result.answers _ _ i2 c.answer_all.new.heard.answers 0 s0 s2
-    (c.answer_all.ensures.within (λ further. Define names (edition_in i0) c.args.script.now c.args.moment further) inside0 0 s0 c.begin-run.ensures.stands
-    (define_within s0 s1 _ _ (interp_written names i1) c.begin-run.ensures.steps (own_within names i1)) c.begin-run.ensures.most) c.new-heard.ensures.answers)))
-    (c.end_run-last.ensures.steps names sound))
+    (subst (λ (e : Edition). Hears names c.args.moment (λ further. Define names e c.args.script.now c.args.moment further) c.look-turn.new.passes held (g.P.Pages.faults c.args.pages.now) None []
+    ran.done.next inside i2 c.run_to_end-last.new.passes (g.P.Pages.faults c.run_to_end-last.new.pages) c.run_to_end-last.result.1.published c.run_to_end-last.result.1.answers) of.1 h)
+    refl refl ran.resets.stands ((rw ran.resets.next at c.end_of.ensures) ∙ ap (λ (n : ℕ). eval_end ran.done.next n) c.unwrap_or.ensures) ran.resets.marked
+    (ap standing_in ran.is_kept ∙ standing_again ran.kept (edition_in i2) (edition_of t.entry.before) ran.kept.settling.run.engine.host.marked ran.resets.blueprint edition refl)
+    (λ outcome end. paid_all _ s0 s2 c.run_to_end-last.new.steps _ (Writes (interp_state i2).made) _ (c.in-Ok.ensures.steps t.entry.before r)
+    (paid_define s0 s1 s2 _ _ (interp_written names i1) (interp_written names i2) _ (new_made names i0 of.0) c.begin-run.ensures.steps (own_within names i1) (ended_alone names outcome i2 (subst (λ (n : Next). StandsAt n i2) end ran.resets.stands)) ran.counts)
+    (ran.resets.steps names sound))
+    (λ none. paid_all _ s0 s2 c.run_to_end-last.new.steps _ (Writes (interp_state i2).made) _ (c.in-Ok.ensures.steps t.entry.before r)
+    (cost_within i2 _ s0 s2 (subst (λ (e : Edition). IsWithin 0 s0 s2 i2 (Define names e c.args.script.now c.args.moment c.run_to_end-last.result.1.answers)) of.1
+    (within_all names (λ further. Define names (edition_in i0) c.args.script.now c.args.moment further) [] _ _ i2 c.run_to_end-last.result.1.answers 0 s0 s2
+    (ran.within (λ further. Define names (edition_in i0) c.args.script.now c.args.moment further) inside0 0 s0 c.begin-run.ensures.stands
+    (define_within s0 s1 _ _ (interp_written names i1) c.begin-run.ensures.steps (own_within names i1)) c.begin-run.ensures.most) refl)))
+    (ran.resets.steps names sound))
 
 pub returns-in_default-clause-evaluates : goal.returns-in_default-clause-evaluates
 returns-in_default-clause-evaluates g c =
@@ -90,33 +85,35 @@ returns-clause-clean g c =
     let held = g.P.Pages.held c.args.pages.now in
     let t = c.look-turn.ensures.looks in
     let r = renewable names c.args.passes.now c.look-turn.new.passes c.args.worker.now c.look-turn.result.turn c.look-turn.result.look t c.requires.cells.1 c.requires.clean in
-    let of = one_of names t.entry.before c.renew.new.worker.interp _ (sym c.in-Some.ensures.value) (c.in-Ok.ensures.of t.entry.before r) in
-    let i0 = c.in-Some.interp in
+    let of = c.in-Ok.ensures.of t.entry.before r in
+    let i0 = c.in-Ok.interp in
+    let ran = c.run_to_end-last.ensures.ends in
     let i1 = c.begin-run.result.interp in
-    let i2 = c.answer_all.new.run.interp in
+    let i2 = ran.done.interp in
     let s0 = c.renew.new.steps in
     let s1 = c.begin-run.new.steps in
-    let s2 = c.answer_all.new.steps in
+    let s2 = ran.reached in
     let inside0 : ℕ = 0 in
     let inside = inside0 + taken names s2 s1 i2 i1 in
-    let sound = c.answer_all.ensures.sound names (c.begin-run.ensures.sound names of.0.0) in
-    let edition : edition_in i2 ≡ edition_of t.entry.before = c.answer_all.ensures.blueprint ∙ (c.begin-run.ensures.blueprint ∙ of.1) in
-    let h = c.answer_all.ensures.hears inside0 in
-    (ran_clean names c.args.passes.now c.look-turn.new.passes c.answer_all.new.passes c.look-turn.result.turn _ c.look-turn.result.look t (h.turns ++ h.more) i0 c.end_run-last.result.1
-    h.gains of.1 (c.end_run-last.ensures.blueprint ∙ (c.answer_all.ensures.blueprint ∙ c.begin-run.ensures.blueprint)) (c.end_run-last.ensures.is_new names sound))
+    let sound = ran.sound names (c.begin-run.ensures.sound names of.0.0) in
+    let edition : edition_in i2 ≡ edition_of t.entry.before = ran.blueprint ∙ (c.begin-run.ensures.blueprint ∙ of.1) in
+    let h = ran.hears inside0 in
+    subst (λ (k : Option Interp). IsCleanInterp names (pass_view c.run_to_end-last.new.passes.blueprint) k) (sym ran.is_kept)
+    (ran_clean names c.args.passes.now c.look-turn.new.passes c.run_to_end-last.new.passes c.look-turn.result.turn _ c.look-turn.result.look t (h.turns ++ h.more) i0 ran.kept
+    h.gains of.1 (ran.resets.blueprint ∙ (ran.blueprint ∙ c.begin-run.ensures.blueprint)) (ran.resets.is_new names sound))
 
 pub returns-clause-cells : goal.returns-clause-cells
 returns-clause-cells g c =
     let names = names_of c.args.natives.now in
     let t = c.look-turn.ensures.looks in
-    let h = c.answer_all.ensures.hears 0 in
-    (c.answer_all.ensures.cells, keeps_names names c.look-turn.new.passes c.answer_all.new.passes (h.turns ++ h.more) h.gains (keeps_names names c.args.passes.now c.look-turn.new.passes (OnBlueprint t.entry ∷ []) t.gains.1 c.requires.cells.1))
+    let h = c.run_to_end-last.ensures.ends.hears 0 in
+    (c.run_to_end-last.ensures.cells, keeps_names names c.look-turn.new.passes c.run_to_end-last.new.passes (h.turns ++ h.more) h.gains (keeps_names names c.args.passes.now c.look-turn.new.passes (OnBlueprint t.entry ∷ []) t.gains.1 c.requires.cells.1))
 
 pub returns-clause-units : goal.returns-clause-units
 returns-clause-units g c =
     let t = c.look-turn.ensures.looks in
-    let h = c.answer_all.ensures.hears 0 in
-    keeps_units c.args.passes.now c.answer_all.new.passes ((OnBlueprint t.entry ∷ []) ++ (h.turns ++ h.more)) (gains_more c.args.passes.now c.look-turn.new.passes c.answer_all.new.passes (OnBlueprint t.entry ∷ []) (h.turns ++ h.more) t.gains.1 h.gains)
+    let h = c.run_to_end-last.ensures.ends.hears 0 in
+    keeps_units c.args.passes.now c.run_to_end-last.new.passes ((OnBlueprint t.entry ∷ []) ++ (h.turns ++ h.more)) (gains_more c.args.passes.now c.look-turn.new.passes c.run_to_end-last.new.passes (OnBlueprint t.entry ∷ []) (h.turns ++ h.more) t.gains.1 h.gains)
 
 -- no run was begun
 pub returns-in_default-clause-clean : goal.returns-in_default-clause-clean
@@ -128,3 +125,6 @@ returns-in_default-clause-cells g c = (c.look-turn.ensures.cells, keeps_names (n
 
 pub returns-in_default-clause-units : goal.returns-in_default-clause-units
 returns-in_default-clause-units g c = keeps_units c.args.passes.now c.look-turn.new.passes (OnBlueprint c.look-turn.ensures.looks.entry ∷ []) c.look-turn.ensures.looks.gains.1
+
+pub returns-clause-number : goal.returns-clause-number
+returns-clause-number g c = c.run_to_end-last.ensures.number ∙ c.renew.ensures.number

@@ -8,7 +8,6 @@ use Rattle.worker.specs.Turns.{OnBlueprint}
 use Rattle.worker.specs.Sessions.{at}
 use Rattle.worker.proofs.Turning.{keeps_names}
 use Rattle.worker.proofs.Looking.{renewable}
-use Rattle.worker.proofs.Renewals.{one_of}
 use Rattle.worker.proofs.OneItem.{ticked, ran_item, ran_clean, unbegun_clean, begins_none_by, standing_again}
 use Rattle.worker.proofs.item.run_item.Goals as goal
 
@@ -21,14 +20,7 @@ pub begin-run-requires : goal.begin-run-requires
 begin-run-requires g c =
     let t = c.look-turn.ensures.looks in
     let r = renewable (names_of c.args.natives.now) c.args.passes.now c.look-turn.new.passes c.args.worker.now c.look-turn.result.turn c.look-turn.result.look t c.requires.cells.1 c.requires.clean in
-    (one_of (names_of c.args.natives.now) t.entry.before c.renew.new.worker.interp _ (sym c.in-Some.ensures.value) (c.in-Ok.ensures.of t.entry.before r)).0
-
--- behind a renewal there is one
-pub unreachable-requires : goal.unreachable-requires
-unreachable-requires g c =
-    let t = c.look-turn.ensures.looks in
-    let r = renewable (names_of c.args.natives.now) c.args.passes.now c.look-turn.new.passes c.args.worker.now c.look-turn.result.turn c.look-turn.result.look t c.requires.cells.1 c.requires.clean in
-    rw (sym c.take.ensures.value ∙ c.in_default-take.is) at (c.in-Ok.ensures.of t.entry.before r)
+    (c.in-Ok.ensures.of t.entry.before r).0
 
 -- what was done, behind a look, on the interpreter that is of what it found
 pub returns-clause-item : goal.returns-clause-item
@@ -36,12 +28,12 @@ returns-clause-item g c = λ count before at by.
     let names = names_of c.args.natives.now in
     let t = c.look-turn.ensures.looks in
     let r = renewable names c.args.passes.now c.look-turn.new.passes c.args.worker.now c.look-turn.result.turn c.look-turn.result.look t c.requires.cells.1 c.requires.clean in
-    let of = one_of names t.entry.before c.renew.new.worker.interp _ (sym c.in-Some.ensures.value) (c.in-Ok.ensures.of t.entry.before r) in
+    let of = c.in-Ok.ensures.of t.entry.before r in
     let sound = c.run_request-done.ensures.sound names (c.begin-run.ensures.sound names of.0.0) in
     ran_item names _ count before _ c.args.manner.requests c.args.request c.run_request-done.result.sent _ _ _ c.look-turn.result.look c.look-turn.new.passes c.run_request-done.new.run.interp c.renew.new.steps c.run_request-done.new.steps
     t c.in-Ok.ensures.told c.look-turn.ensures.epoch
     (ticked _ _ c.moment.result c.moment_of-moment.result c.moment.ensures c.moment_of-moment.ensures)
-    (c.run_request-done.ensures.ran c.args.request c.in-Some.interp c.renew.new.steps before t.entry.before c.begin-run.ensures c.requires.manner.0 c.requires.manner.1 of.1 by) at c.bytes_sent.ensures
+    (c.run_request-done.ensures.ran c.args.request c.in-Ok.interp c.renew.new.steps before t.entry.before c.begin-run.ensures c.requires.manner.0 c.requires.manner.1 of.1 by) at c.bytes_sent.ensures
     (standing_again c.end_run-interp.result.1 (edition_in c.run_request-done.new.run.interp) _ _ c.end_run-interp.ensures.blueprint ((c.run_request-done.ensures.blueprint ∙ c.begin-run.ensures.blueprint) ∙ of.1) c.end_run-interp.ensures.marked)
     (c.in-Ok.ensures.steps t.entry.before r) (c.end_run-interp.ensures.steps names sound)
 
@@ -50,10 +42,10 @@ returns-clause-clean g c =
     let names = names_of c.args.natives.now in
     let t = c.look-turn.ensures.looks in
     let r = renewable names c.args.passes.now c.look-turn.new.passes c.args.worker.now c.look-turn.result.turn c.look-turn.result.look t c.requires.cells.1 c.requires.clean in
-    let of = one_of names t.entry.before c.renew.new.worker.interp _ (sym c.in-Some.ensures.value) (c.in-Ok.ensures.of t.entry.before r) in
+    let of = c.in-Ok.ensures.of t.entry.before r in
     let sound = c.run_request-done.ensures.sound names (c.begin-run.ensures.sound names of.0.0) in
-    let ran = c.run_request-done.ensures.ran c.args.request c.in-Some.interp c.renew.new.steps c.args.manner.answered t.entry.before c.begin-run.ensures c.requires.manner.0 c.requires.manner.1 of.1 (omega arith) in
-    (ran_clean names c.args.passes.now c.look-turn.new.passes c.run_request-done.new.passes c.look-turn.result.turn _ c.look-turn.result.look t (ran.turns ++ ran.more) c.in-Some.interp c.end_run-interp.result.1
+    let ran = c.run_request-done.ensures.ran c.args.request c.in-Ok.interp c.renew.new.steps c.args.manner.answered t.entry.before c.begin-run.ensures c.requires.manner.0 c.requires.manner.1 of.1 (omega arith) in
+    (ran_clean names c.args.passes.now c.look-turn.new.passes c.run_request-done.new.passes c.look-turn.result.turn _ c.look-turn.result.look t (ran.turns ++ ran.more) c.in-Ok.interp c.end_run-interp.result.1
     ran.gains of.1 (c.end_run-interp.ensures.blueprint ∙ (c.run_request-done.ensures.blueprint ∙ c.begin-run.ensures.blueprint)) (c.end_run-interp.ensures.is_new names sound))
 
 pub returns-clause-cells : goal.returns-clause-cells
@@ -61,8 +53,8 @@ returns-clause-cells g c =
     let names = names_of c.args.natives.now in
     let t = c.look-turn.ensures.looks in
     let r = renewable names c.args.passes.now c.look-turn.new.passes c.args.worker.now c.look-turn.result.turn c.look-turn.result.look t c.requires.cells.1 c.requires.clean in
-    let of = one_of names t.entry.before c.renew.new.worker.interp _ (sym c.in-Some.ensures.value) (c.in-Ok.ensures.of t.entry.before r) in
-    let ran = c.run_request-done.ensures.ran c.args.request c.in-Some.interp c.renew.new.steps c.args.manner.answered t.entry.before c.begin-run.ensures c.requires.manner.0 c.requires.manner.1 of.1 (omega arith) in
+    let of = c.in-Ok.ensures.of t.entry.before r in
+    let ran = c.run_request-done.ensures.ran c.args.request c.in-Ok.interp c.renew.new.steps c.args.manner.answered t.entry.before c.begin-run.ensures c.requires.manner.0 c.requires.manner.1 of.1 (omega arith) in
     (c.run_request-done.ensures.cells, keeps_names names c.look-turn.new.passes c.run_request-done.new.passes (ran.turns ++ ran.more) ran.gains (keeps_names names c.args.passes.now c.look-turn.new.passes (OnBlueprint t.entry ∷ []) t.gains.1 c.requires.cells.1))
 
 -- no run was begun

@@ -1,125 +1,102 @@
-use Rattle.std.proofs.Common.{◌≡◌, ℕ, List, Option, sym, ap, ◌∙◌, refl, arith, ◌+◌, [], subst}
+use Rattle.std.proofs.Common.{ℕ, ap, ◌∙◌, refl, arith, ◌+◌, [], subst}
 use Rattle.natives.specs.Names.{names_of}
-use Rattle.ictl.specs.declared.ending.Verdict.{Verdict}
-use Rattle.std.proofs.Common.{drop}
-use Rattle.ictl.specs.Main.{filters_from, serve, filter_end}
+use Rattle.ictl.specs.Replies.{verdict}
 use Rattle.ictl.specs.Settle.{account_of}
-use Rattle.ictl.specs.Interps.{interp_state, IsWithin, interp_written}
-use Rattle.ictl.proofs.Interpreters.{lowers_more, ok_both, ok_same, responded, rest_counts, stops_lower, write_falls, write_stands}
-use Rattle.ictl.proofs.Withins.{err_same, rest_within, wants, wrote_here}
+use Rattle.ictl.specs.Interps.{interp_state, IsWithin, interp_written, postauth_from, served}
+use Rattle.ictl.specs.declared.ending.After.TheVariants as afters
+use Rattle.ictl.specs.declared.ending.Ending.TheVariants.{Answered}
+use Rattle.ictl.specs.declared.task.Task.TheVariants.{Writing}
+use Rattle.ictl.proofs.Growing.{filter_grows, authorised_grows, served_grows}
+use Rattle.ictl.proofs.Interpreters.{follows_so, lowers_more, ok_same, responded, rest_counts, stops_lower, write_falls, write_stands}
+use Rattle.ictl.proofs.Withins.{err_same, none_within, wants}
 use Rattle.ictl.proofs.interp.Interp.end_postauth.Goals as goal
 
-pub returns-in-Goes-clause-gives : goal.returns-in-Goes-clause-gives
-returns-in-Goes-clause-gives g c =
+pub returns-in-Next-clause-gives : goal.returns-in-Next-clause-gives
+returns-in-Next-clause-gives g c =
     let names = names_of c.args.natives.now in
     let old = c.args.self.now in
-    let bp = old.blueprint.value in
-    let m = old.moment in
     let q = old.settling.questions in
     let b = old.settling.run.engine.budget in
-    ok_same c.postauth.result _ _ (λ step h inside further. h inside further ∙ ap (λ (n : ℕ). (filters_from names bp m (drop c.args.next old.visit.postauth) (serve names bp m old.visit.serving)) (interp_state old) (account_of n q inside) further) c.left-budget.ensures ∙ ap (λ (v : Verdict). filter_end (filters_from names bp m (drop c.args.next old.visit.postauth) (serve names bp m old.visit.serving)) (serve names bp m old.visit.serving) v (interp_state old) (account_of b q inside) further) (sym c.in-Goes.is ∙ c.verdict_of-said.ensures)) c.postauth.ensures.gives
+    let next = postauth_from names old c.args.next in
+    let behind = served names old in
+    ok_same c.postauth.result _ _
+    (λ step h inside further. h inside further ∙ ap (λ (n : ℕ). next (interp_state old) (account_of n q inside) further) c.left-budget.ensures
+    ∙ follows_so afters.Next c.in_ok-after.after (verdict c.args.code c.args.value) next behind (interp_state old) (account_of b q inside) further c.in-Next.is c.in_ok-after.ensures)
+    c.postauth.ensures.gives
 
-pub returns-in-Breaks-clause-gives : goal.returns-in-Breaks-clause-gives
-returns-in-Breaks-clause-gives g c =
+pub returns-in-Behind-clause-gives : goal.returns-in-Behind-clause-gives
+returns-in-Behind-clause-gives g c =
     let names = names_of c.args.natives.now in
     let old = c.args.self.now in
-    let bp = old.blueprint.value in
-    let m = old.moment in
     let q = old.settling.questions in
     let b = old.settling.run.engine.budget in
-    ok_same c.serve.result _ _ (λ step h inside further. h inside further ∙ ap (λ (n : ℕ). (serve names bp m old.visit.serving) (interp_state old) (account_of n q inside) further) c.left-budget.ensures ∙ ap (λ (v : Verdict). filter_end (filters_from names bp m (drop c.args.next old.visit.postauth) (serve names bp m old.visit.serving)) (serve names bp m old.visit.serving) v (interp_state old) (account_of b q inside) further) (sym c.in-Breaks.is ∙ c.verdict_of-said.ensures)) c.serve.ensures.gives
+    let next = postauth_from names old c.args.next in
+    let behind = served names old in
+    ok_same c.serve.result _ _
+    (λ step h inside further. h inside further ∙ ap (λ (n : ℕ). behind (interp_state old) (account_of n q inside) further) c.left-budget.ensures
+    ∙ follows_so afters.Behind c.in_ok-after.after (verdict c.args.code c.args.value) next behind (interp_state old) (account_of b q inside) further c.in-Behind.is c.in_ok-after.ensures)
+    c.serve.ensures.gives
 
-pub returns-in-Returns-clause-gives : goal.returns-in-Returns-clause-gives
-returns-in-Returns-clause-gives g c =
+pub returns-in-Responds-clause-gives : goal.returns-in-Responds-clause-gives
+returns-in-Responds-clause-gives g c = λ inside further.
     let names = names_of c.args.natives.now in
     let old = c.args.self.now in
-    let bp = old.blueprint.value in
-    let m = old.moment in
     let q = old.settling.questions in
     let b = old.settling.run.engine.budget in
-    ok_both c.respond_given.result _ _ _ (λ step is now inside further. responded names step _ old c.respond_given.new.self inside c.args.steps.now further is now ∙ ap (λ (v : Verdict). filter_end (filters_from names bp m (drop c.args.next old.visit.postauth) (serve names bp m old.visit.serving)) (serve names bp m old.visit.serving) v (interp_state old) (account_of b q inside) further) (sym c.in-Returns.is ∙ c.verdict_of-said.ensures)) c.respond_given.ensures.stops c.respond_given.ensures.task
+    responded names c.respond.result c.in-Responds.response old c.respond.new.self inside c.args.steps.now further c.respond.ensures.stops c.respond.ensures.task
+    ∙ follows_so (afters.Responds c.in-Responds.response) c.in_ok-after.after (verdict c.args.code c.args.value) (postauth_from names old c.args.next) (served names old) (interp_state old) (account_of b q inside) further c.in-Responds.is c.in_ok-after.ensures
 
-pub returns-clause-gives : goal.returns-clause-gives
-returns-clause-gives g c =
+pub returns-in-Behind-clause-lowers : goal.returns-in-Behind-clause-lowers
+returns-in-Behind-clause-lowers g c = ok_same c.serve.result _ _ (λ step h. lowers_more step c.serve.new.self _ _ (omega arith) h) c.serve.ensures.lowers
+
+pub returns-in-Responds-clause-lowers : goal.returns-in-Responds-clause-lowers
+returns-in-Responds-clause-lowers g c = stops_lower c.respond.result _ c.respond.new.self _ c.respond.ensures.stops
+
+pub returns-in-Responds-clause-falls : goal.returns-in-Responds-clause-falls
+returns-in-Responds-clause-falls g c = λ before less. write_falls c.respond.result _ c.respond.new.self before c.respond.ensures.stops
+
+pub returns-in-Responds-clause-next : goal.returns-in-Responds-clause-next
+returns-in-Responds-clause-next g c = write_stands c.respond.result _ _ c.args.self.now c.respond.new.self c.respond.ensures.stops c.respond.ensures.task c.requires.1
+
+pub returns-in-Responds-clause-counts : goal.returns-in-Responds-clause-counts
+returns-in-Responds-clause-counts g c = rest_counts (names_of c.args.natives.now) c.args.self.now c.respond.new.self c.args.steps.now (Writing Answered, c.respond.ensures.task)
+
+pub returns-in_err-after-clause-most : goal.returns-in_err-after-clause-most
+returns-in_err-after-clause-most g c = wants c.from_residual.result _ (λ inside.
     let names = names_of c.args.natives.now in
     let old = c.args.self.now in
-    let bp = old.blueprint.value in
-    let m = old.moment in
     let q = old.settling.questions in
     let b = old.settling.run.engine.budget in
-    ok_both c.fail.result _ _ _ (λ step is now inside further. responded names step _ old c.fail.new.self inside c.args.steps.now further is now ∙ ap (λ (v : Verdict). filter_end (filters_from names bp m (drop c.args.next old.visit.postauth) (serve names bp m old.visit.serving)) (serve names bp m old.visit.serving) v (interp_state old) (account_of b q inside) further) (sym c.in-Fails.is ∙ c.verdict_of-said.ensures)) c.fail.ensures.stops c.fail.ensures.task
+    let grows = c.made_grows.ensures in
+    none_within names old old inside c.args.steps.now _ c.requires.1 refl
+    (filter_grows (postauth_from names old c.args.next) (served names old) (verdict c.args.code c.args.value) (authorised_grows grows names old c.args.next) (served_grows grows names old) (interp_state old) (account_of b q inside) []))
 
-pub returns-in-Breaks-clause-lowers : goal.returns-in-Breaks-clause-lowers
-returns-in-Breaks-clause-lowers g c = ok_same c.serve.result _ _ (λ step h. lowers_more step c.serve.new.self _ _ (omega arith) h) c.serve.ensures.lowers
-
-pub returns-in-Returns-clause-lowers : goal.returns-in-Returns-clause-lowers
-returns-in-Returns-clause-lowers g c = ok_same c.respond_given.result _ _ (λ step is. stops_lower step _ c.respond_given.new.self _ is) c.respond_given.ensures.stops
-
-pub returns-in-Returns-clause-falls : goal.returns-in-Returns-clause-falls
-returns-in-Returns-clause-falls g c = ok_same c.respond_given.result _ _ (λ step is before less. write_falls step _ c.respond_given.new.self before is) c.respond_given.ensures.stops
-
-pub returns-in-Returns-clause-next : goal.returns-in-Returns-clause-next
-returns-in-Returns-clause-next g c = ok_both c.respond_given.result _ _ _ (λ step is now. write_stands step _ _ c.args.self.now c.respond_given.new.self is now c.requires.1) c.respond_given.ensures.stops c.respond_given.ensures.task
-
-pub returns-clause-lowers : goal.returns-clause-lowers
-returns-clause-lowers g c = ok_same c.fail.result _ _ (λ step is. stops_lower step _ c.fail.new.self _ is) c.fail.ensures.stops
-
-pub returns-clause-falls : goal.returns-clause-falls
-returns-clause-falls g c = ok_same c.fail.result _ _ (λ step is before less. write_falls step _ c.fail.new.self before is) c.fail.ensures.stops
-
-pub returns-clause-next : goal.returns-clause-next
-returns-clause-next g c = ok_both c.fail.result _ _ _ (λ step is now. write_stands step _ _ c.args.self.now c.fail.new.self is now c.requires.1) c.fail.ensures.stops c.fail.ensures.task
-
-pub returns-in-Returns-clause-counts : goal.returns-in-Returns-clause-counts
-returns-in-Returns-clause-counts g c = rest_counts (names_of c.args.natives.now) c.args.self.now c.respond_given.new.self c.args.steps.now c.respond_given.ensures.rest
-
-pub returns-clause-counts : goal.returns-clause-counts
-returns-clause-counts g c = rest_counts (names_of c.args.natives.now) c.args.self.now c.fail.new.self c.args.steps.now c.fail.ensures.rest
-
-pub returns-in-Goes-clause-most : goal.returns-in-Goes-clause-most
-returns-in-Goes-clause-most g c =
+pub returns-in-Next-clause-most : goal.returns-in-Next-clause-most
+returns-in-Next-clause-most g c =
     let names = names_of c.args.natives.now in
     let old = c.args.self.now in
-    let bp = old.blueprint.value in
-    let m = old.moment in
     let q = old.settling.questions in
     let b = old.settling.run.engine.budget in
+    let next = postauth_from names old c.args.next in
+    let behind = served names old in
     err_same c.postauth.result _ _
-    (λ h inside. subst (IsWithin (inside + interp_written names old) c.args.steps.now c.postauth.new.steps c.postauth.new.self) (ap (λ (n : ℕ). (filters_from names bp m (drop c.args.next old.visit.postauth) (serve names bp m old.visit.serving)) (interp_state old) (account_of n q inside) []) c.left-budget.ensures ∙ ap (λ (v : Verdict). filter_end (filters_from names bp m (drop c.args.next old.visit.postauth) (serve names bp m old.visit.serving)) (serve names bp m old.visit.serving) v (interp_state old) (account_of b q inside) []) (sym c.in-Goes.is ∙ c.verdict_of-said.ensures)) (h inside))
+    (λ h inside. subst (IsWithin (inside + interp_written names old) c.args.steps.now c.postauth.new.steps c.postauth.new.self)
+    (ap (λ (n : ℕ). next (interp_state old) (account_of n q inside) []) c.left-budget.ensures
+    ∙ follows_so afters.Next c.in_ok-after.after (verdict c.args.code c.args.value) next behind (interp_state old) (account_of b q inside) [] c.in-Next.is c.in_ok-after.ensures)
+    (h inside))
     c.postauth.ensures.most
 
-pub returns-in-Breaks-clause-most : goal.returns-in-Breaks-clause-most
-returns-in-Breaks-clause-most g c =
+pub returns-in-Behind-clause-most : goal.returns-in-Behind-clause-most
+returns-in-Behind-clause-most g c =
     let names = names_of c.args.natives.now in
     let old = c.args.self.now in
-    let bp = old.blueprint.value in
-    let m = old.moment in
     let q = old.settling.questions in
     let b = old.settling.run.engine.budget in
+    let next = postauth_from names old c.args.next in
+    let behind = served names old in
     err_same c.serve.result _ _
-    (λ h inside. subst (IsWithin (inside + interp_written names old) c.args.steps.now c.serve.new.steps c.serve.new.self) (ap (λ (n : ℕ). (serve names bp m old.visit.serving) (interp_state old) (account_of n q inside) []) c.left-budget.ensures ∙ ap (λ (v : Verdict). filter_end (filters_from names bp m (drop c.args.next old.visit.postauth) (serve names bp m old.visit.serving)) (serve names bp m old.visit.serving) v (interp_state old) (account_of b q inside) []) (sym c.in-Breaks.is ∙ c.verdict_of-said.ensures)) (h inside))
+    (λ h inside. subst (IsWithin (inside + interp_written names old) c.args.steps.now c.serve.new.steps c.serve.new.self)
+    (ap (λ (n : ℕ). behind (interp_state old) (account_of n q inside) []) c.left-budget.ensures
+    ∙ follows_so afters.Behind c.in_ok-after.after (verdict c.args.code c.args.value) next behind (interp_state old) (account_of b q inside) [] c.in-Behind.is c.in_ok-after.ensures)
+    (h inside))
     c.serve.ensures.most
-
-pub returns-in-Returns-clause-most : goal.returns-in-Returns-clause-most
-returns-in-Returns-clause-most g c =
-    let names = names_of c.args.natives.now in
-    let old = c.args.self.now in
-    let bp = old.blueprint.value in
-    let m = old.moment in
-    let q = old.settling.questions in
-    let b = old.settling.run.engine.budget in
-    wants c.respond_given.result _ (λ inside. subst (IsWithin (inside + interp_written names old) c.args.steps.now c.args.steps.now c.respond_given.new.self)
-    (ap (λ (v : Verdict). filter_end (filters_from names bp m (drop c.args.next old.visit.postauth) (serve names bp m old.visit.serving)) (serve names bp m old.visit.serving) v (interp_state old) (account_of b q inside) []) (sym c.in-Returns.is ∙ c.verdict_of-said.ensures))
-    (rest_within names old c.respond_given.new.self inside c.args.steps.now _ c.requires.1 c.respond_given.ensures.rest (wrote_here _ _ (interp_state old) inside [])))
-
-pub returns-clause-most : goal.returns-clause-most
-returns-clause-most g c =
-    let names = names_of c.args.natives.now in
-    let old = c.args.self.now in
-    let bp = old.blueprint.value in
-    let m = old.moment in
-    let q = old.settling.questions in
-    let b = old.settling.run.engine.budget in
-    wants c.fail.result _ (λ inside. subst (IsWithin (inside + interp_written names old) c.args.steps.now c.args.steps.now c.fail.new.self)
-    (ap (λ (v : Verdict). filter_end (filters_from names bp m (drop c.args.next old.visit.postauth) (serve names bp m old.visit.serving)) (serve names bp m old.visit.serving) v (interp_state old) (account_of b q inside) []) (sym c.in-Fails.is ∙ c.verdict_of-said.ensures))
-    (rest_within names old c.fail.new.self inside c.args.steps.now _ c.requires.1 c.fail.ensures.rest (wrote_here _ _ (interp_state old) inside [])))

@@ -5,7 +5,7 @@ use Rattle.ictl.specs.Falls.{first_number}
 use Rattle.ictl.specs.Main.{full, traces_from, behind}
 use Rattle.ictl.specs.declared.ending.Ending.{Ending}
 use Rattle.ictl.specs.declared.interp.Interp.{Interp}
-use Rattle.ictl.proofs.Interpreters.{moved_on}
+use Rattle.ictl.proofs.Interpreters.{moved_on, unless}
 use Rattle.ictl.proofs.Beginnings.{behind_begins}
 use Rattle.ictl.specs.declared.inner.InnerRun.{InnerRun}
 use Rattle.cmd_table.specs.Commands.{Writes}
@@ -26,14 +26,14 @@ pub returns-clause-falls : goal.returns-clause-falls
 returns-clause-falls g c = c.in_ok-next.ensures.falls first_number (c.in_ok-step.ensures.falls first_number (omega arith))
 
 pub returns-clause-stands : goal.returns-clause-stands
-returns-clause-stands g c = λ request sound visit inside further.
+returns-clause-stands g c = λ request sound visit inside. unless c.in_ok-next.next _ (λ further.
     let names = names_of c.args.natives.now in
     let old = c.args.self.now in
     let between : Interp = record old { settling = record old.settling { questions = 1800000 } } in
     sym (moved_on names c.in_ok-step.step c.in_ok-next.next between c.trace.new.self c.moves.new.self inside c.args.steps.now c.trace.new.steps c.moves.new.steps further _
     c.trace.ensures.counts c.moves.ensures.counts (c.in_ok-step.ensures.gives inside further) (λ n. c.in_ok-next.ensures.gives n further)
     ∙ ap (λ (e : Ending). traces_from names old.blueprint.value old.moment old.visit.trace old.cleanups e (interp_state old) (full inside) further) c.ending_now-ending.ensures
-    ∙ behind_begins names old request (ending_of old.task) inside further sound visit)
+    ∙ behind_begins names old request (ending_of old.task) inside further sound visit))
 
 pub returns-in_err-step-clause-most : goal.returns-in_err-step-clause-most
 returns-in_err-step-clause-most g c = wants c.from_residual.result _ (λ request sound visit inside.

@@ -2,10 +2,10 @@ use Rattle.std.proofs.Common.{◌≡◌, ◌+◌, List, Bool, true, false, refl,
 use Rattle.natives.specs.Names.{names_of}
 use Rattle.outside.specs.declared.question.Answer.{Answer}
 use Rattle.ictl.specs.Main.{behind, answered, both, ends}
-use Rattle.ictl.specs.Interps.{UnlessNoMemory, gives, taken, ending_of, interp_state, IsWithin}
+use Rattle.ictl.specs.Interps.{UnlessNoMemory, Stands, GoesBehind, behind_of, gives, taken, ending_of, interp_state, IsWithin}
 use Rattle.ictl.specs.Falls.{Falls, first_number}
 use Rattle.ictl.specs.declared.next.Next.{Next}
-use Rattle.ictl.proofs.Interpreters.{answered_so, answered_or, ok_same, unwritten_stands, unwritten_over, over_same, over_holds}
+use Rattle.ictl.proofs.Interpreters.{answered_or, unwritten_stands, unwritten_over, over_same, over_holds}
 use Rattle.ictl.proofs.Resets.{sound_on, writing_runs}
 use Rattle.ictl.proofs.Starts.{written_most}
 use Rattle.ictl.specs.declared.interp.Interp.{Interp}
@@ -17,9 +17,8 @@ pub returns-then-whole-clause-stands : goal.returns-then-whole-clause-stands
 returns-then-whole-clause-stands g c = λ request sound visit inside.
     let names = names_of c.args.natives.now in
     let old = c.args.self.now in
-    subst (λ (b : Bool). UnlessNoMemory c.next_of.result ((further : List Answer) → behind names old.blueprint.value old.moment b request (ending_of old.task) (interp_state old) inside further
-    ≡ gives names c.next_of.result (inside + taken names c.go_behind.new.steps c.args.steps.now c.go_behind.new.self old) c.go_behind.new.self further)) (sym c.if-whole.true)
-    (answered_so c.go_behind.result c.next_of.result _ c.next_of.ensures (ok_same c.go_behind.result _ _ (λ next h. h request sound visit inside) c.go_behind.ensures.stands))
+    subst (λ (b : Bool). Stands names (behind_of names old b request inside) c.next_of.result (inside + taken names c.go_behind.new.steps c.args.steps.now c.go_behind.new.self old) c.go_behind.new.self []) (sym c.if-whole.true)
+    (answered_or c.go_behind.result c.next_of.result (λ (n : Next). GoesBehind names true n c.go_behind.new.steps c.args.steps.now c.go_behind.new.self old) (λ request sound visit inside. tt) c.next_of.ensures c.go_behind.ensures.stands request sound visit inside)
 
 pub returns-then-whole-clause-unwritten : goal.returns-then-whole-clause-unwritten
 returns-then-whole-clause-unwritten g c = λ short. absurd (let both : true ≡ false = sym c.if-whole.true ∙ short in cc)
