@@ -36,11 +36,11 @@ returns c =
 
 pub returns-then-is_closed : goal.returns-then-is_closed
 returns-then-is_closed c = (
-      (refl, λ w. tt, refl),
-      record {
-        writes_back = tt;
-        value = tt;
-        same = tt;
-        none = inl (ap is_closed (sym c.bytes-name.ensures) ∙ sym c.is_closed.ensures ∙ c.if-is_closed.true);
-      },
-    )
+  (refl, λ w. tt, refl),
+  record {
+    writes_back = tt;
+    value = tt;
+    same = tt;
+    none = inl (ap is_closed (sym c.bytes-name.ensures) ∙ sym c.is_closed.ensures ∙ c.if-is_closed.true);
+  },
+)
