@@ -7,3 +7,4 @@ pub mod Finding
 pub mod Placing
 pub mod Showing
 pub mod Telling
+pub mod Waits

@@ -13,3 +13,4 @@ pub mod TextCommands
 pub mod Leaf
 -- What only proofs use.
 pub mod Answers
+pub mod Waiting

@@ -8,6 +8,7 @@ ghost use Rattle.conn_host.specs.Conns.{ConnState};
 ghost use Rattle.conn_host.specs.Leaf.{does, conn_call, conn_answer};
 
 use crate::channel::{close, eof, gets, open, page_answered, read};
+use crate::conn::Conn;
 use crate::encoding::{ns_httptime, ns_time, ns_urldecode, ns_urlencode};
 use crate::host::ConnHost;
 use crate::requested::{ns_conn, ns_queryget};
@@ -30,30 +31,42 @@ fn end_of(came: Result<Text, Refusal>) -> HostReply
 }
 
 /// Does a command that never does more than end with a result.
-fn do_command(host: &mut ConnHost, verb: Verb, words: &Words) -> Result<Text, Refusal>
+fn do_command(conn: &mut Conn, verb: Verb, words: &Words) -> Result<Text, Refusal>
     requires not_open { verb ≢ Verb.Open }
     requires not_gets { verb ≢ Verb.Gets }
-    ensures { EndsWith result host.new (does verb words.now host.old) }
+    requires not_return { verb ≢ Verb.NsReturn }
+    ensures { EndsWith result conn.new (does verb words.now conn.old) }
 {
     match verb {
-        Verb::Open | Verb::Gets => unreachable!(),
-        Verb::NsSet => ns_set(host, words),
-        Verb::Read => read(host, words),
-        Verb::Eof => eof(host, words),
-        Verb::Close => close(host, words),
-        Verb::NsConn => ns_conn(host, words),
-        Verb::NsQueryget => ns_queryget(host, words),
-        Verb::NsReturn => ns_return(host, words),
-        Verb::NsReturnredirect => ns_returnredirect(host, words),
-        Verb::NsReturnnotfound => ns_returnnotfound(host, words),
-        Verb::NsUrlencode => ns_urlencode(host, words),
-        Verb::NsUrldecode => ns_urldecode(host, words),
-        Verb::NsTime => ns_time(host, words),
-        Verb::NsHttptime => ns_httptime(host, words),
+        Verb::Open | Verb::Gets | Verb::NsReturn => unreachable!(),
+        Verb::NsSet => ns_set(conn, words),
+        Verb::Read => read(conn, words),
+        Verb::Eof => eof(conn, words),
+        Verb::Close => close(conn, words),
+        Verb::NsConn => ns_conn(conn, words),
+        Verb::NsQueryget => ns_queryget(conn, words),
+        Verb::NsReturnredirect => ns_returnredirect(conn, words),
+        Verb::NsReturnnotfound => ns_returnnotfound(conn, words),
+        Verb::NsUrlencode => ns_urlencode(conn, words),
+        Verb::NsUrldecode => ns_urldecode(conn, words),
+        Verb::NsTime => ns_time(conn, words),
+        Verb::NsHttptime => ns_httptime(conn, words),
     }
 }
 
-/// Does a command.
+/// Does a command on a connection whose sets are made.
+pub fn do_verb(conn: &mut Conn, verb: Verb, words: &Words) -> HostReply
+    requires not_return { verb ≢ Verb.NsReturn }
+    ensures { Replies result conn.new (does verb words.now conn.old) }
+{
+    match verb {
+        Verb::Open => reply_of(open(conn, words)),
+        Verb::Gets => reply_of(gets(conn, words)),
+        _ => end_of(do_command(conn, verb, words)),
+    }
+}
+
+/// Does a command. `ns_return`, with which most requests are answered, needs no set.
 pub fn dispatch(host: &mut ConnHost, words: &Words) -> HostReply
     ensures { Replies result host.new (conn_call words.now host.old) }
 {
@@ -61,18 +74,24 @@ pub fn dispatch(host: &mut ConnHost, words: &Words) -> HostReply
         return HostReply::NotMine;
     };
     match verb {
-        Verb::Open => reply_of(open(host, words)),
-        Verb::Gets => reply_of(gets(host, words)),
-        _ => end_of(do_command(host, verb, words)),
+        Verb::NsReturn => end_of(ns_return(host, words)),
+        _ => host.do_made(verb, words),
     }
 }
 
-/// Goes on with the answer to a question that a command asked.
-pub fn answer(host: &mut ConnHost, words: &Words, answer: &Answer) -> Result<HostReply, Refusal>
-    ensures { Comes result host.new (conn_answer words.now answer.now host.old) }
+/// Goes on with the answer to a question that a command asked, or is refused.
+fn answer(conn: &mut Conn, words: &Words, answer: &Answer) -> Result<HostReply, Refusal>
+    ensures { Comes result conn.new (conn_answer words.now answer.now conn.old) }
 {
     if words.bytes_at(0) != b"open".as_slice() {
         return Ok(HostReply::NotMine);
     }
-    ended(page_answered(host, words, answer))
+    ended(page_answered(conn, words, answer))
+}
+
+/// Goes on with the answer to a question that a command asked.
+pub fn resume(conn: &mut Conn, words: &Words, answer_given: &Answer) -> HostReply
+    ensures { Replies result conn.new (conn_answer words.now answer_given.now conn.old) }
+{
+    reply_of(answer(conn, words, answer_given))
 }

@@ -7,7 +7,7 @@ ghost use Rattle.conn_host.specs.ChannelCommands.{open_page, opens, line_length,
 
 use crate::checks::{count, require_count};
 use crate::error::too_many_channels;
-use crate::host::ConnHost;
+use crate::conn::Conn;
 use crate::id::{channel_at, channel_id};
 use chan_core::{ChanFault, Chans};
 use natives::word_at;
@@ -34,7 +34,7 @@ fn kept<T>(came: Result<T, ChanFault>) -> Result<T, NoMemory>
 }
 
 /// `open PATH` asks for the page.
-pub fn open(host: &mut ConnHost, words: &Words) -> Result<HostReply, Refusal>
+pub fn open(host: &mut Conn, words: &Words) -> Result<HostReply, Refusal>
     ensures { Comes result host.new (open_page words.now host.old) }
 {
     let alloc = host.alloc;
@@ -45,7 +45,7 @@ pub fn open(host: &mut ConnHost, words: &Words) -> Result<HostReply, Refusal>
 }
 
 /// Opens a channel on a page, where one more may be.
-fn opens(host: &mut ConnHost, page: &Text) -> Result<Text, Refusal>
+fn opens(host: &mut Conn, page: &Text) -> Result<Text, Refusal>
     ensures { EndsWith result host.new (opens page.now host.old) }
 {
     let alloc = host.alloc;
@@ -57,7 +57,7 @@ fn opens(host: &mut ConnHost, page: &Text) -> Result<Text, Refusal>
 }
 
 /// Goes on with an `open` whose page was asked for.
-pub fn page_answered(host: &mut ConnHost, words: &Words, answer: &Answer) -> Result<Text, Refusal>
+pub fn page_answered(host: &mut Conn, words: &Words, answer: &Answer) -> Result<Text, Refusal>
     ensures { EndsWith result host.new (page_answered words.now answer.now host.old) }
 {
     let page = page_told(host.alloc, words.bytes_at(1), answer)?;
@@ -75,7 +75,7 @@ fn line_length(line: &Option<Text>) -> i64
 }
 
 /// `gets ID ?NAME?` takes a line.
-pub fn gets(host: &mut ConnHost, words: &Words) -> Result<HostReply, Refusal>
+pub fn gets(host: &mut Conn, words: &Words) -> Result<HostReply, Refusal>
     ensures { Comes result host.new (gets words.now host.old) }
 {
     let alloc = host.alloc;
@@ -106,7 +106,7 @@ fn read_all(channels: &mut Chans, number: u64) -> Result<Text, NoMemory>
 }
 
 /// `read ID ?N?` takes the bytes that are left, at most so many.
-pub fn read(host: &mut ConnHost, words: &Words) -> Result<Text, Refusal>
+pub fn read(host: &mut Conn, words: &Words) -> Result<Text, Refusal>
     ensures { EndsWith result host.new (read words.now host.old) }
 {
     let alloc = host.alloc;
@@ -120,7 +120,7 @@ pub fn read(host: &mut ConnHost, words: &Words) -> Result<Text, Refusal>
 }
 
 /// `eof ID` tells whether no byte is left.
-pub fn eof(host: &mut ConnHost, words: &Words) -> Result<Text, Refusal>
+pub fn eof(host: &mut Conn, words: &Words) -> Result<Text, Refusal>
     ensures { EndsWith result host.new (eof words.now host.old) }
 {
     let alloc = host.alloc;
@@ -131,7 +131,7 @@ pub fn eof(host: &mut ConnHost, words: &Words) -> Result<Text, Refusal>
 }
 
 /// `close ID` closes the channel.
-pub fn close(host: &mut ConnHost, words: &Words) -> Result<Text, Refusal>
+pub fn close(host: &mut Conn, words: &Words) -> Result<Text, Refusal>
     ensures { EndsWith result host.new (close words.now host.old) }
 {
     let alloc = host.alloc;

@@ -7,7 +7,7 @@ ghost use Rattle.conn_host.specs.TextCommands.{encoded, moment, ns_urlencode, ns
 ghost use Rattle.form_urlencoded.specs.Form.{decode, plus_to_space};
 
 use crate::checks::{count, require_count};
-use crate::host::ConnHost;
+use crate::conn::Conn;
 use http_resp::fixdate;
 use percent_encoding::{AsciiSet, NON_ALPHANUMERIC, ascii_set, percent_decode, percent_encode};
 use std::alloc::Global;
@@ -55,7 +55,7 @@ fn decoded(alloc: Global, bytes: &[u8]) -> Result<Text, NoMemory>
 
 /// `ns_urlencode TEXT`.
 #[tactic(auto, using(crate::proofs::Exits::exits))]
-pub fn ns_urlencode(host: &mut ConnHost, words: &Words) -> Result<Text, Refusal>
+pub fn ns_urlencode(host: &mut Conn, words: &Words) -> Result<Text, Refusal>
     ensures { EndsWith result host.new (ns_urlencode words.now host.old) }
 {
     require_count(host.alloc, 2, 2, words)?;
@@ -64,7 +64,7 @@ pub fn ns_urlencode(host: &mut ConnHost, words: &Words) -> Result<Text, Refusal>
 
 /// `ns_urldecode TEXT`.
 #[tactic(auto, using(crate::proofs::Exits::exits))]
-pub fn ns_urldecode(host: &mut ConnHost, words: &Words) -> Result<Text, Refusal>
+pub fn ns_urldecode(host: &mut Conn, words: &Words) -> Result<Text, Refusal>
     ensures { EndsWith result host.new (ns_urldecode words.now host.old) }
 {
     require_count(host.alloc, 2, 2, words)?;
@@ -73,7 +73,7 @@ pub fn ns_urldecode(host: &mut ConnHost, words: &Words) -> Result<Text, Refusal>
 
 /// `ns_time` gives the moment of the run.
 #[tactic(auto, using(crate::proofs::Exits::exits))]
-pub fn ns_time(host: &mut ConnHost, words: &Words) -> Result<Text, Refusal>
+pub fn ns_time(host: &mut Conn, words: &Words) -> Result<Text, Refusal>
     ensures { EndsWith result host.new (ns_time words.now host.old) }
 {
     require_count(host.alloc, 1, 1, words)?;
@@ -92,7 +92,7 @@ fn moment(alloc: Global, words: &Words) -> Result<u64, Refusal>
 
 /// `ns_httptime MOMENT` gives the moment as a date of HTTP.
 #[tactic(auto, using(crate::proofs::Exits::exits))]
-pub fn ns_httptime(host: &mut ConnHost, words: &Words) -> Result<Text, Refusal>
+pub fn ns_httptime(host: &mut Conn, words: &Words) -> Result<Text, Refusal>
     ensures { EndsWith result host.new (ns_httptime words.now host.old) }
 {
     require_count(host.alloc, 2, 2, words)?;

@@ -6,6 +6,7 @@ mod answering;
 mod authorization;
 mod channel;
 mod checks;
+mod conn;
 mod conn_verb;
 mod encoding;
 mod error;

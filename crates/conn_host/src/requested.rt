@@ -13,7 +13,7 @@ ghost use Rattle.conn_host.specs.RequestCommands.{path_of, version_of, request_l
 use crate::authorization::credentials_of;
 use crate::checks::{count, require_count, unknown_subcommand};
 use crate::conn_verb::{ConnVerb, find_conn_verb};
-use crate::host::{ConnHost, FORM_SET, HEADERS_SET, OUTPUT_SET, kept};
+use crate::conn::{Conn, FORM_SET, HEADERS_SET, OUTPUT_SET, kept};
 use crate::id::set_id;
 use crate::responding::require_connection;
 use http_req::Request;
@@ -126,7 +126,7 @@ fn tells(alloc: Global, verb: ConnVerb, words: &Words, request: &Request) -> Res
 
 /// `ns_conn SUBCOMMAND`, and `ns_conn content ?FIRST COUNT?`.
 #[tactic(auto, using(crate::proofs::Exits::exits))]
-pub fn ns_conn(host: &mut ConnHost, words: &Words) -> Result<Text, Refusal>
+pub fn ns_conn(host: &mut Conn, words: &Words) -> Result<Text, Refusal>
     ensures { EndsWith result host.new (ns_conn words.now host.old) }
 {
     let alloc = host.alloc;
@@ -142,7 +142,7 @@ pub fn ns_conn(host: &mut ConnHost, words: &Words) -> Result<Text, Refusal>
 }
 
 /// Whether the form has a field of this key, ignoring case.
-fn is_in_form(host: &ConnHost, key: &Text) -> bool
+fn is_in_form(host: &Conn, key: &Text) -> bool
     ensures { result ≡ holds ignoring_case (fields_of host.now.sets form_set) key.now }
 {
     match host.sets.ifind(FORM_SET, key) {
@@ -154,7 +154,7 @@ fn is_in_form(host: &ConnHost, key: &Text) -> bool
 /// The value of the first field of the form with a key, ignoring case; where there is none, the word
 /// behind the key, or the empty text.
 #[tactic(auto, using(crate::proofs::Telling::finds))]
-fn query_value(host: &ConnHost, words: &Words) -> Result<Text, NoMemory>
+fn query_value(host: &Conn, words: &Words) -> Result<Text, NoMemory>
     requires { 1 < length words.now }
     ensures { IfOk result (λ value. value ≡ query_value words.now host.now) }
 {
@@ -168,7 +168,7 @@ fn query_value(host: &ConnHost, words: &Words) -> Result<Text, NoMemory>
 
 /// `ns_queryget KEY ?DEFAULT?`.
 #[tactic(auto, using(crate::proofs::Exits::exits))]
-pub fn ns_queryget(host: &mut ConnHost, words: &Words) -> Result<Text, Refusal>
+pub fn ns_queryget(host: &mut Conn, words: &Words) -> Result<Text, Refusal>
     ensures { EndsWith result host.new (ns_queryget words.now host.old) }
 {
     require_count(host.alloc, 2, 3, words)?;

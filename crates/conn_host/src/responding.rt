@@ -10,6 +10,7 @@ ghost use Rattle.conn_host.specs.Conns.{output_fields};
 ghost use Rattle.conn_host.specs.Responding.{is_control, is_shown, is_kind, is_url, status, typed, redirection, not_found, respond, ns_return, ns_returnredirect, ns_returnnotfound};
 
 use crate::checks::require_count;
+use crate::conn::Conn;
 use crate::host::ConnHost;
 use http_resp::status::{FOUND, NOT_FOUND};
 use http_resp::{Response, plain};
@@ -77,7 +78,7 @@ fn status(alloc: Global, words: &Words) -> Result<u16, Refusal>
 }
 
 /// Goes on where the run has a connection.
-pub fn require_connection(host: &ConnHost) -> Result<(), Refusal>
+pub fn require_connection(host: &Conn) -> Result<(), Refusal>
     ensures { Passes result (is_some host.now.request) no_connection }
 {
     if host.request.is_none() {
@@ -88,7 +89,7 @@ pub fn require_connection(host: &ConnHost) -> Result<(), Refusal>
 
 /// Gives a response, where none was given.
 #[tactic(auto, using(crate::proofs::Exits::exits))]
-fn respond(host: &mut ConnHost, response: Response) -> Result<Text, Refusal>
+pub fn respond(host: &mut Conn, response: Response) -> Result<Text, Refusal>
     ensures { EndsWith result host.new (respond response host.old) }
 {
     if host.response.is_some() {
@@ -119,15 +120,15 @@ pub fn ns_return(host: &mut ConnHost, words: &Words) -> Result<Text, Refusal>
 {
     let alloc = host.alloc;
     require_count(alloc, 4, 4, words)?;
-    require_connection(host)?;
+    host.require_connection()?;
     let status = status(alloc, words)?;
     require_fit(alloc, is_kind(words.bytes_at(2)), words, 2)?;
     let response = typed(host, status, words)?;
-    respond(host, response)
+    host.respond(response)
 }
 
 /// The field Location of a URL, and behind it the output fields.
-fn located(host: &ConnHost, url: &[u8]) -> Result<Pairs, NoMemory>
+fn located(host: &Conn, url: &[u8]) -> Result<Pairs, NoMemory>
     ensures { IfOk result (λ fields.
         fields ≡ (codes "Location", url.now) ∷ output_fields host.now) }
 {
@@ -141,7 +142,7 @@ fn located(host: &ConnHost, url: &[u8]) -> Result<Pairs, NoMemory>
 }
 
 /// The plain reply of 302 with these fields.
-fn redirection(host: &ConnHost, url: &[u8]) -> Result<Response, NoMemory>
+fn redirection(host: &Conn, url: &[u8]) -> Result<Response, NoMemory>
     ensures { IfOk result (λ response. response ≡ redirection url.now host.now) }
 {
     let mut response = plain(host.alloc, FOUND)?;
@@ -151,7 +152,7 @@ fn redirection(host: &ConnHost, url: &[u8]) -> Result<Response, NoMemory>
 
 /// `ns_returnredirect URL`.
 #[tactic(auto, using(crate::proofs::Exits::exits))]
-pub fn ns_returnredirect(host: &mut ConnHost, words: &Words) -> Result<Text, Refusal>
+pub fn ns_returnredirect(host: &mut Conn, words: &Words) -> Result<Text, Refusal>
     ensures { EndsWith result host.new (ns_returnredirect words.now host.old) }
 {
     let alloc = host.alloc;
@@ -164,7 +165,7 @@ pub fn ns_returnredirect(host: &mut ConnHost, words: &Words) -> Result<Text, Ref
 }
 
 /// The plain reply of 404 with the output fields.
-fn not_found(host: &ConnHost) -> Result<Response, NoMemory>
+fn not_found(host: &Conn) -> Result<Response, NoMemory>
     ensures { IfOk result (λ response. response ≡ not_found host.now) }
 {
     let mut response = plain(host.alloc, NOT_FOUND)?;
@@ -174,7 +175,7 @@ fn not_found(host: &ConnHost) -> Result<Response, NoMemory>
 
 /// `ns_returnnotfound`.
 #[tactic(auto, using(crate::proofs::Exits::exits))]
-pub fn ns_returnnotfound(host: &mut ConnHost, words: &Words) -> Result<Text, Refusal>
+pub fn ns_returnnotfound(host: &mut Conn, words: &Words) -> Result<Text, Refusal>
     ensures { EndsWith result host.new (ns_returnnotfound words.now host.old) }
 {
     require_count(host.alloc, 1, 1, words)?;

@@ -7,13 +7,13 @@ ghost use Rattle.conn_host.specs.Answers.{Finds};
 ghost use Rattle.conn_host.specs.SetCommands.{on_set, field_at, set_delete, set_key, set_value};
 
 use crate::error::no_field;
-use crate::host::{ConnHost, kept};
+use crate::conn::{Conn, kept};
 use crate::id::set_at;
 use tcl_host::{Refusal, integer, refuse};
 use txt_core::{Text, Words};
 
 /// The place of a field of the set of this number that the fourth word is.
-fn field_at(host: &ConnHost, words: &Words, set: u64) -> Result<u64, Refusal>
+fn field_at(host: &Conn, words: &Words, set: u64) -> Result<u64, Refusal>
     requires { set_of host.now.sets set ≢ None }
     ensures finds { Finds result (field_at words.now set host.now) }
     ensures within { IfOk result (λ place. place < length (fields_of host.now.sets set)) }
@@ -27,7 +27,7 @@ fn field_at(host: &ConnHost, words: &Words, set: u64) -> Result<u64, Refusal>
 }
 
 /// `delete ID PLACE`.
-pub fn set_delete(host: &mut ConnHost, words: &Words) -> Result<Text, Refusal>
+pub fn set_delete(host: &mut Conn, words: &Words) -> Result<Text, Refusal>
     ensures { EndsWith result host.new (on_set words.now (set_delete words.now) host.old) }
 {
     let set = set_at(host, words, 2)?;
@@ -37,7 +37,7 @@ pub fn set_delete(host: &mut ConnHost, words: &Words) -> Result<Text, Refusal>
 }
 
 /// `key ID PLACE`.
-pub fn set_key(host: &mut ConnHost, words: &Words) -> Result<Text, Refusal>
+pub fn set_key(host: &mut Conn, words: &Words) -> Result<Text, Refusal>
     ensures { EndsWith result host.new (on_set words.now (set_key words.now) host.old) }
 {
     let set = set_at(host, words, 2)?;
@@ -46,7 +46,7 @@ pub fn set_key(host: &mut ConnHost, words: &Words) -> Result<Text, Refusal>
 }
 
 /// `value ID PLACE`.
-pub fn set_value(host: &mut ConnHost, words: &Words) -> Result<Text, Refusal>
+pub fn set_value(host: &mut Conn, words: &Words) -> Result<Text, Refusal>
     ensures { EndsWith result host.new (on_set words.now (set_value words.now) host.old) }
 {
     let set = set_at(host, words, 2)?;

@@ -1,7 +1,8 @@
 -- How far the reading of a body in chunks has come, and why it stops.
-use Rattle.std.specs.Prelude.{◌≡◌, ℕ, ◌+◌, ◌<◌, ◌≤◌, ◌⊎◌, ◌++◌, length, drop, Option, Result, Err}
+use Rattle.std.specs.Prelude.{◌≡◌, ℕ, ◌+◌, ◌<◌, ◌≤◌, ◌⊎◌, ◌++◌, length, drop, Option, Result, Ok, Err}
 use Rattle.txt_core.specs.Names.{Bytes}
 use Rattle.http_req.specs.declared.request.Got.{Got}
+use Rattle.http_req.specs.declared.request.Request.{Request}
 use Rattle.http_req.specs.declared.request.Got.TheVariants as got
 use Rattle.http_req.specs.declared.carry.Stop.{Stop}
 use Rattle.http_req.specs.declared.trailer.TrailerSpot.TheVariants as spot
@@ -12,6 +13,11 @@ use Rattle.http_req.specs.Limits.{sent_limit}
 use Rattle.http_req.specs.Readings.{cut_answer}
 use Rattle.http_req.specs.Statuses.{content_too_large}
 use Rattle.http_req.specs.Trailers.{trailer_from}
+
+-- what the reading of a body comes to: the request, which has its body then, or the answer in its place
+abbrev pub comes_to : Result (Unit {0}) Got → Request → Result Request Got
+comes_to (Ok done) request = Ok request
+comes_to (Err answer) request = Err answer
 
 -- So many bytes of the text are the chunks of this body and the last line, whatever follows the text.
 pub record EndsChunks (text body : Bytes) (begin : ℕ) : Type 0 where

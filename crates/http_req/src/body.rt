@@ -7,7 +7,7 @@
 //! what was read past it, which is less than one piece.
 
 ghost use Rattle.std.specs.Prelude.{◌≡◌, ◌≤◌, ◌<◌, ◌+◌, true, false, List, length, OnOk, IfOk, IfErr, Ok};
-ghost use Rattle.http_req.specs.Bodies.{EndsChunks, EndsTrailer, Halts, SentStops};
+ghost use Rattle.http_req.specs.Bodies.{EndsChunks, EndsTrailer, Halts, SentStops, comes_to};
 ghost use Rattle.http_req.specs.Chunks.{ChunksAt, trailing};
 ghost use Rattle.http_req.specs.Fetching.{Moves};
 ghost use Rattle.http_req.specs.Fields.{is_chunked};
@@ -37,17 +37,18 @@ struct Chunks {
     len: usize,
 }
 
-/// Reads the body of a request whose head takes so many bytes, and takes it off the carry.
+/// Reads the body of a request whose head takes so many bytes, puts it in, and takes the request off the
+/// carry.
 pub(crate) fn read_body<S: Source>(
     alloc: Global,
     source: &mut S,
     carry: &mut Carry,
-    request: Request,
+    request: &mut Request,
     start: usize,
-) -> Result<Request, Got>
-    requires { Passes carry.old request.peer start request }
-    ensures { Received carry.old (S.rest source.old) (S.faults source.old) request.peer result
-        carry.new (S.rest source.new) (S.faults source.new) }
+) -> Result<(), Got>
+    requires { Passes carry.old request.old.peer start request.old }
+    ensures { Received carry.old (S.rest source.old) (S.faults source.old) request.old.peer
+        (comes_to result request.new) carry.new (S.rest source.new) (S.faults source.new) }
 {
     if is_chunked(request.fields.as_slice()) {
         read_in_chunks(alloc, source, carry, request, start)
@@ -62,13 +63,13 @@ fn read_by_length<S: Source>(
     alloc: Global,
     source: &mut S,
     carry: &mut Carry,
-    mut request: Request,
+    request: &mut Request,
     start: usize,
-) -> Result<Request, Got>
-    requires passes { Passes carry.old request.peer start request }
-    requires plain { is_chunked request.fields ≡ false }
-    ensures { Received carry.old (S.rest source.old) (S.faults source.old) request.peer result
-        carry.new (S.rest source.new) (S.faults source.new) }
+) -> Result<(), Got>
+    requires passes { Passes carry.old request.old.peer start request.old }
+    requires plain { is_chunked request.old.fields ≡ false }
+    ensures { Received carry.old (S.rest source.old) (S.faults source.old) request.old.peer
+        (comes_to result request.new) carry.new (S.rest source.new) (S.faults source.new) }
 {
     let length = body_length(request.fields.as_slice()).unwrap_or(0);
     let used = start + length as usize;
@@ -77,7 +78,7 @@ fn read_by_length<S: Source>(
     }
     request.body = Text::new(alloc, &carry.bytes()[start..used])?;
     carry.use_up(used);
-    Ok(request)
+    Ok(())
 }
 
 /// Reads a body that comes in chunks.
@@ -86,19 +87,19 @@ fn read_in_chunks<S: Source>(
     alloc: Global,
     source: &mut S,
     carry: &mut Carry,
-    mut request: Request,
+    request: &mut Request,
     start: usize,
-) -> Result<Request, Got>
-    requires passes { Passes carry.old request.peer start request }
-    requires chunked { is_chunked request.fields ≡ true }
-    ensures { Received carry.old (S.rest source.old) (S.faults source.old) request.peer result
-        carry.new (S.rest source.new) (S.faults source.new) }
+) -> Result<(), Got>
+    requires passes { Passes carry.old request.old.peer start request.old }
+    requires chunked { is_chunked request.old.fields ≡ true }
+    ensures { Received carry.old (S.rest source.old) (S.faults source.old) request.old.peer
+        (comes_to result request.new) carry.new (S.rest source.new) (S.faults source.new) }
 {
     let Chunks { body, len: begin } = read_chunks(alloc, source, carry, start)?;
     let len = read_trailer(source, carry, start, begin)?;
     request.body = body;
     carry.use_up(start + len);
-    Ok(request)
+    Ok(())
 }
 
 /// Reads chunks and the last line behind them, which begin behind so many bytes.

@@ -96,10 +96,13 @@ fn read_headed<S: Source>(
             status: FIELDS_TOO_LARGE,
         });
     }
-    let request = show_front(alloc, carry.bytes(), head, spans, peer)?;
+    let mut request = show_front(alloc, carry.bytes(), head, spans, peer)?;
     match refusal(&request) {
         Some(status) => Err(Got::Refused { status }),
-        None => read_body(alloc, source, carry, request, head.len),
+        None => {
+            read_body(alloc, source, carry, &mut request, head.len)?;
+            Ok(request)
+        }
     }
 }
 

@@ -15,6 +15,7 @@ ghost use Rattle.tcl_eval.specs.Engine.{Lasts};
 ghost use Rattle.ictl.specs.Within.{defined_own};
 ghost use Rattle.ictl.specs.Falls.{Suffices, StopAsks, DefineAsks, DefineStopAsks, DefineFalls, define_number};
 
+use crate::boxed_text::BoxedText;
 use crate::ending::is_good;
 use crate::running::{Running, Stop};
 use blueprint::script_of;
@@ -32,7 +33,7 @@ use txt_core::{NoMemory, Text, Words};
 #[derive(Drop)]
 pub struct DefineRun {
     pub questions: u64,
-    pub value: Option<Text>,
+    pub value: Option<BoxedText>,
 }
 
 /// What a definition run came to.
@@ -122,7 +123,10 @@ impl DefineRun {
             DefineFalls stop self.new (define_number self.old.questions self.old.value)) }
     {
         match self.value.take() {
-            Some(value) => Ok(DefineStop::Said(published(alloc, value, answer))),
+            Some(value) => {
+                let said = published(alloc, value.into_text(), answer);
+                Ok(DefineStop::Said(said))
+            }
             None => {
                 let came = run.resume(natives, answer, steps)?;
                 let stop = self.stop(alloc, run, came)?;
@@ -189,6 +193,7 @@ impl DefineRun {
             return Ok(DefineStop::Said(Answer::Said(value)));
         }
         let question = publish(alloc, run.engine.made())?;
+        let value = BoxedText::new(alloc, value)?;
         self.value = Some(value);
         Ok(DefineStop::Stands(question))
     }

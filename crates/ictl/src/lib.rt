@@ -4,6 +4,7 @@
 #![tactic(auto)]
 
 mod boxed;
+mod boxed_text;
 mod building;
 mod defining;
 mod ending;

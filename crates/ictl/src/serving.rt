@@ -12,6 +12,7 @@ ghost use Rattle.ictl.specs.Steps.{Lowers, LowersIn, scripts_left, asked_path, E
 ghost use Rattle.ictl.specs.Falls.{IsReady, MoveStandsAt, IsScriptTask, MoveFalls, EndFalls, per_question, PartFalls};
 ghost use Rattle.ictl.specs.Ways.{ChangesTask, IsToWrite, way_from, way_on, visit_from, run_way, call_way, page_way, MovesAlong, WayWithin};
 
+use crate::boxed_text::BoxedText;
 use crate::ending::{Access, After, Ending, Verdict, access_of, verdict_of};
 use crate::interp::Interp;
 use crate::next::Next;
@@ -91,7 +92,7 @@ fn page_words(alloc: Global, task: &Task) -> Result<(Words, u64), NoMemory>
     match task {
         Task::PageAsked { path, budget } => {
             let mut words = Words::new(alloc);
-            add_page_words(alloc, &mut words, path)?;
+            add_page_words(alloc, &mut words, path.get())?;
             Ok((words, *budget))
         }
         _ => unreachable!(),
@@ -113,6 +114,7 @@ fn entered(reply: HostReply) -> Result<Option<Work>, NoMemory>
 
 impl Interp {
     /// Runs a script, a call or a page as this task, from the state as it stands.
+    #[inline(always)]
     pub(crate) fn run<L: Ledger>(
         &mut self,
         natives: &Natives,
@@ -557,11 +559,13 @@ impl Interp {
     {
         self.settling.run.set_out();
         let question = page_question(self.alloc, path.copy(self.alloc)?)?;
+        let path = BoxedText::new(self.alloc, path)?;
         self.task = Task::PageAsked { path, budget };
         Ok(Move::Stops(Next::Asks(question)))
     }
 
     /// A response is to be written.
+    #[inline(always)]
     pub(crate) fn respond(&mut self, response: Response) -> Move
         ensures stops { result ≡ Move.Stops (Next.Write response) }
         ensures task { self.new ≡ record self.old { task = Task.Writing Ending.Answered } }

@@ -73,6 +73,7 @@ pub(crate) fn leave_inner(inner: &mut Option<InnerRun>)
 
 impl Settling {
     /// Runs a script, a call or a page from the global frame on.
+    #[inline(always)]
     pub fn start<L: Ledger>(
         &mut self,
         natives: &Natives,

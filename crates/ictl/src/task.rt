@@ -1,12 +1,13 @@
 //! What an interpreter is at.
 
+use crate::boxed_text::BoxedText;
 use crate::defining::DefineRun;
 use crate::ending::Ending;
 use crate::next::Next;
 use crate::running::Stop;
-use txt_core::Text;
 
-/// Which task is under way. One function says where each ends and what comes next.
+/// Which task is under way. One function says where each ends and what comes next. It is small, since
+/// each step of a run puts the next one in its place.
 #[derive(Drop)]
 pub enum Task {
     /// Nothing was started: it is as newly made.
@@ -18,7 +19,7 @@ pub enum Task {
     /// A postauth filter runs, and the one at this place is the next.
     Postauth { next: usize },
     /// It stands at the question for the first page, and so much of the budget is left.
-    PageAsked { path: Text, budget: u64 },
+    PageAsked { path: BoxedText, budget: u64 },
     /// The procedure runs.
     Procedure,
     /// The first page runs.

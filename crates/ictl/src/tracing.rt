@@ -122,7 +122,7 @@ impl Interp {
             drop(request);
             return Err(NoMemory);
         };
-        self.settling.run.engine.host_mut().serve(request, moment)?;
+        self.settling.run.engine.host_mut().serve(request, moment);
         self.moment = moment;
         self.settling.questions = RUN_QUESTIONS;
         let step = self.first_stage(natives, RUN_BUDGET, steps)?;

@@ -90,16 +90,13 @@ impl RunHost {
 
     /// Begins the run that serves a request, which came at this moment; what was before is left. Set 0
     /// has the request's fields, set 1 none yet for the response, and set 2 the form. The run isn't
-    /// marked. Its only error is want of memory: then the mark alone is taken off.
-    #[inline(never)]
-    pub fn serve(&mut self, request: Request, moment: u64) -> Result<(), NoMemory>
-        ensures ok { OnOk result (self.new ≡ serving request moment self.old.blueprint) }
-        ensures err { OnErr result (self.new ≡ with_mark self.old false) }
+    /// marked. It takes no memory.
+    pub fn serve(&mut self, request: Request, moment: u64)
+        ensures { self.new ≡ serving request moment self.old.blueprint }
     {
         self.unmark();
-        self.conn.serve(request, moment)?;
+        self.conn.serve(request, moment);
         self.enter(Kind::Serving);
-        Ok(())
     }
 
     /// Begins the run of a scheduled script at this moment, without a connection; what was before is

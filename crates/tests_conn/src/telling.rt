@@ -98,7 +98,7 @@ pub type Made = Result<ConnHost, NoMemory>;
 
 /// A host on a request.
 pub fn on(alloc: Global, request: Request) -> Made {
-    ConnHost::new(alloc, request, MOMENT)
+    Ok(ConnHost::new(alloc, request, MOMENT))
 }
 
 /// A host on a request with these fields, this query and this body.

@@ -68,8 +68,8 @@ fn idle(alloc: Global) -> Result<RunHost, NoMemory> {
 }
 
 /// Begins the run of a request.
-fn serve(alloc: Global, host: &mut RunHost) -> Result<(), NoMemory> {
-    host.serve(request(alloc), 7)
+fn serve(alloc: Global, host: &mut RunHost) {
+    host.serve(request(alloc), 7);
 }
 
 /// Begins the run of a scheduled script.
@@ -85,7 +85,10 @@ fn begin_definitions(host: &mut RunHost) -> Result<(), NoMemory> {
 /// Begins a run of the kind of this letter, at moment 7.
 fn begin(alloc: Global, host: &mut RunHost, kind: u8) -> Result<(), NoMemory> {
     match kind {
-        b's' => serve(alloc, host),
+        b's' => {
+            serve(alloc, host);
+            Ok(())
+        }
         b't' => begin_script(host),
         _ => begin_definitions(host),
     }

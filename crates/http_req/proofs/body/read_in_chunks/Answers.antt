@@ -17,8 +17,8 @@ read_chunks-requires-clause-early g c = (start_within _ _ _ _ c.requires.passes)
 pub returns-in_err-body : goal.returns-in_err-body
 returns-in_err-body g c =
     let p = err_from_is_err_and c.from_residual.result c.from_residual.ensures.1 in
-    rw p.1 (received_no_request _ _ _ _ _ _ c.args.request.peer p.0 c.read_chunks.ensures.moves
-    (sent_answer _ _ _ _ _ _ c.args.request.peer c.args.start c.args.request p.0 c.requires.passes c.read_chunks.ensures.moves c.requires.chunked
+    rw p.1 (received_no_request _ _ _ _ _ _ c.args.request.now.peer p.0 c.read_chunks.ensures.moves
+    (sent_answer _ _ _ _ _ _ c.args.request.now.peer c.args.start c.args.request.now p.0 c.requires.passes c.read_chunks.ensures.moves c.requires.chunked
     (subst (λ answer. SentStops (ChunksAt 0 (sent_front c.args.start c.read_chunks.new.carry)) c.read_chunks.new.carry c.args.start (g.S.Source.rest c.args.source.now) (g.S.Source.faults c.args.source.now) (g.S.Source.rest c.read_chunks.new.source) (g.S.Source.faults c.read_chunks.new.source) answer)
     (sym p.2) c.in_err-body.ensures.stops)))
 
@@ -36,8 +36,8 @@ returns-in_err-len g c =
     let chunks = chunks_grow _ c.in_ok-body.field-0.body c.in_ok-body.field-0.len further.0 (sent_front c.args.start c.read_trailer.new.carry) further.1
     c.in_ok-body.ensures.ends in
     let moves = moves_then c.read_chunks.ensures.moves c.read_trailer.ensures.moves in
-    rw p.1 (received_no_request _ _ _ _ _ _ c.args.request.peer p.0 moves
-    (sent_answer _ _ _ _ _ _ c.args.request.peer c.args.start c.args.request p.0 c.requires.passes moves c.requires.chunked
+    rw p.1 (received_no_request _ _ _ _ _ _ c.args.request.now.peer p.0 moves
+    (sent_answer _ _ _ _ _ _ c.args.request.now.peer c.args.start c.args.request.now p.0 c.requires.passes moves c.requires.chunked
     (sent_stops_then c.read_chunks.ensures.moves c.read_trailer.new.carry c.args.start _ _ p.0
     (trailer_stops c.read_trailer.new.carry (sent_front c.args.start c.read_trailer.new.carry) c.in_ok-body.field-0.body c.in_ok-body.field-0.len c.args.start p.0 chunks
     (subst (λ answer. SentStops (λ is. trailing (drop c.in_ok-body.field-0.len (sent_front c.args.start c.read_trailer.new.carry)) ≡ is) c.read_trailer.new.carry c.args.start (g.S.Source.rest c.read_chunks.new.source) (g.S.Source.faults c.read_chunks.new.source) (g.S.Source.rest c.read_trailer.new.source) (g.S.Source.faults c.read_trailer.new.source) answer)
@@ -61,7 +61,7 @@ use_up-requires g c =
     let further = sent_grows c.args.start c.read_trailer.ensures.moves before in
     let chunks = chunks_grow _ c.in_ok-body.field-0.body c.in_ok-body.field-0.len further.0 (sent_front c.args.start c.read_trailer.new.carry) further.1
     c.in_ok-body.ensures.ends in
-    (chunks_whole _ c.read_trailer.new.carry _ _ _ _ c.args.request.peer c.args.start c.args.request (record c.args.request { body = c.in_ok-body.field-0.body }) c.in_ok-body.field-0.body c.in_ok-body.field-0.len c.in_ok-len.len
+    (chunks_whole _ c.read_trailer.new.carry _ _ _ _ c.args.request.now.peer c.args.start c.args.request.now (record c.args.request.now { body = c.in_ok-body.field-0.body }) c.in_ok-body.field-0.body c.in_ok-body.field-0.len c.in_ok-len.len
     c.requires.passes (moves_then c.read_chunks.ensures.moves c.read_trailer.ensures.moves) c.requires.chunked inside chunks c.in_ok-len.ensures.ends refl).1
 
 pub returns : goal.returns
@@ -73,6 +73,6 @@ returns g c =
     let chunks = chunks_grow _ c.in_ok-body.field-0.body c.in_ok-body.field-0.len further.0 (sent_front c.args.start c.read_trailer.new.carry) further.1
     c.in_ok-body.ensures.ends in
     let moves = moves_then c.read_chunks.ensures.moves c.read_trailer.ensures.moves in
-    let gets = (chunks_whole _ c.read_trailer.new.carry _ _ _ _ c.args.request.peer c.args.start c.args.request (record c.args.request { body = c.in_ok-body.field-0.body }) c.in_ok-body.field-0.body c.in_ok-body.field-0.len c.in_ok-len.len
+    let gets = (chunks_whole _ c.read_trailer.new.carry _ _ _ _ c.args.request.now.peer c.args.start c.args.request.now (record c.args.request.now { body = c.in_ok-body.field-0.body }) c.in_ok-body.field-0.body c.in_ok-body.field-0.len c.in_ok-len.len
     c.requires.passes moves c.requires.chunked inside chunks c.in_ok-len.ensures.ends refl).0 in
     received_request _ _ _ _ _ _ _ _ (c.args.start + c.in_ok-len.len) _ moves gets c.use_up.ensures

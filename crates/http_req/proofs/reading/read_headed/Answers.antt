@@ -1,7 +1,9 @@
-use Rattle.std.proofs.Common.{ℕ, List, refl, sym, ◌∙◌, subst, arith}
+use Rattle.std.proofs.Common.{ℕ, List, refl, sym, ◌∙◌, subst, arith, Err}
+use Rattle.std.proofs.lemmas.Result.{err_from_is_err_and}
 use Rattle.http_req.specs.Fronts.{HeadStands}
 use Rattle.http_req.specs.Heads.{front}
-use Rattle.http_req.specs.Readings.{Passes}
+use Rattle.http_req.specs.Readings.{Passes, Received}
+use Rattle.http_req.specs.declared.request.Got.{Got}
 use Rattle.http_req.proofs.Fetches.{moves_none}
 use Rattle.http_req.proofs.Receiving.{crowded, few_shown, passes_head, passes_own_peer, fails_head, received_refusal, received_body}
 use Rattle.http_req.proofs.reading.read_headed.Goals as goal
@@ -29,8 +31,16 @@ read_body-requires g c =
     subst (λ (input : List ℕ). Passes input c.in_ok-request.request.peer c.args.head.now.len c.in_ok-request.request) c.bytes.ensures
     (passes_own_peer c.bytes.result.now c.args.peer.now c.args.head.now.len c.in_ok-request.request passes)
 
+pub returns-in_err-read_body-in-None : goal.returns-in_err-read_body-in-None
+returns-in_err-read_body-in-None g c =
+    let stands : HeadStands (front c.bytes.result.now) c.args.spans.now c.args.head.now = subst (λ (input : List ℕ). HeadStands (front input) c.args.spans.now c.args.head.now) (sym c.bytes.ensures) c.requires in
+    let passes = passes_head c.bytes.result.now c.args.spans.now c.args.head.now c.args.peer.now c.in_ok-request.request stands c.in_ok-request.ensures (sym c.in-None.is ∙ c.refusal.ensures) in
+    let p = err_from_is_err_and c.from_residual-in_err-read_body-in-None.result c.from_residual-in_err-read_body-in-None.ensures.1 in
+    rw p.1 (subst (λ (answer : Got). Received _ _ _ _ (Err answer) _ _ _) (sym p.2)
+    (received_body _ _ _ _ _ _ c.bytes.result.now c.args.peer.now c.args.head.now.len c.in_ok-request.request _ _ _ _ (moves_none _ _ _) passes c.in_err-read_body-in-None.ensures))
+
 pub returns-in-None : goal.returns-in-None
 returns-in-None g c =
     let stands : HeadStands (front c.bytes.result.now) c.args.spans.now c.args.head.now = subst (λ (input : List ℕ). HeadStands (front input) c.args.spans.now c.args.head.now) (sym c.bytes.ensures) c.requires in
     let passes = passes_head c.bytes.result.now c.args.spans.now c.args.head.now c.args.peer.now c.in_ok-request.request stands c.in_ok-request.ensures (sym c.in-None.is ∙ c.refusal.ensures) in
-    received_body _ _ _ _ _ _ c.bytes.result.now c.args.peer.now c.args.head.now.len c.in_ok-request.request _ _ _ _ (moves_none _ _ _) passes c.read_body.ensures
+    received_body _ _ _ _ _ _ c.bytes.result.now c.args.peer.now c.args.head.now.len c.in_ok-request.request _ _ _ _ (moves_none _ _ _) passes c.in_ok-read_body-in-None.ensures

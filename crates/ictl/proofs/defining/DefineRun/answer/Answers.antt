@@ -4,7 +4,7 @@ use Rattle.outside.specs.declared.question.Answer.{Answer}
 use Rattle.cmd_table.specs.Commands.{Writes}
 use Rattle.ictl.specs.Within.{defined_own}
 use Rattle.ictl.specs.Settle.{said}
-use Rattle.ictl.specs.Defines.{define_end, no_inner}
+use Rattle.ictl.specs.Defines.{define_end, no_inner, published}
 use Rattle.ictl.specs.Standing.{state_of, comes_to, define_at}
 use Rattle.ictl.specs.Falls.{DefineFalls, define_number}
 use Rattle.ictl.specs.declared.running.Stop.TheVariants.{Asks}
@@ -41,7 +41,8 @@ pub returns-in-Some-clause-gives : goal.returns-in-Some-clause-gives
 returns-in-Some-clause-gives g c = λ bp m question further.
     let names = names_of c.args.natives.now in
     let d = c.args.self.now in
-    ap (λ (a : Answer). said a c.args.run.now.engine.budget (state_of c.args.run.now) further) c.published.ensures
+    ap (λ (a : Answer). said a c.args.run.now.engine.budget (state_of c.args.run.now) further)
+    (c.published.ensures ∙ ap (λ (value : List ℕ). published value c.args.answer) c.into_text.ensures)
     ∙ ap (λ (v : Option (List ℕ)). define_at names bp m question c.args.run.now d v (c.args.answer ∷ further)) (sym c.in-Some.is ∙ c.take.ensures.value)
 
 pub returns-in_err-came-in-None-clause-most : goal.returns-in_err-came-in-None-clause-most

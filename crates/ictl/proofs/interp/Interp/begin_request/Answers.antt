@@ -23,17 +23,13 @@ moves-requires g c = c.in_ok-step.ensures.next
 pub returns-in_default-clause-most : goal.returns-in_default-clause-most
 returns-in_default-clause-most g c = begun_none _ c.args.steps.now _ (new_writes (names_of c.args.natives.now) c.args.self.now c.requires)
 
-pub returns-in_err-serve-clause-most : goal.returns-in_err-serve-clause-most
-returns-in_err-serve-clause-most g c =
-    wants c.from_residual.result _ (begun_none _ c.args.steps.now _ (new_writes (names_of c.args.natives.now) c.args.self.now c.requires))
-
 pub returns-in_err-step-clause-most : goal.returns-in_err-step-clause-most
 returns-in_err-step-clause-most g c =
-    wants c.from_residual-in_err-step.result _ (let names = names_of c.args.natives.now in
+    wants c.from_residual.result _ (let names = names_of c.args.natives.now in
     let old = c.args.self.now in
     let bp = old.blueprint.value in
     let visit = visit_is names old c.args.request c.enter.new.self c.requires (c.in-Ok.ensures bp.defs c.requires.0.routes) in
-    let state = begun_state names old c.serve.new.self (λ (b : Edition). serving c.args.request c.args.moment b) c.requires.1 (c.in_ok-serve.ensures.ok ∙ ap (λ (h : HostState). serving c.args.request c.args.moment h.blueprint) c.host_mut.ensures.value) in
+    let state = begun_state names old c.serve.new.self (λ (b : Edition). serving c.args.request c.args.moment b) c.requires.1 (c.serve.ensures ∙ ap (λ (h : HostState). serving c.args.request c.args.moment h.blueprint) c.host_mut.ensures.value) in
     let between : Interp = record old {
       settling = record old.settling { run = record { engine = record old.settling.run.engine { host = c.serve.new.self } }; questions = 1800000 };
       moment = c.args.moment;
@@ -54,7 +50,7 @@ returns-clause-stands g c =
     let old = c.args.self.now in
     let bp = old.blueprint.value in
     let visit = visit_is names old c.args.request c.enter.new.self c.requires (c.in-Ok.ensures bp.defs c.requires.0.routes) in
-    let state = begun_state names old c.serve.new.self (λ (b : Edition). serving c.args.request c.args.moment b) c.requires.1 (c.in_ok-serve.ensures.ok ∙ ap (λ (h : HostState). serving c.args.request c.args.moment h.blueprint) c.host_mut.ensures.value) in
+    let state = begun_state names old c.serve.new.self (λ (b : Edition). serving c.args.request c.args.moment b) c.requires.1 (c.serve.ensures ∙ ap (λ (h : HostState). serving c.args.request c.args.moment h.blueprint) c.host_mut.ensures.value) in
     let between : Interp = record old {
       settling = record old.settling { run = record { engine = record old.settling.run.engine { host = c.serve.new.self } }; questions = 1800000 };
       moment = c.args.moment;
@@ -83,7 +79,7 @@ returns-clause-most g c =
     let old = c.args.self.now in
     let bp = old.blueprint.value in
     let visit = visit_is names old c.args.request c.enter.new.self c.requires (c.in-Ok.ensures bp.defs c.requires.0.routes) in
-    let state = begun_state names old c.serve.new.self (λ (b : Edition). serving c.args.request c.args.moment b) c.requires.1 (c.in_ok-serve.ensures.ok ∙ ap (λ (h : HostState). serving c.args.request c.args.moment h.blueprint) c.host_mut.ensures.value) in
+    let state = begun_state names old c.serve.new.self (λ (b : Edition). serving c.args.request c.args.moment b) c.requires.1 (c.serve.ensures ∙ ap (λ (h : HostState). serving c.args.request c.args.moment h.blueprint) c.host_mut.ensures.value) in
     let between : Interp = record old {
       settling = record old.settling { run = record { engine = record old.settling.run.engine { host = c.serve.new.self } }; questions = 1800000 };
       moment = c.args.moment;

@@ -2,7 +2,7 @@ use Rattle.std.proofs.Common.{◌≡◌, ◌<◌, ℕ, List, [], ◌∷◌, ◌+
 use Rattle.ns_sets.specs.Fields.{Field}
 use Rattle.ns_sets.specs.Sets.{fields_of}
 use Rattle.conn_host.proofs.Fields.{one_more_taken}
-use Rattle.conn_host.proofs.host.add_fields.Goals as goal
+use Rattle.conn_host.proofs.conn.add_fields.Goals as goal
 
 pub fields-preserved : goal.fields-preserved
 fields-preserved c =

@@ -1,6 +1,6 @@
 use Rattle.std.proofs.Common.{◌≡◌, ◌≤◌, ◌++◌, length, take}
 use Rattle.ns_sets.specs.Sets.{fields_of}
-use Rattle.conn_host.proofs.host.add_fields.Given as goal
+use Rattle.conn_host.proofs.conn.add_fields.Given as goal
 
 -- copies of the set's fields so far stand behind those that were there
 abbrev pub invariant-fields : goal.invariant-fields

@@ -5,7 +5,7 @@ use Rattle.ns_sets.specs.Sets.{fields_of, with_fields}
 use Rattle.ns_sets.specs.declared.set.Set.{Set}
 use Rattle.conn_host.specs.Conns.{unnamed}
 use Rattle.conn_host.proofs.OneMoreField.{one_more}
-use Rattle.conn_host.proofs.host.add_set.Goals as goal
+use Rattle.conn_host.proofs.conn.add_set.Goals as goal
 
 pub fields-preserved : goal.fields-preserved
 fields-preserved c =
