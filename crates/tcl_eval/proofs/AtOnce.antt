@@ -80,7 +80,8 @@ module _ {H : Type 0} (s : State H) (b : ℕ) (g : Given) where
       (λ is. made_gives (ended 0 (codes "1")) w k is) (λ is. right_gives op left found way k w h is) e
 
 module _ {H : Type 0} (ns : Names) (t : LeafTable H) (levels : ℕ) (s : State H) (b : ℕ) (g : Given) where
-  word_gives : (ps : Parts) (so_far : SoFar) (k : Next H) (w : Ended) → rest_of_word s.frames ps so_far ≡ Some w → give w k s b g ≡ run_kept (nested ns t levels) ps so_far k s b g
+  -- a word of which this is kept
+  pub word_gives : (ps : Parts) (so_far : SoFar) (k : Next H) (w : Ended) → rest_of_word s.frames ps so_far ≡ Some w → give w k s b g ≡ run_kept (nested ns t levels) ps so_far k s b g
   word_gives no_parts so_far k w e =
       made_gives s b g (kept_value so_far) w k e ∙ kept_end (nested ns t levels) so_far k s b g
   word_gives (part (text bytes) ps) so_far k w e =

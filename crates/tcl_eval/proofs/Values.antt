@@ -1,7 +1,7 @@
 -- What comes at once behind a value.
 use Rattle.std.proofs.Common.{◌≡◌, ◌≢◌, ◌≤◌, ℕ, zero, suc, List, length, Bool, Option, Some, cond, refl, ap, ◌∙◌}
 use Rattle.std.proofs.lemmas.Bool.{le-ltb}
-use Rattle.tcl_parse.specs.Tree.{variable, no_parts, part}
+use Rattle.tcl_parse.specs.Tree.{text, variable, no_parts, part}
 use Rattle.tcl_frame.specs.Stack.{Stack}
 use Rattle.tcl_eval.specs.Messages.{too_long}
 use Rattle.tcl_eval.specs.Results.{most_bytes, ended, read_as}
@@ -30,3 +30,9 @@ variable_at_once frames name value e short =
     ap (λ (v : Ended). on_value (Some v) (λ x. Some (kept_value (grown (Kept []) x)))) e
     ∙ ap (λ (c : Bool). Some (kept_value (cond c TooLong (Kept value)))) (le-ltb most_bytes (length value) short)
     ∙ ap (λ (c : Bool). Some (cond c (ended 1 too_long) (ended 0 value))) (le-ltb most_bytes (length value) short)
+
+-- and so are bytes alone
+pub text_at_once : (frames : Stack) (bytes : List ℕ) → length bytes ≤ most_bytes → word_at_once frames (part (text bytes) no_parts) ≡ Some (ended 0 bytes)
+text_at_once frames bytes short =
+    ap (λ (c : Bool). Some (kept_value (cond c TooLong (Kept bytes)))) (le-ltb most_bytes (length bytes) short)
+    ∙ ap (λ (c : Bool). Some (cond c (ended 1 too_long) (ended 0 bytes))) (le-ltb most_bytes (length bytes) short)

@@ -28,7 +28,6 @@ pub mod Verbs
 pub mod Places
 pub mod Kept
 pub mod Short
-pub mod Simple
 pub mod Stack
 pub mod Straight
 pub mod Clauses

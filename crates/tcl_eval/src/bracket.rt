@@ -15,7 +15,6 @@ ghost use Rattle.tcl_eval.specs.Engine.{Holds};
 use crate::engine::Engine;
 use crate::gather::Gathered;
 use crate::place::{Seen, has_command, look, pieces_at};
-use crate::simple::Simple;
 use crate::stack::Ended;
 use crate::straight::Tried;
 use crate::value::judged;
@@ -156,7 +155,7 @@ impl<H: Host> Engine<H> {
     }
 
     /// Puts the value of a command's next word behind those of its first ones.
-    fn take_word(&self, values: &mut Gathered, value: Ended) -> Result<Passed, NoMemory>
+    pub(crate) fn take_word(&self, values: &mut Gathered, value: Ended) -> Result<Passed, NoMemory>
         ensures means { IfOk result (λ passed.
             (names : Names) (levels : ℕ) (all : Words)
             → Alike self.now self.now
@@ -185,6 +184,7 @@ impl<H: Host> Engine<H> {
 
     /// Puts the value of a command's next word, which has these pieces, behind those of its first ones,
     /// where it is one bracket of one command that comes to a value straight away.
+    #[inline(never)]
     fn pass_bracket(
         &mut self,
         natives: &Natives,
@@ -243,15 +243,15 @@ impl<H: Host> Engine<H> {
         ensures holds { Holds self.new self.old }
     {
         match self.simple_words(all, values)? {
-            Simple::Fails(value) => Ok(Passed::Ends(value)),
-            Simple::Costly => Ok(Passed::Costly),
-            Simple::Stands => match pieces_at(all, values.len()) {
+            Passed::All => Ok(Passed::All),
+            Passed::Left => match pieces_at(all, values.len()) {
                 None => Ok(Passed::All),
                 Some(pieces) => {
                     let passed = self.pass_bracket(natives, pieces, values, levels)?;
                     Ok(passed)
                 }
             },
+            passed => Ok(passed),
         }
     }
 }

@@ -212,6 +212,7 @@ impl<H: Host> Engine<H> {
 
     /// Does a command whose words are all there, where it is an `if` that comes to a value straight away, and
     /// pays for it. So many levels are left to its body.
+    #[inline(never)]
     fn try_if(
         &mut self,
         natives: &Natives,

@@ -16,6 +16,7 @@ pub const TURN_COST: u128 = 1;
 pub const EVALUATION_COST: u128 = 1;
 
 /// What so many bytes cost.
+#[inline(always)]
 fn bytes_cost(bytes: u128) -> u128
     ensures { result ≡ bytes_cost bytes }
 {
@@ -23,6 +24,7 @@ fn bytes_cost(bytes: u128) -> u128
 }
 
 /// What a command costs whose words have so many bytes.
+#[inline(always)]
 pub fn words_cost(bytes: u128) -> u128
     ensures { result ≡ words_cost bytes }
 {

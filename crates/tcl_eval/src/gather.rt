@@ -83,10 +83,24 @@ impl Gathered {
     }
 
     /// How many values there are.
+    #[inline(always)]
     pub fn len(&self) -> usize
         ensures { result ≡ length self.now }
     {
         self.words.len()
+    }
+
+    /// Puts a copy of a value at the end. Its only error is want of memory.
+    #[inline(always)]
+    pub fn push_copy(&mut self, alloc: Global, word: &Text) -> Result<(), NoMemory>
+        ensures { OnOk result (self.new ≡ self.old ++ word.now ∷ []) }
+    {
+        let Some(bytes) = self.bytes.checked_add(word.len() as u64) else {
+            return Err(NoMemory);
+        };
+        self.words.add(word.copy(alloc)?)?;
+        self.bytes = bytes;
+        Ok(())
     }
 
     /// Puts a value at the end. Its only error is want of memory.
@@ -117,6 +131,7 @@ impl Gathered {
     }
 
     /// What a command of these words costs.
+    #[inline(always)]
     pub fn cost(&self) -> u128
         ensures { result ≡ command_cost self.now }
     {

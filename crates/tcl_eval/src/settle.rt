@@ -13,10 +13,11 @@ ghost use Rattle.tcl_eval.specs.Engine.{Holds, Keeps, Same, Pays, Stays, Remains
 ghost use Rattle.tcl_eval.specs.Clauses.{GivesFrame, IsLighter, IsNoHeavier, StepIs};
 ghost use Rattle.tcl_eval.specs.declared.stack.Frame.{Frame};
 
+use crate::bracket::Passed;
 use crate::engine::Engine;
 use crate::gather::{Gathered, SoFar};
 use crate::place::{Place, Seen, has_command, has_word, words_of};
-use crate::simple::{Simple, variable_value};
+use crate::simple::variable_value;
 use crate::stack::{AtRest, Ended, Frame, Ready, Step};
 use crate::straight::{Stand, Tried};
 use crate::value::{done, kept_value};
@@ -220,11 +221,14 @@ impl<H: Host> Engine<H> {
         ensures keeps { IfOk result (λ step. Stays step self.new self.old) }
         ensures holds { Holds self.new self.old }
     {
-        let simple = self.simple_words(words_of(&script, at), &mut values)?;
-        match simple {
-            Simple::Stands => self.try_words(natives, script, at, values, levels),
-            Simple::Fails(value) => Ok(Step::Value(value)),
-            Simple::Costly => self.next_costly(script, at, values.len(), levels),
+        let passed = self.simple_words(words_of(&script, at), &mut values)?;
+        match passed {
+            Passed::All => self.try_words(natives, script, at, values, levels),
+            Passed::Ends(value) => Ok(Step::Value(value)),
+            Passed::Spent => Ok(Step::Stop(Ready::Spent)),
+            Passed::Costly => self.next_costly(script, at, values.len(), levels),
+            Passed::On => self.enter_word(script, at, values, levels),
+            Passed::Left => self.enter_word(script, at, values, levels),
         }
     }
 

@@ -1,54 +1,28 @@
 //! Words that are made of bytes and of scalar variables, for which nothing is run.
 
-ghost use Rattle.std.specs.Prelude.{◌≡◌, ◌≤◌, ℕ, [], length, map, IfOk, Some};
+ghost use Rattle.std.specs.Prelude.{◌≡◌, ◌≤◌, ℕ, length, map, IfOk, IfSome, Some};
+ghost use Rattle.txt_core.specs.Limits.{most_bytes};
 ghost use Rattle.txt_core.specs.Names.{Names};
-ghost use Rattle.tcl_parse.specs.Tree.{variable, no_parts, part, parts, words};
+ghost use Rattle.tcl_parse.specs.Tree.{Words, parts, words};
 ghost use Rattle.tcl_parse.specs.View.{part_of, word_of};
-ghost use Rattle.tcl_eval.specs.Eval.{read_as, run_words, nested};
-ghost use Rattle.tcl_eval.specs.Places.{words_from, words_size};
-ghost use Rattle.tcl_eval.specs.Simple.{simple_parts, simple_next, PieceKept, Comes};
+ghost use Rattle.tcl_host.specs.Codes as code_of;
+ghost use Rattle.tcl_eval.specs.Eval.{ended, read_as, run_words, nested};
+ghost use Rattle.tcl_eval.specs.AtOnce.{IsPassed, word_at_once};
+ghost use Rattle.tcl_eval.specs.Brackets.{IsWordAt, LeavesAsSaid, passed_next};
+ghost use Rattle.tcl_eval.specs.Places.{words_from};
 ghost use Rattle.tcl_eval.specs.Straight.{Alike};
-ghost use Rattle.tcl_eval.specs.declared.gather.SoFar.{SoFar};
 
+use crate::bracket::Passed;
 use crate::engine::Engine;
 use crate::gather::{Gathered, SoFar};
-use crate::place::{Seen, look, pieces_at};
+use crate::place::pieces_at;
 use crate::stack::Ended;
-use crate::value::{done, error, judged, kept_value};
+use crate::value::{error, kept_value};
 use std::alloc::Global;
 use tcl_frame::{Frames, VarFault, variable_fault};
 use tcl_host::{Host, OK};
 use tcl_parse::{Piece, Word};
-use txt_core::{NoMemory, Text};
-
-/// What a word comes to.
-#[derive(Drop)]
-pub enum Plain {
-    Gives(Ended),
-    /// It has a bracket or an element of an array, for which something is run.
-    Runs,
-}
-
-/// Where a command stands behind the next of its words for which nothing is run.
-#[derive(Drop)]
-pub enum Simple {
-    /// All its words are there, or something is run for the next one.
-    Stands,
-    /// This is what a word comes to: it is too long, or a variable can't be read.
-    Fails(Ended),
-    /// Its first words cost more than is left of the budget.
-    Costly,
-}
-
-/// What is kept of a word behind one more piece.
-#[derive(Drop)]
-pub enum Grown {
-    On(SoFar),
-    /// This is what the word comes to: a variable can't be read.
-    Ends(Ended),
-    /// Something is run for the piece.
-    Runs,
-}
+use txt_core::{MOST_BYTES, NoMemory, Text};
 
 /// The value of a variable, or the error of reading it.
 pub fn variable_value(alloc: Global, frames: &Frames, name: &Text) -> Result<Ended, NoMemory>
@@ -61,158 +35,182 @@ pub fn variable_value(alloc: Global, frames: &Frames, name: &Text) -> Result<End
     }
 }
 
-/// What a word comes to that is the value of this variable.
-fn variable_word(alloc: Global, frames: &Frames, name: &Text) -> Result<Ended, NoMemory>
-    ensures { IfOk result (λ word.
-        Some word ≡ simple_parts frames.now (part (variable name.now) no_parts) (SoFar.Kept [])) }
+/// This text, where it isn't too long for a word.
+#[inline(always)]
+fn within_limit(text: &Text) -> Option<&Text>
+    ensures same { IfSome result (λ same. same.now ≡ text.now) }
+    ensures short { IfSome result (λ same. length same.now ≤ most_bytes) }
 {
-    let value = variable_value(alloc, frames, name)?;
-    if value.code != OK {
-        return Ok(value);
+    if text.len() > MOST_BYTES {
+        return None;
     }
-    let word = judged(alloc, value.result)?;
-    Ok(word)
+    Some(text)
 }
 
-/// What a word comes to that is this piece.
-fn piece_word(alloc: Global, frames: &Frames, piece: &Piece) -> Result<Plain, NoMemory>
-    ensures { IfOk result (λ plain.
-        Comes plain frames.now (part (part_of piece.now) no_parts) (SoFar.Kept [])) }
+/// The value of a variable that is there, and isn't too long for a word, without a copy.
+#[inline(always)]
+fn ready_variable<'a>(frames: &'a Frames, name: &Text) -> Option<&'a Text>
+    ensures value { IfSome result (λ text.
+        read_as frames.now name.now ≡ ended code_of.ok text.now) }
+    ensures short { IfSome result (λ text. length text.now ≤ most_bytes) }
 {
-    match look(piece) {
-        Seen::Bytes(bytes) => {
-            let copy = bytes.copy(alloc)?;
-            let word = judged(alloc, copy)?;
-            Ok(Plain::Gives(word))
-        }
-        Seen::Variable(name) => {
-            let word = variable_word(alloc, frames, name)?;
-            Ok(Plain::Gives(word))
-        }
-        Seen::Element(_) => Ok(Plain::Runs),
-        Seen::Bracket(_) => Ok(Plain::Runs),
+    match frames.value(name) {
+        Err(_) => None,
+        Ok(text) => within_limit(text),
+    }
+}
+
+/// The value of a word that is bytes alone, or a variable alone, which is there, without a copy. Of any
+/// other word, and of one that is too long, this says nothing.
+#[inline(always)]
+#[tactic(auto, using(crate::proofs::Values::text_at_once, crate::proofs::Values::variable_at_once))]
+pub fn ready_text<'a>(frames: &'a Frames, pieces: &'a [Piece]) -> Option<&'a Text>
+    ensures { IfSome result (λ text.
+        word_at_once frames.now (parts (map part_of pieces.now))
+        ≡ Some (ended code_of.ok text.now)) }
+{
+    let (piece, behind) = pieces.split_first()?;
+    if !behind.is_empty() {
+        return None;
+    }
+    match piece {
+        Piece::Bytes(bytes) => within_limit(bytes),
+        Piece::Var(name) => ready_variable(frames, name),
+        Piece::Elem(_, _) => None,
+        Piece::Sub(_) => None,
     }
 }
 
 /// Whether nothing is run for any of these pieces.
 fn are_simple(pieces: &[Piece]) -> bool {
     for piece in pieces {
-        match look(piece) {
-            Seen::Bytes(_) => {}
-            Seen::Variable(_) => {}
-            Seen::Element(_) => return false,
-            Seen::Bracket(_) => return false,
+        match piece {
+            Piece::Bytes(_) => {}
+            Piece::Var(_) => {}
+            Piece::Elem(_, _) => return false,
+            Piece::Sub(_) => return false,
         }
     }
     true
 }
 
-/// What is kept of a word behind the value of this variable.
-fn grow_by_variable(
+/// What is kept of a word with the value of a variable behind it, or the error of reading that.
+fn with_variable(
     alloc: Global,
     frames: &Frames,
     so_far: SoFar,
     name: &Text,
-) -> Result<Grown, NoMemory>
-    ensures { IfOk result (λ grown. PieceKept grown frames.now (variable name.now) so_far) }
+) -> Result<Result<SoFar, Ended>, NoMemory>
+    ensures { IfOk result (λ found. IsPassed (read_as frames.now name.now) so_far found) }
 {
-    let value = variable_value(alloc, frames, name)?;
-    if value.code != OK {
-        return Ok(Grown::Ends(value));
-    }
-    let after = so_far.with(value.result.bytes())?;
-    Ok(Grown::On(after))
-}
-
-/// What is kept of a word behind this piece.
-fn grow(alloc: Global, frames: &Frames, so_far: SoFar, piece: &Piece) -> Result<Grown, NoMemory>
-    ensures { IfOk result (λ grown. PieceKept grown frames.now (part_of piece.now) so_far) }
-{
-    match look(piece) {
-        Seen::Bytes(bytes) => {
-            let after = so_far.with(bytes.bytes())?;
-            Ok(Grown::On(after))
+    match frames.value(name) {
+        Ok(value) => {
+            let after = so_far.with(value.bytes())?;
+            Ok(Ok(after))
         }
-        Seen::Variable(name) => {
-            let after = grow_by_variable(alloc, frames, so_far, name)?;
-            Ok(after)
+        Err(VarFault::NoMemory) => {
+            drop(so_far);
+            Err(NoMemory)
         }
-        Seen::Element(_) => Ok(Grown::Runs),
-        Seen::Bracket(_) => Ok(Grown::Runs),
+        Err(why) => {
+            drop(so_far);
+            let value = error(alloc, variable_fault(alloc, why, name.bytes())?)?;
+            Ok(Err(value))
+        }
     }
 }
 
-/// What a word of these pieces comes to.
-fn joined_word(alloc: Global, frames: &Frames, pieces: &[Piece]) -> Result<Plain, NoMemory>
-    ensures { IfOk result (λ plain.
-        Comes plain frames.now (parts (map part_of pieces.now)) (SoFar.Kept [])) }
+/// What a word comes to that has neither a bracket nor an element of an array; `None` for any other one,
+/// of which nothing is looked at.
+#[inline(never)]
+pub fn simple_word(
+    alloc: Global,
+    frames: &Frames,
+    pieces: &[Piece],
+) -> Result<Option<Ended>, NoMemory>
+    ensures { IfOk result (λ found.
+        IfSome found (λ value.
+        word_at_once frames.now (parts (map part_of pieces.now)) ≡ Some value)) }
 {
+    if !are_simple(pieces) {
+        return Ok(None);
+    }
     let mut so_far = SoFar::Kept(Text::empty(alloc));
-    'pieces: for piece in pieces {
-        match grow(alloc, frames, so_far, piece)? {
-            Grown::On(after) => so_far = after,
-            Grown::Ends(value) => return Ok(Plain::Gives(value)),
-            Grown::Runs => return Ok(Plain::Runs),
+    let mut left = pieces;
+    'pieces: while let Some((piece, behind)) = left.split_first() {
+        match piece {
+            Piece::Bytes(bytes) => so_far = so_far.with(bytes.bytes())?,
+            Piece::Var(name) => match with_variable(alloc, frames, so_far, name)? {
+                Ok(after) => so_far = after,
+                Err(value) => return Ok(Some(value)),
+            },
+            Piece::Elem(_, _) => return Ok(None),
+            Piece::Sub(_) => return Ok(None),
         }
+        left = behind;
     }
-    let word = kept_value(alloc, so_far)?;
-    Ok(Plain::Gives(word))
-}
-
-/// What a word of these pieces comes to. Where something is run for a piece, nothing is looked at.
-pub fn simple_word(alloc: Global, frames: &Frames, pieces: &[Piece]) -> Result<Plain, NoMemory>
-    ensures { IfOk result (λ plain.
-        Comes plain frames.now (parts (map part_of pieces.now)) (SoFar.Kept [])) }
-{
-    match pieces {
-        [] => Ok(Plain::Gives(done(alloc))),
-        [piece] => {
-            let word = piece_word(alloc, frames, piece)?;
-            Ok(word)
-        }
-        _ => {
-            if !are_simple(pieces) {
-                return Ok(Plain::Runs);
-            }
-            let word = joined_word(alloc, frames, pieces)?;
-            Ok(word)
-        }
-    }
+    Ok(Some(kept_value(alloc, so_far)?))
 }
 
 impl<H: Host> Engine<H> {
+    /// Puts the value of a command's next word, which has these pieces, behind those of its first ones,
+    /// where nothing is run for it.
+    #[inline(never)]
+    fn other_word(&self, pieces: &[Piece], values: &mut Gathered) -> Result<Passed, NoMemory>
+        ensures means { IfOk result (λ passed.
+            (names : Names) (levels : ℕ) (all : Words)
+            → IsWordAt (parts (map part_of pieces.now)) (length values.old) all
+            → Alike self.now self.now
+            (passed_next names H.table (nested names H.table levels) passed
+            (words_from (length values.new) all) values.new)
+            (run_words names H.table (nested names H.table levels)
+            (words_from (length values.old) all) values.old)) }
+        ensures less { IfOk result (λ passed.
+            (all : Words) → IsWordAt (parts (map part_of pieces.now)) (length values.old) all
+            → LeavesAsSaid passed (words_from (length values.new) all)
+            (words_from (length values.old) all)) }
+    {
+        match simple_word(self.alloc, &self.frames, pieces)? {
+            None => Ok(Passed::Left),
+            Some(value) => {
+                let passed = self.take_word(values, value)?;
+                Ok(passed)
+            }
+        }
+    }
+
     /// Puts the values of a command's next words behind those of its first ones, up to a word for
     /// which something is run.
     pub(crate) fn simple_words(
         &self,
         all: &[Word],
         values: &mut Gathered,
-    ) -> Result<Simple, NoMemory>
-        ensures means { IfOk result (λ simple.
+    ) -> Result<Passed, NoMemory>
+        ensures means { IfOk result (λ passed.
             (names : Names) (levels : ℕ)
             → Alike self.now self.now
-            (simple_next names H.table (nested names H.table levels) simple
+            (passed_next names H.table (nested names H.table levels) passed
             (words_from (length values.new) (words (map word_of all.now))) values.new)
             (run_words names H.table (nested names H.table levels)
             (words_from (length values.old) (words (map word_of all.now))) values.old)) }
-        ensures shorter { IfOk result (λ simple.
-            words_size (words_from (length values.new) (words (map word_of all.now))) ≤ words_size
+        ensures less { IfOk result (λ passed.
+            LeavesAsSaid passed (words_from (length values.new) (words (map word_of all.now)))
             (words_from (length values.old) (words (map word_of all.now)))) }
     {
         'words: while let Some(pieces) = pieces_at(all, values.len()) {
-            match simple_word(self.alloc, &self.frames, pieces)? {
-                Plain::Runs => return Ok(Simple::Stands),
-                Plain::Gives(value) => {
-                    if value.code != OK {
-                        return Ok(Simple::Fails(value));
+            match ready_text(&self.frames, pieces) {
+                Some(text) => {
+                    values.push_copy(self.alloc, text)?;
+                    if (self.budget as u128) < values.cost() {
+                        return Ok(Passed::Costly);
                     }
-                    values.push(value.result)?;
                 }
-            }
-            if (self.budget as u128) < values.cost() {
-                return Ok(Simple::Costly);
+                None => match self.other_word(pieces, values)? {
+                    Passed::On => {}
+                    passed => return Ok(passed),
+                },
             }
         }
-        Ok(Simple::Stands)
+        Ok(Passed::All)
     }
 }

@@ -1,130 +1,40 @@
 //! Expressions that are evaluated at once: those that can't be suspended.
 
-ghost use Rattle.std.specs.Prelude.{◌≡◌, ◌≤◌, length, IfOk, IfSome, Some, map};
-ghost use Rattle.txt_core.specs.Limits.{most_bytes};
+ghost use Rattle.std.specs.Prelude.{◌≡◌, IfOk, IfSome, Some};
 ghost use Rattle.txt_core.specs.Truth.{truth};
-ghost use Rattle.tcl_parse.specs.Tree.{parts};
-ghost use Rattle.tcl_parse.specs.View.{part_of};
 ghost use Rattle.tcl_expr.specs.View.{tree_of};
 ghost use Rattle.tcl_expr.specs.Trees.{unary, binary, choice};
 ghost use Rattle.tcl_host.specs.Codes as code_of;
-ghost use Rattle.tcl_eval.specs.Results.{ended, error_of, read_as};
+ghost use Rattle.tcl_eval.specs.Results.{ended, error_of};
 ghost use Rattle.tcl_eval.specs.Messages.{no_boolean};
 ghost use Rattle.tcl_eval.specs.Expressions.{way_of};
-ghost use Rattle.tcl_eval.specs.AtOnce.{IsPassed, on_truth, word_at_once, right_at_once, left_at_once, at_once};
+ghost use Rattle.tcl_eval.specs.AtOnce.{on_truth, right_at_once, left_at_once, at_once};
 
-use crate::gather::SoFar;
 use crate::message::no_boolean;
 use crate::operation::{Way, way_of, with_one, with_two};
 use crate::place::only_pieces;
+use crate::simple::{ready_text, simple_word};
 use crate::stack::Ended;
-use crate::value::{error, kept_value};
+use crate::value::error;
 use std::alloc::Global;
 use tcl_expr::{Expr, Op};
-use tcl_frame::{Frames, VarFault, variable_fault};
+use tcl_frame::Frames;
 use tcl_host::OK;
-use tcl_parse::Piece;
-use txt_core::{MOST_BYTES, NoMemory, Text, read_truth};
+use txt_core::{NoMemory, Text, read_truth};
 
-/// The value of a variable that is there, and isn't too long for a word, without a copy.
-fn variable<'a>(frames: &'a Frames, name: &Text) -> Option<&'a Text>
-    ensures value { IfSome result (λ text.
-        read_as frames.now name.now ≡ ended code_of.ok text.now) }
-    ensures short { IfSome result (λ text. length text.now ≤ most_bytes) }
-{
-    match frames.value(name) {
-        Err(_) => None,
-        Ok(text) => {
-            if text.len() > MOST_BYTES {
-                return None;
-            }
-            Some(text)
-        }
-    }
-}
-
-/// The value of a word that is a variable alone, which is there, without a copy. Of any other word this
-/// says nothing.
-#[tactic(auto, using(crate::proofs::Values::variable_at_once))]
-fn variable_word<'a>(frames: &'a Frames, pieces: &[Piece]) -> Option<&'a Text>
-    ensures { IfSome result (λ text.
-        word_at_once frames.now (parts (map part_of pieces.now))
-        ≡ Some (ended code_of.ok text.now)) }
-{
-    let (piece, behind) = pieces.split_first()?;
-    if !behind.is_empty() {
-        return None;
-    }
-    match piece {
-        Piece::Var(name) => variable(frames, name),
-        Piece::Bytes(_) => None,
-        Piece::Elem(_, _) => None,
-        Piece::Sub(_) => None,
-    }
-}
-
-/// The value of an expression that is a literal, or a variable that is there, without a copy. Of any
-/// other one this says nothing.
+/// The value of an expression that is a literal, or a word of bytes alone or of a variable alone, which is
+/// there, without a copy. Of any other one this says nothing.
 fn leaf<'a>(frames: &'a Frames, expr: &'a Expr) -> Option<&'a Text>
     ensures { IfSome result (λ text.
         at_once frames.now (tree_of expr.now) ≡ Some (ended code_of.ok text.now)) }
 {
     match expr {
         Expr::Value(text) => Some(text),
-        Expr::Word(word) => variable_word(frames, only_pieces(word)),
+        Expr::Word(word) => ready_text(frames, only_pieces(word)),
         Expr::Unary(_, _) => None,
         Expr::Binary(_, _, _) => None,
         Expr::Choice(_, _, _) => None,
     }
-}
-
-/// What is kept of a word with the value of a variable behind it, or the error of reading that.
-fn with_variable(
-    alloc: Global,
-    frames: &Frames,
-    so_far: SoFar,
-    name: &Text,
-) -> Result<Result<SoFar, Ended>, NoMemory>
-    ensures { IfOk result (λ found. IsPassed (read_as frames.now name.now) so_far found) }
-{
-    match frames.value(name) {
-        Ok(value) => {
-            let after = so_far.with(value.bytes())?;
-            Ok(Ok(after))
-        }
-        Err(VarFault::NoMemory) => {
-            drop(so_far);
-            Err(NoMemory)
-        }
-        Err(why) => {
-            drop(so_far);
-            let value = error(alloc, variable_fault(alloc, why, name.bytes())?)?;
-            Ok(Err(value))
-        }
-    }
-}
-
-/// What a word comes to that has neither a bracket nor an element. Of any other one this says nothing.
-fn simple_word(alloc: Global, frames: &Frames, pieces: &[Piece]) -> Result<Option<Ended>, NoMemory>
-    ensures { IfOk result (λ found.
-        IfSome found (λ value.
-        word_at_once frames.now (parts (map part_of pieces.now)) ≡ Some value)) }
-{
-    let mut so_far = SoFar::Kept(Text::empty(alloc));
-    let mut left = pieces;
-    'pieces: while let Some((piece, behind)) = left.split_first() {
-        match piece {
-            Piece::Bytes(bytes) => so_far = so_far.with(bytes.bytes())?,
-            Piece::Var(name) => match with_variable(alloc, frames, so_far, name)? {
-                Ok(after) => so_far = after,
-                Err(value) => return Ok(Some(value)),
-            },
-            Piece::Elem(_, _) => return Ok(None),
-            Piece::Sub(_) => return Ok(None),
-        }
-        left = behind;
-    }
-    Ok(Some(kept_value(alloc, so_far)?))
 }
 
 /// The error of a value that has no truth.

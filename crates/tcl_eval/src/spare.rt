@@ -66,6 +66,7 @@ impl Spare {
     }
 
     /// No values, in room that was used before where there is any. It takes no memory.
+    #[inline(always)]
     pub(crate) fn take(&mut self, alloc: Global) -> Gathered
         ensures { result ≡ [] }
     {

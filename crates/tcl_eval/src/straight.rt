@@ -21,9 +21,8 @@ use crate::engine::Engine;
 use crate::expr_reading::ExprReading;
 use crate::expression::{MOST_AT_ONCE, value_ended};
 use crate::gather::Gathered;
-use crate::place::{has_command, has_word, words_of};
+use crate::place::{has_command, words_of};
 use crate::read_expr::ReadExpr;
-use crate::simple::Simple;
 use crate::simple_value::simple_value;
 use crate::stack::Ended;
 use crate::value::{do_break, do_continue, do_error, do_return, failed, too_long};
@@ -195,6 +194,7 @@ impl<H: Host> Engine<H> {
     }
 
     /// Pays for the result of a command; `None` where it costs more than is left of the budget.
+    #[inline(always)]
     pub(crate) fn pay_result(&mut self, value: Ended) -> Result<Option<Ended>, NoMemory>
         ensures means { IfOk result (λ paid.
             Alike self.new self.old (paid_next paid) (λ k.
@@ -212,6 +212,7 @@ impl<H: Host> Engine<H> {
     }
 
     /// Pays for the result of a command that came to this value.
+    #[inline(always)]
     pub(crate) fn end_tried(&mut self, value: Ended) -> Result<Tried, NoMemory>
         ensures means { IfOk result (λ tried.
             (names : Names) (inner : Inner H) (words : Words) (k : Next H) (given : Given)
@@ -229,6 +230,7 @@ impl<H: Host> Engine<H> {
     }
 
     /// Pays for a command of this cost, which came to this value.
+    #[inline(always)]
     fn pay_tried(&mut self, cost: u64, value: Ended) -> Result<Tried, NoMemory>
         requires { cost ≤ self.old.budget }
         ensures means { IfOk result (λ tried.
@@ -369,15 +371,15 @@ impl<H: Host> Engine<H> {
     {
         let mut values = self.spare.take(self.alloc);
         match self.simple_words(words_of(script, at), &mut values)? {
-            Simple::Fails(value) => Ok(Tried::Gives(value)),
-            Simple::Costly => Ok(Tried::Costly(values.len())),
-            Simple::Stands => {
-                if has_word(script, at, values.len()) {
-                    return Ok(Tried::Left(values));
-                }
+            Passed::Ends(value) => Ok(Tried::Gives(value)),
+            Passed::All => {
                 let tried = self.try_command(natives, values)?;
                 Ok(tried)
             }
+            Passed::Spent => Ok(Tried::Spent),
+            Passed::Costly => Ok(Tried::Costly(values.len())),
+            Passed::On => Ok(Tried::Left(values)),
+            Passed::Left => Ok(Tried::Left(values)),
         }
     }
 
