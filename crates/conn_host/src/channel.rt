@@ -6,8 +6,8 @@ ghost use Rattle.tcl_host.specs.Outcomes.{Comes, EndsWith};
 ghost use Rattle.conn_host.specs.ChannelCommands.{open_page, opens, line_length, page_answered, gets, read, eof, close};
 
 use crate::checks::{count, require_count};
-use crate::error::too_many_channels;
 use crate::conn::Conn;
+use crate::error::too_many_channels;
 use crate::id::{channel_at, channel_id};
 use chan_core::{ChanFault, Chans};
 use natives::word_at;

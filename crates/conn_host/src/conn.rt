@@ -96,11 +96,7 @@ fn fill(alloc: Global, sets: &mut Sets, request: &Request) -> Result<(), NoMemor
 }
 
 /// Makes the sets those with which a run begins on this request; none where there is no request.
-fn fill_first(
-    alloc: Global,
-    sets: &mut Sets,
-    request: &Option<Request>,
-) -> Result<(), NoMemory>
+fn fill_first(alloc: Global, sets: &mut Sets, request: &Option<Request>) -> Result<(), NoMemory>
     ensures { OnOk result (sets.new ≡ first_sets request.now) }
 {
     match request {

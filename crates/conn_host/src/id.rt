@@ -7,8 +7,8 @@ ghost use Rattle.chan_core.specs.Chans.{channel};
 ghost use Rattle.conn_host.specs.Answers.{Finds};
 ghost use Rattle.conn_host.specs.Ids.{id_of, set_id, channel_id, written_so, number_of, set_at, channel_at};
 
-use crate::error::{no_channel, no_set};
 use crate::conn::Conn;
+use crate::error::{no_channel, no_set};
 use std::alloc::Global;
 use tcl_host::{Refusal, refuse};
 use txt_core::{NoMemory, Text, Words, read_int_bytes, write_int, write_natural};

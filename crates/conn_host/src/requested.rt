@@ -12,8 +12,8 @@ ghost use Rattle.conn_host.specs.RequestCommands.{path_of, version_of, request_l
 
 use crate::authorization::credentials_of;
 use crate::checks::{count, require_count, unknown_subcommand};
-use crate::conn_verb::{ConnVerb, find_conn_verb};
 use crate::conn::{Conn, FORM_SET, HEADERS_SET, OUTPUT_SET, kept};
+use crate::conn_verb::{ConnVerb, find_conn_verb};
 use crate::id::set_id;
 use crate::responding::require_connection;
 use http_req::Request;

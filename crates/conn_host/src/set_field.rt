@@ -6,8 +6,8 @@ ghost use Rattle.tcl_host.specs.Outcomes.{EndsWith};
 ghost use Rattle.conn_host.specs.Answers.{Finds};
 ghost use Rattle.conn_host.specs.SetCommands.{on_set, field_at, set_delete, set_key, set_value};
 
-use crate::error::no_field;
 use crate::conn::{Conn, kept};
+use crate::error::no_field;
 use crate::id::set_at;
 use tcl_host::{Refusal, integer, refuse};
 use txt_core::{Text, Words};

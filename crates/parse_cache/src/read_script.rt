@@ -54,6 +54,13 @@ impl ReadScript {
         &self.text
     }
 
+    /// What the text is as a script, to be looked at.
+    pub fn as_reading(&self) -> &Reading
+        ensures { IsReading self.now result.now }
+    {
+        &self.reading
+    }
+
     /// What the text is as a script; a script is shared. The only error is want of memory.
     pub fn reading(&self) -> Result<Reading, NoMemory>
         ensures { IfOk result (λ read. IsReading self.now read) }

@@ -9,7 +9,7 @@ use Rattle.cmd_table.specs.declared.command.Cmd.TheVariants.{Built}
 use Rattle.natives.specs.Names.{has_name}
 use Rattle.tcl_varcmd.specs.Commands.{begins_var_command, var_came}
 use Rattle.tcl_eval.specs.State.{State, LeafTable, Given, Out, Rest, Next}
-use Rattle.tcl_eval.specs.Eval.{Inner, act, arg, built, built_in, call_native, came_next, give, on_ok, run_command, run_commands, run_words, verb_of}
+use Rattle.tcl_eval.specs.Eval.{Inner, act, arg, built, built_in, call_native, came_next, ended, give, on_ok, run_command, run_commands, run_words, verb_of}
 use Rattle.tcl_eval.specs.Places.{command_at, commands_from, commands_size, words_size, HasCommand}
 use Rattle.tcl_eval.specs.Straight.{IfExpr, IfGives, IfLeft, IsOwn, behind_command}
 use Rattle.tcl_eval.specs.declared.straight.Straight.{Straight}
@@ -87,10 +87,22 @@ module _ {H : Type 0} (ns : Names) (t : LeafTable H) where
       ∙ sym (ap (λ (o : Option Cmd). run_command ns t inner o words k s b g) own.0)
 
   -- the command at a place of a script is next
-  pub next_one : (inner : Inner H) (cs : Commands) (at : ℕ) (value : Ended) (k : Next H) (s : State H) (b : ℕ) (g : Given) (x : Out H) → value.code ≡ 0 → HasCommand true at cs → x ≡ run_words ns t inner (command_at at cs) [] (behind_command ns t inner cs at k) s b g → x ≡ on_ok (λ result. run_commands ns t inner (commands_from at cs) result k) k value.code value.result s b g
-  next_one inner cs at value k s b g x z here e =
-      e ∙ sym (ap (λ (c : Commands). run_commands ns t inner c value.result k s b g) here)
+  pub next_from : (inner : Inner H) (cs : Commands) (at : ℕ) (result : List ℕ) (k : Next H) (s : State H) (b : ℕ) (g : Given) (x : Out H) → HasCommand true at cs → x ≡ run_words ns t inner (command_at at cs) [] (behind_command ns t inner cs at k) s b g → x ≡ run_commands ns t inner (commands_from at cs) result k s b g
+  next_from inner cs at result k s b g x here e =
+      e ∙ sym (ap (λ (c : Commands). run_commands ns t inner c result k s b g) here)
+
+  -- where a command comes next, the value before it is let go
+  pub any_value : (inner : Inner H) (cs : Commands) (at : ℕ) (value : Ended) (k : Next H) (s : State H) (b : ℕ) (g : Given) → value.code ≡ 0 → HasCommand true at cs → run_commands ns t inner (commands_from at cs) [] k s b g ≡ on_ok (λ result. run_commands ns t inner (commands_from at cs) result k) k value.code value.result s b g
+  any_value inner cs at value k s b g z here =
+      ap (λ (c : Commands). run_commands ns t inner c [] k s b g) here
+      ∙ sym (ap (λ (c : Commands). run_commands ns t inner c value.result k s b g) here)
       ∙ sym (ap (λ (n : ℕ). on_ok (λ result. run_commands ns t inner (commands_from at cs) result k) k n value.result s b g) z)
+
+  -- a script without a command ends well with the empty result
+  pub none_at_all : (inner : Inner H) (cs : Commands) (at : ℕ) (value : Ended) (k : Next H) (s : State H) (b : ℕ) (g : Given) → value ≡ ended 0 [] → HasCommand false at cs → give value k s b g ≡ run_commands ns t inner (commands_from at cs) [] k s b g
+  none_at_all inner cs at value k s b g is none =
+      ap (λ (v : Ended). give v k s b g) is
+      ∙ sym (ap (λ (c : Commands). run_commands ns t inner c [] k s b g) none)
 
   -- no command is left
   pub none_left : (inner : Inner H) (cs : Commands) (at : ℕ) (value : Ended) (k : Next H) (s : State H) (b : ℕ) (g : Given) → value.code ≡ 0 → HasCommand false at cs → give value k s b g ≡ on_ok (λ result. run_commands ns t inner (commands_from at cs) result k) k value.code value.result s b g

@@ -1,5 +1,5 @@
 -- Turns of loops for which nothing is put on the stack.
-use Rattle.std.proofs.Common.{◌≡◌, ◌≤◌, ◌<◌, ℕ, suc, ◌+◌, ◌-◌, List, [], ◌∷◌, ◌++◌, length, drop, Bool, cond, nat_lt, Option, Some, None, refl, sym, ap, ◌∙◌, arith}
+use Rattle.std.proofs.Common.{◌≡◌, ◌≤◌, ◌<◌, ℕ, suc, ◌+◌, ◌-◌, List, [], ◌∷◌, ◌++◌, length, drop, Bool, true, false, cond, nat_lt, Option, Some, None, refl, sym, ap, ◌∙◌, arith}
 use Rattle.std.proofs.lemmas.Bool.{le-ltb}
 use Rattle.txt_core.specs.Names.{Names}
 use Rattle.txt_core.specs.Truth.{truth}
@@ -17,7 +17,7 @@ use Rattle.tcl_eval.specs.State.{State, LeafTable, Given, Out, Rest, Next, spent
 use Rattle.tcl_eval.specs.Eval.{unread, by_truth, give, nested, on_ok, pay, run_commands, run_reading, run_script, write_all}
 use Rattle.tcl_eval.specs.Expressions.{evaluate, run_answer, test}
 use Rattle.tcl_eval.specs.Places.{tree_of}
-use Rattle.tcl_eval.specs.AtOnce.{at_once}
+use Rattle.tcl_eval.specs.AtOnce.{HasTruth, at_once}
 use Rattle.tcl_eval.specs.Engine.{state_of}
 use Rattle.std.specs.Prelude.{IfSome}
 use Rattle.tcl_eval.specs.Loops.{assigned, in_loop, turns, turn_body, walk_on}
@@ -210,3 +210,18 @@ module _ {H : Type 0} (ns : Names) (t : LeafTable H) where
       let inner = nested ns t levels in
       ap (λ (vs : List (List ℕ)). pay 1 (write_all (assigned walk.names (drop at walk.values)) (run_script ns t levels (unread walk.body) (in_loop (walk_on inner walk.names walk.body less vs k) k)) k) s b g) behind
       ∙ sym (ap (λ (n : ℕ). walk_on inner walk.names walk.body n (drop at walk.values) k s b g) l)
+
+module _ {H : Type 0} (ns : Names) (t : LeafTable H) where
+  -- a condition is paid for, whose truth is found
+  pub test_holds : (levels : ℕ) (text : List ℕ) (x : Tree) (holds : Bool) (first second : Rest H) (k : Next H) (s : State H) (b : ℕ) (g : Given) → Reads text (expr_outcome.tree x) → HasTruth (at_once s.frames x) holds → pay 1 (cond holds first second) s b g ≡ test (nested ns t levels) text first second k s b g
+  test_holds levels text x true first second k s b g reads has =
+      sym (ap (λ (o : Option Bool). pay 1 (decided o has.0 first second k) s b g) has.2)
+      ∙ test_gives ns t levels text x (ended 0 has.0) first second k s b g reads has.1
+  test_holds levels text x false first second k s b g reads has =
+      sym (ap (λ (o : Option Bool). pay 1 (decided o has.0 first second k) s b g) has.2)
+      ∙ test_gives ns t levels text x (ended 0 has.0) first second k s b g reads has.1
+
+module _ {H : Type 0} where
+  -- a script of a loop came to a good end
+  pub part_good : (value : Ended) (go : Rest H) (k : Next H) (s : State H) (b : ℕ) (g : Given) → value.code ≡ 0 → go s b g ≡ in_loop go k value.code value.result s b g
+  part_good value go k s b g z = sym (ap (λ (n : ℕ). in_loop go k n value.result s b g) z)

@@ -34,6 +34,10 @@ on_truth None value when_true when_false = Some (error_of (no_boolean value))
 on_truth (Some true) value when_true when_false = when_true
 on_truth (Some false) value when_true when_false = when_false
 
+-- it comes to a value of this truth
+abbrev pub HasTruth : Option Ended → Bool → Type 0
+HasTruth found holds = (value : Bytes) × (found ≡ Some (ended code_of.ok value)) × (truth value ≡ Some holds)
+
 -- the parts that are left of a word, of which this is kept
 abbrev pub rest_of_word : Stack → Parts → SoFar → Option Ended
 rest_of_word frames no_parts so_far = Some (kept_value so_far)

@@ -17,6 +17,7 @@ mod info;
 mod latest;
 mod law;
 mod lend;
+mod loop_parts;
 mod loop_turns;
 mod loops;
 mod message;

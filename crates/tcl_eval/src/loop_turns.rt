@@ -1,6 +1,6 @@
 //! Turns of loops for which nothing is put on the stack.
 
-ghost use Rattle.std.specs.Prelude.{ℕ, [], IfOk, IfSome, OnOk, Some};
+ghost use Rattle.std.specs.Prelude.{◌≡◌, ◌≤◌, ◌+◌, ℕ, [], if◌then◌else◌, IfOk, IfNone, IfSome, OnOk, Some};
 ghost use Rattle.natives.specs.Names.{names_of};
 ghost use Rattle.txt_core.specs.Names.{Bytes, Names};
 ghost use Rattle.parse_cache.specs.Readings.{IsReading};
@@ -12,7 +12,7 @@ ghost use Rattle.tcl_eval.specs.Expressions.{test};
 ghost use Rattle.tcl_eval.specs.Loops.{between, in_loop, turn_body, turns};
 ghost use Rattle.tcl_eval.specs.Places.{tree_of};
 ghost use Rattle.tcl_eval.specs.Straight.{Alike, Straightly};
-ghost use Rattle.tcl_eval.specs.Turns.{IsBehind, IsSet, IsTested, IsTruth, IsTurnSet, Leads, TestPays, TurnPays, ran_next, tested_next, turn_next};
+ghost use Rattle.tcl_eval.specs.Turns.{IsBehind, IsEachSet, IsSet, IsTested, IsTruth, IsTurnSet, Leads, TestPays, TurnPays, each_next, ran_next, tested_next, turn_next};
 ghost use Rattle.tcl_eval.specs.Engine.{Holds, Stays};
 ghost use Rattle.tcl_eval.specs.Clauses.{StepIs};
 ghost use Rattle.tcl_eval.specs.declared.branch.Turning.{Turning};
@@ -25,12 +25,13 @@ use crate::expression::MOST_AT_ONCE;
 use crate::loops::{Flow, flow_from};
 use crate::message::{no_boolean, script_fault};
 use crate::read_expr::ReadExpr;
-use crate::simple_value::simple_value;
+use crate::simple_value::{simple_truth, simple_value};
 use crate::stack::{Ended, Ready, Step};
 use crate::straight::Stand;
 use crate::value::{done, error};
+use crate::walk_turns::Each;
 use natives::Natives;
-use parse_cache::{ReadScript, Reading};
+use parse_cache::Reading;
 use std::rc::Rc;
 use tcl_host::{Host, OK};
 use tcl_parse::Script;
@@ -129,7 +130,7 @@ impl<H: Host> Engine<H> {
         ensures straight { OnOk result (Straightly self.new self.old) }
         ensures holds { Holds self.new self.old }
     {
-        match self.run_straight(natives, &script, 0, done(self.alloc), levels)? {
+        match self.commands_straight(natives, &script, 0, levels)? {
             Stand::Ends(value) => Ok(Ran::Ends(value)),
             stand => Ok(Ran::Stands {
                 script,
@@ -137,25 +138,6 @@ impl<H: Host> Engine<H> {
                 levels,
             }),
         }
-    }
-
-    /// Runs a text that was read, as far as nothing is put on the stack for it.
-    pub(crate) fn run_read(
-        &mut self,
-        natives: &Natives,
-        text: &ReadScript,
-        levels: u32,
-    ) -> Result<Ran, NoMemory>
-        ensures means { IfOk result (λ ran.
-            Alike self.new self.old (ran_next (names_of natives.now) H.table ran)
-            (run_script (names_of natives.now) H.table levels (unread text.now))) }
-        ensures set { IfOk result (λ ran. IsSet ran) }
-        ensures straight { OnOk result (Straightly self.new self.old) }
-        ensures holds { Holds self.new self.old }
-    {
-        let reading = text.reading()?;
-        let ran = self.run_reading(natives, reading, levels)?;
-        Ok(ran)
     }
 
     /// Goes on where a text stands that was run.
@@ -221,8 +203,36 @@ impl<H: Host> Engine<H> {
         Ok(tested)
     }
 
-    /// Pays for a condition and evaluates it, where nothing is run for it.
-    pub(crate) fn test_straight(&mut self, condition: &ReadExpr) -> Result<Tested, NoMemory>
+    /// Pays for a condition whose truth is found without its value; `None` where that is another one, or where
+    /// nothing is left to pay for it, and nothing was done.
+    #[inline(always)]
+    #[tactic(auto, using(crate::proofs::Stacks::frees_push, crate::proofs::Choices::paid_none, crate::proofs::Choices::paid_so))]
+    fn test_at_once(&mut self, condition: &ReadExpr) -> Option<bool>
+        ensures means { IfSome result (λ holds.
+            (names : Names) (levels : ℕ) (second : Rest H)
+            → Leads self.new self.old (λ first k. if holds then first else second) (λ first k.
+            test (nested names H.table levels) condition.now first second k)) }
+        ensures pays { IfSome result (λ holds. self.new.budget + 1 ≤ self.old.budget) }
+        ensures left { IfNone result (self.new ≡ self.old) }
+        ensures rest { PaidAlone self.new self.old }
+        ensures straight { Straightly self.new self.old }
+        ensures holds { Holds self.new self.old }
+    {
+        match condition.reading() {
+            ExprReading::Bad { .. } => None,
+            ExprReading::Good(expr) => {
+                let holds = simple_truth(&self.frames, expr)?;
+                if !self.pay(EVALUATION_COST) {
+                    return None;
+                }
+                Some(holds)
+            }
+        }
+    }
+
+    /// Pays for a condition and evaluates it, where nothing is run for it and its value is made.
+    #[inline(never)]
+    fn test_value(&mut self, condition: &ReadExpr) -> Result<Tested, NoMemory>
         ensures means { IfOk result (λ tested.
             (names : Names) (levels : ℕ) (second : Rest H)
             → Leads self.new self.old
@@ -248,8 +258,67 @@ impl<H: Host> Engine<H> {
         }
     }
 
+    /// Pays for a condition and evaluates it, where nothing is run for it.
+    #[inline(always)]
+    pub(crate) fn test_straight(&mut self, condition: &ReadExpr) -> Result<Tested, NoMemory>
+        ensures means { IfOk result (λ tested.
+            (names : Names) (levels : ℕ) (second : Rest H)
+            → Leads self.new self.old
+            (λ first k.
+            tested_next (nested names H.table levels) condition.now tested first second k)
+            (λ first k. test (nested names H.table levels) condition.now first second k)) }
+        ensures pays { IfOk result (λ tested. TestPays tested self.new self.old) }
+        ensures rest { OnOk result (PaidAlone self.new self.old) }
+        ensures straight { OnOk result (Straightly self.new self.old) }
+        ensures holds { Holds self.new self.old }
+    {
+        match self.test_at_once(condition) {
+            Some(true) => Ok(Tested::Holds),
+            Some(false) => Ok(Tested::Fails),
+            None => {
+                let tested = self.test_value(condition)?;
+                Ok(tested)
+            }
+        }
+    }
+
+    /// Does the turn of a loop whose condition comes next, whose value is made, as far as nothing is put on
+    /// the stack for it; `None` where the next turn comes.
+    #[inline(never)]
+    fn turn_tested(
+        &mut self,
+        natives: &Natives,
+        turning: &Turning,
+        levels: u32,
+    ) -> Result<Option<Turn>, NoMemory>
+        ensures means { IfOk result (λ turn.
+            Leads self.new self.old
+            (turn_next (names_of natives.now) H.table
+            (nested (names_of natives.now) H.table levels) turning.now turn)
+            (λ go k.
+            test (nested (names_of natives.now) H.table levels) turning.now.condition
+            (turn_body (nested (names_of natives.now) H.table levels) turning.now go k)
+            (k code_of.ok []) k)) }
+        ensures pays { IfOk result (λ turn. TurnPays 1 2 turn self.new self.old) }
+        ensures set { IfOk result (λ turn. IfSome turn IsTurnSet) }
+        ensures straight { OnOk result (Straightly self.new self.old) }
+        ensures holds { Holds self.new self.old }
+    {
+        match self.test_value(&turning.condition)? {
+            Tested::Holds => {
+                let turn = self.body_straight(natives, turning, levels)?;
+                Ok(turn)
+            }
+            Tested::Fails => Ok(Some(Turn::Ends(done(self.alloc)))),
+            Tested::Ends(value) => Ok(Some(Turn::Ends(value))),
+            Tested::Spent => Ok(Some(Turn::Spent)),
+            Tested::Left => Ok(Some(Turn::Whole)),
+        }
+    }
+
     /// Does the turn of a loop whose condition comes next, as far as nothing is put on the stack for it;
     /// `None` where the next turn comes.
+    #[inline(always)]
     fn turn_straight(
         &mut self,
         natives: &Natives,
@@ -269,19 +338,54 @@ impl<H: Host> Engine<H> {
         ensures straight { OnOk result (Straightly self.new self.old) }
         ensures holds { Holds self.new self.old }
     {
-        match self.test_straight(&turning.condition)? {
-            Tested::Holds => {
+        match self.test_at_once(&turning.condition) {
+            Some(true) => {
                 let turn = self.body_straight(natives, turning, levels)?;
                 Ok(turn)
             }
-            Tested::Fails => Ok(Some(Turn::Ends(done(self.alloc)))),
-            Tested::Ends(value) => Ok(Some(Turn::Ends(value))),
-            Tested::Spent => Ok(Some(Turn::Spent)),
-            Tested::Left => Ok(Some(Turn::Whole)),
+            Some(false) => Ok(Some(Turn::Ends(done(self.alloc)))),
+            None => {
+                let turn = self.turn_tested(natives, turning, levels)?;
+                Ok(turn)
+            }
+        }
+    }
+
+    /// What is left of a turn of whose body this is left.
+    #[inline(never)]
+    fn body_left(&self, each: Each) -> Turn
+        requires { IsEachSet each }
+        ensures means { (names : Names) (inner : Inner H) (turning : Turning)
+            → Leads self.now self.now (turn_next names H.table inner turning (Some result))
+            (λ go k. each_next names H.table (Some each) (between inner turning.next go k) k) }
+        ensures set { IsTurnSet result }
+    {
+        match each {
+            Each::Ends(value) => Turn::Ends(value),
+            Each::Spent => Turn::Spent,
+            Each::Body(ran) => Turn::Body(ran),
+        }
+    }
+
+    /// What is left of a turn of whose script behind the body this is left.
+    #[inline(never)]
+    fn next_left(&self, each: Each) -> Turn
+        requires { IsEachSet each }
+        ensures means { (names : Names) (inner : Inner H) (turning : Turning)
+            → Leads self.now self.now (turn_next names H.table inner turning (Some result))
+            (each_next names H.table (Some each)) }
+        ensures set { IsTurnSet result }
+        ensures behind { IsBehind result }
+    {
+        match each {
+            Each::Ends(value) => Turn::Ends(value),
+            Each::Spent => Turn::Spent,
+            Each::Body(ran) => Turn::Next(ran),
         }
     }
 
     /// Pays for a turn and does it from its body on, as far as nothing is put on the stack for it.
+    #[inline(always)]
     pub(crate) fn body_straight(
         &mut self,
         natives: &Natives,
@@ -301,12 +405,12 @@ impl<H: Host> Engine<H> {
         if !self.pay(TURN_COST) {
             return Ok(Some(Turn::Spent));
         }
-        match self.run_read(natives, &turning.body, levels)? {
-            Ran::Ends(value) => {
-                let turn = self.behind_straight(natives, turning, levels, value)?;
+        match self.part_straight(natives, &turning.body, levels)? {
+            None => {
+                let turn = self.between_straight(natives, turning, levels)?;
                 Ok(turn)
             }
-            ran => Ok(Some(Turn::Body(ran))),
+            Some(each) => Ok(Some(self.body_left(each))),
         }
     }
 
@@ -333,42 +437,38 @@ impl<H: Host> Engine<H> {
     {
         match flow_from(self.alloc, value) {
             Flow::Ends(value) => Ok(Some(Turn::Ends(value))),
-            Flow::On => match &turning.next {
-                None => Ok(None),
-                Some(next) => {
-                    let turn = self.between_straight(natives, next, levels)?;
-                    Ok(turn)
-                }
-            },
+            Flow::On => {
+                let turn = self.between_straight(natives, turning, levels)?;
+                Ok(turn)
+            }
         }
     }
 
-    /// Runs the script between two turns, as far as nothing is put on the stack for it.
+    /// Runs the script between two turns, where there is one, as far as nothing is put on the stack for it.
+    #[inline(always)]
     fn between_straight(
         &mut self,
         natives: &Natives,
-        next: &ReadScript,
+        turning: &Turning,
         levels: u32,
     ) -> Result<Option<Turn>, NoMemory>
         ensures means { IfOk result (λ turn.
-            (turning : Turning)
-            → Leads self.new self.old
+            Leads self.new self.old
             (turn_next (names_of natives.now) H.table
-            (nested (names_of natives.now) H.table levels) turning turn)
-            (λ go k.
-            run_script (names_of natives.now) H.table levels (unread next.now) (in_loop go k))) }
+            (nested (names_of natives.now) H.table levels) turning.now turn)
+            (between (nested (names_of natives.now) H.table levels) turning.now.next)) }
         ensures pays { IfOk result (λ turn. TurnPays 0 0 turn self.new self.old) }
         ensures set { IfOk result (λ turn. IfSome turn IsTurnSet) }
         ensures behind { IfOk result (λ turn. IfSome turn IsBehind) }
         ensures straight { OnOk result (Straightly self.new self.old) }
         ensures holds { Holds self.new self.old }
     {
-        match self.run_read(natives, next, levels)? {
-            Ran::Ends(value) => match flow_from(self.alloc, value) {
-                Flow::Ends(value) => Ok(Some(Turn::Ends(value))),
-                Flow::On => Ok(None),
+        match &turning.next {
+            None => Ok(None),
+            Some(next) => match self.part_straight(natives, next, levels)? {
+                None => Ok(None),
+                Some(each) => Ok(Some(self.next_left(each))),
             },
-            ran => Ok(Some(Turn::Next(ran))),
         }
     }
 

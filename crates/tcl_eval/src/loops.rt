@@ -5,7 +5,7 @@ ghost use Rattle.natives.specs.Names.{names_of};
 ghost use Rattle.txt_core.specs.Names.{Names};
 ghost use Rattle.tcl_eval.specs.State.{Next};
 ghost use Rattle.tcl_eval.specs.Eval.{nested, do_while, do_for, do_foreach};
-ghost use Rattle.tcl_eval.specs.Loops.{assigned, turns, turn_on, walk_on, walk_all};
+ghost use Rattle.tcl_eval.specs.Loops.{turns, turn_on, walk_on, walk_all};
 ghost use Rattle.tcl_eval.specs.LoopsSeen.{flow_of};
 ghost use Rattle.tcl_eval.specs.Turns.{IsEachSet, IsTurnSet, each_free, each_next, option_free, turn_free, turn_next};
 ghost use Rattle.tcl_eval.specs.Engine.{Holds, Nears, Opens, Lower, Remains, credit};
@@ -27,7 +27,7 @@ use std::rc::Rc;
 use tcl_host::{BREAK, CONTINUE, Host, OK};
 use tcl_list::{ListFault, split};
 use txt_core::error_text::{bad_value, no_list};
-use txt_core::{NoMemory, Pairs, Text, Words};
+use txt_core::{NoMemory, Text, Words};
 
 /// How a loop goes on where a part of it ended.
 pub(crate) enum Flow {
@@ -46,26 +46,6 @@ pub(crate) fn flow_from(alloc: Global, value: Ended) -> Flow
         BREAK => Flow::Ends(done(alloc)),
         _ => Flow::Ends(value),
     }
-}
-
-/// In turn the names with the values; where no value is left, the empty text.
-pub(crate) fn assigned(alloc: Global, names: &[Text], values: &[Text]) -> Result<Pairs, NoMemory>
-    ensures { IfOk result (λ pairs. pairs ≡ assigned names.now values.now) }
-{
-    let mut pairs = Pairs::new(alloc);
-    let mut left = values;
-    'names: for name in names {
-        let name = name.copy(alloc)?;
-        let value = match left.split_first() {
-            None => Text::empty(alloc),
-            Some((value, behind)) => {
-                left = behind;
-                value.copy(alloc)?
-            }
-        };
-        pairs.add((name, value))?;
-    }
-    Ok(pairs)
 }
 
 /// The items from a place on; none where the list ends before it.

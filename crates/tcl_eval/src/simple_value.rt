@@ -8,7 +8,7 @@ ghost use Rattle.tcl_host.specs.Codes as code_of;
 ghost use Rattle.tcl_eval.specs.Results.{ended, error_of};
 ghost use Rattle.tcl_eval.specs.Messages.{no_boolean};
 ghost use Rattle.tcl_eval.specs.Expressions.{way_of};
-ghost use Rattle.tcl_eval.specs.AtOnce.{on_truth, right_at_once, left_at_once, at_once};
+ghost use Rattle.tcl_eval.specs.AtOnce.{HasTruth, on_truth, right_at_once, left_at_once, at_once};
 
 use crate::message::no_boolean;
 use crate::operation::{Way, way_of, with_one, with_two};
@@ -17,13 +17,14 @@ use crate::simple::{ready_text, simple_word};
 use crate::stack::Ended;
 use crate::value::error;
 use std::alloc::Global;
-use tcl_expr::{Expr, Op};
+use tcl_expr::{Expr, Op, comparison_holds};
 use tcl_frame::Frames;
 use tcl_host::OK;
 use txt_core::{NoMemory, Text, read_truth};
 
 /// The value of an expression that is a literal, or a word of bytes alone or of a variable alone, which is
 /// there, without a copy. Of any other one this says nothing.
+#[inline(always)]
 fn leaf<'a>(frames: &'a Frames, expr: &'a Expr) -> Option<&'a Text>
     ensures { IfSome result (λ text.
         at_once frames.now (tree_of expr.now) ≡ Some (ended code_of.ok text.now)) }
@@ -34,6 +35,34 @@ fn leaf<'a>(frames: &'a Frames, expr: &'a Expr) -> Option<&'a Text>
         Expr::Unary(_, _) => None,
         Expr::Binary(_, _, _) => None,
         Expr::Choice(_, _, _) => None,
+    }
+}
+
+/// Whether a comparison holds between two operands, each a literal or a variable that is there. Of any
+/// other operator or operand this says nothing.
+#[inline(always)]
+fn compared_leaves(frames: &Frames, op: Op, left: &Expr, right: &Expr) -> Option<bool>
+    ensures { IfSome result (λ holds.
+        HasTruth (at_once frames.now (binary op (tree_of left.now) (tree_of right.now))) holds) }
+{
+    let left = leaf(frames, left)?;
+    let right = leaf(frames, right)?;
+    comparison_holds(op, left, right)
+}
+
+/// The truth of the value of an expression that is a literal, a variable that is there, or a comparison of
+/// two such, for which no value is made. Of any other one, and of a value that has no truth, this says
+/// nothing.
+#[inline(always)]
+pub(crate) fn simple_truth(frames: &Frames, expr: &Expr) -> Option<bool>
+    ensures { IfSome result (λ holds. HasTruth (at_once frames.now (tree_of expr.now)) holds) }
+{
+    match expr {
+        Expr::Binary(op, left, right) => compared_leaves(frames, *op, left, right),
+        _ => {
+            let value = leaf(frames, expr)?;
+            read_truth(value)
+        }
     }
 }
 
@@ -227,6 +256,38 @@ fn simple_right(
 #[cycle(simple)]
 #[tactic(auto, using(crate::proofs::Values::good_end, crate::proofs::Values::bad_end))]
 fn simple_choice(
+    alloc: Global,
+    frames: &Frames,
+    test: &Expr,
+    first: &Expr,
+    second: &Expr,
+    room: u32,
+) -> Result<Option<Ended>, NoMemory>
+    ensures { IfOk result (λ found.
+        IfSome found (λ value.
+        at_once frames.now (choice (tree_of test.now) (tree_of first.now) (tree_of second.now))
+        ≡ Some value)) }
+{
+    match simple_truth(frames, test) {
+        Some(true) => {
+            let found = simple_value(alloc, frames, first, room)?;
+            Ok(found)
+        }
+        Some(false) => {
+            let found = simple_value(alloc, frames, second, room)?;
+            Ok(found)
+        }
+        None => {
+            let found = simple_tested(alloc, frames, test, first, second, room)?;
+            Ok(found)
+        }
+    }
+}
+
+/// A choice whose condition has to be evaluated.
+#[cycle(simple)]
+#[tactic(auto, using(crate::proofs::Values::good_end, crate::proofs::Values::bad_end))]
+fn simple_tested(
     alloc: Global,
     frames: &Frames,
     test: &Expr,

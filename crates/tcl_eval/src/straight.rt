@@ -1,6 +1,6 @@
 //! Commands that come to a value straight away, for which nothing is put on the stack.
 
-ghost use Rattle.std.specs.Prelude.{◌≡◌, ◌≤◌, ◌+◌, ◌-◌, ℕ, drop, IfOk, IfSome, OnOk, IsTrue, true};
+ghost use Rattle.std.specs.Prelude.{◌≡◌, ◌≤◌, ◌+◌, ◌-◌, ℕ, [], drop, IfOk, IfSome, OnOk, IsTrue, true};
 ghost use Rattle.natives.specs.Names.{names_of};
 ghost use Rattle.tcl_expr.specs.Reading.{expression_of};
 ghost use Rattle.tcl_eval.specs.Expressions.{run_answer, value_end};
@@ -25,7 +25,7 @@ use crate::place::{has_command, words_of};
 use crate::read_expr::ReadExpr;
 use crate::simple_value::simple_value;
 use crate::stack::Ended;
-use crate::value::{do_break, do_continue, do_error, do_return, failed, too_long};
+use crate::value::{do_break, do_continue, do_error, do_return, done, failed, too_long};
 use crate::verb::{Verb, find_verb};
 use crate::words::{begins_with, behind_name, first_word, joined};
 use cmd_table::Cmd;
@@ -418,6 +418,50 @@ impl<H: Host> Engine<H> {
         }
     }
 
+    /// Does the commands of a script from a place on, as far as nothing is put on the stack for them; where
+    /// there is none, that is a good end with the empty result. So many levels are left to their brackets.
+    pub(crate) fn commands_straight(
+        &mut self,
+        natives: &Natives,
+        script: &Script,
+        from: usize,
+        levels: u32,
+    ) -> Result<Stand, NoMemory>
+        ensures means { IfOk result (λ stand.
+            Alike self.new self.old
+            (stand_next (names_of natives.now) H.table
+            (nested (names_of natives.now) H.table levels) (tree_of script.now) stand)
+            (λ k.
+            run_commands (names_of natives.now) H.table
+            (nested (names_of natives.now) H.table levels)
+            (commands_from from (tree_of script.now)) [] k)) }
+        ensures size { IfOk result (λ stand.
+            stand_size (tree_of script.now) stand
+            ≤ commands_size (commands_from from (tree_of script.now))) }
+        ensures within { IfOk result (λ stand. IsWithin stand) }
+        ensures straight { OnOk result (Straightly self.new self.old) }
+        ensures holds { Holds self.new self.old }
+    {
+        let mut at = from;
+        'commands: while has_command(script, at) {
+            match self.next_straight(natives, script, at, levels)? {
+                Tried::Gives(value) => {
+                    if value.code != OK {
+                        return Ok(Stand::Ends(value));
+                    }
+                    if !has_command(script, at + 1) {
+                        return Ok(Stand::Ends(value));
+                    }
+                }
+                Tried::Spent => return Ok(Stand::Spent),
+                Tried::Left(values) => return Ok(Stand::Waits { at, values }),
+                Tried::Costly(word) => return Ok(Stand::Costly { at, word }),
+            }
+            at += 1;
+        }
+        Ok(Stand::Ends(done(self.alloc)))
+    }
+
     /// Does the commands of a script from a place on, behind a command that came to this value, as far
     /// as nothing is put on the stack for them. So many levels are left to their brackets.
     pub(crate) fn run_straight(
@@ -446,20 +490,13 @@ impl<H: Host> Engine<H> {
         ensures straight { OnOk result (Straightly self.new self.old) }
         ensures holds { Holds self.new self.old }
     {
-        let mut at = from;
-        let mut value = value;
-        'commands: while value.code == OK {
-            if !has_command(script, at) {
-                return Ok(Stand::Ends(value));
-            }
-            match self.next_straight(natives, script, at, levels)? {
-                Tried::Gives(next) => value = next,
-                Tried::Spent => return Ok(Stand::Spent),
-                Tried::Left(values) => return Ok(Stand::Waits { at, values }),
-                Tried::Costly(word) => return Ok(Stand::Costly { at, word }),
-            }
-            at += 1;
+        if value.code != OK {
+            return Ok(Stand::Ends(value));
         }
-        Ok(Stand::Ends(value))
+        if !has_command(script, from) {
+            return Ok(Stand::Ends(value));
+        }
+        let stand = self.commands_straight(natives, script, from, levels)?;
+        Ok(stand)
     }
 }

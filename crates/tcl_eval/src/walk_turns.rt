@@ -6,26 +6,27 @@ ghost use Rattle.tcl_eval.specs.Eval.{nested, pay, run_script, unread, write_all
 ghost use Rattle.tcl_eval.specs.Loops.{assigned, in_loop, walk_on};
 ghost use Rattle.tcl_eval.specs.Straight.{Alike, Straightly};
 ghost use Rattle.tcl_eval.specs.Turns.{EachPays, IsEachSet, Leads, each_next};
-ghost use Rattle.tcl_eval.specs.Engine.{Holds};
+ghost use Rattle.tcl_eval.specs.Engine.{Holds, after_writes};
+ghost use Rattle.tcl_eval.specs.State.{Next, Rest};
 
 use crate::branch::{Walk, place_behind};
 use crate::cost::TURN_COST;
 use crate::engine::Engine;
 use crate::loop_turns::Ran;
-use crate::loops::{Flow, assigned, flow_from, from_place};
+use crate::loops::from_place;
 use crate::stack::Ended;
 use crate::value::done;
 use natives::Natives;
-use tcl_host::Host;
-use txt_core::NoMemory;
+use tcl_host::{Host, OK};
+use txt_core::{NoMemory, Text};
 
-/// What is left of a turn over values that was begun.
+/// What is left of a turn over values that was begun, or of a script of a turn of another loop.
 #[derive(Drop)]
 pub enum Each {
     /// The loop ends with this.
     Ends(Ended),
     Spent,
-    /// Its body stands here.
+    /// Its body, or the script, stands here.
     Body(Ran),
 }
 
@@ -40,33 +41,36 @@ pub struct Walked {
 
 #[tactic(auto, using(crate::proofs::Stacks::frees_push))]
 impl<H: Host> Engine<H> {
-    /// Runs the body of a turn over values, as far as nothing is put on the stack for it; `None` where the
-    /// next turn comes.
-    fn each_body(
-        &mut self,
-        natives: &Natives,
-        walk: &Walk,
-        levels: u32,
-    ) -> Result<Option<Each>, NoMemory>
-        ensures means { IfOk result (λ each.
-            Leads self.new self.old (each_next (names_of natives.now) H.table each) (λ go k.
-            run_script (names_of natives.now) H.table levels (unread walk.now.body)
-            (in_loop go k))) }
-        ensures set { IfOk result (λ each. IfSome each IsEachSet) }
+    /// Writes in turn the values to the names, and the empty text where no value is left; where one is
+    /// refused, that is the error.
+    fn write_assigned(&mut self, names: &[Text], values: &[Text]) -> Result<Option<Ended>, NoMemory>
+        ensures means { IfOk result (λ refused.
+            (go : Next H → Rest H)
+            → Alike self.new self.old (after_writes refused go) (λ k.
+            write_all (assigned names.now values.now) (go k) k)) }
         ensures straight { OnOk result (Straightly self.new self.old) }
         ensures holds { Holds self.new self.old }
     {
-        match self.run_read(natives, &walk.body, levels)? {
-            Ran::Ends(value) => match flow_from(self.alloc, value) {
-                Flow::Ends(value) => Ok(Some(Each::Ends(value))),
-                Flow::On => Ok(None),
-            },
-            ran => Ok(Some(Each::Body(ran))),
+        let mut left = values;
+        'names: for name in names {
+            let value = match left.split_first() {
+                None => Text::empty(self.alloc),
+                Some((value, behind)) => {
+                    left = behind;
+                    value.copy(self.alloc)?
+                }
+            };
+            let written = self.store(name, value, Text::empty(self.alloc))?;
+            if written.code != OK {
+                return Ok(Some(written));
+            }
         }
+        Ok(None)
     }
 
     /// Does a turn over values, the first of which stands at this place, as far as nothing is put on the
     /// stack for it; `None` where the next turn comes.
+    #[inline(always)]
     fn each_straight(
         &mut self,
         natives: &Natives,
@@ -90,11 +94,10 @@ impl<H: Host> Engine<H> {
             return Ok(Some(Each::Spent));
         }
         let values = from_place(walk.values.as_slice(), at);
-        let pairs = assigned(self.alloc, walk.names.as_slice(), values)?;
-        match self.write_all(pairs)? {
+        match self.write_assigned(walk.names.as_slice(), values)? {
             Some(refused) => Ok(Some(Each::Ends(refused))),
             None => {
-                let each = self.each_body(natives, walk, levels)?;
+                let each = self.part_straight(natives, &walk.body, levels)?;
                 Ok(each)
             }
         }

@@ -1,5 +1,5 @@
 -- The table of the operators: from an operator and its operands, which are texts, to a text or the first fault that fits.
-use Rattle.std.specs.Prelude.{◌≡◌, ℕ, Bool, not, ◌&&◌, ◌||◌, ◌==◌, nat_lt, if◌then◌else◌, ℤ, pos, negsuc, neg_ℤ, ◌+ℤ◌, ◌-ℤ◌, ◌*ℤ◌, Option, None, Some, Result, Ok, Err, bytes_eq}
+use Rattle.std.specs.Prelude.{◌≡◌, ℕ, Bool, true, false, not, ◌&&◌, ◌||◌, ◌==◌, nat_lt, if◌then◌else◌, ℤ, pos, negsuc, neg_ℤ, ◌+ℤ◌, ◌-ℤ◌, ◌*ℤ◌, Option, None, Some, Result, Ok, Err, bytes_eq}
 use Rattle.std.specs.Int.{w64, int_bit_and, int_bit_or, int_bit_xor, int_bit_not}
 use Rattle.std.specs.declared.cmp.Ordering.{Ordering}
 use Rattle.std.specs.Ordering.{int_cmp, nat_cmp, is_eq, is_ne, is_lt, is_gt, is_le, is_ge}
@@ -108,6 +108,18 @@ binary NeText l r = Ok (truth_text (not (bytes_eq l r)))
 binary And l r = on_truths (joined And) (truth l) (truth r)
 binary Or l r = on_truths (joined Or) (truth l) (truth r)
 binary op l r = on_numbers (combined op) (number l) (number r)
+
+-- whether an operator compares its operands
+abbrev pub is_comparison : Op → Bool
+is_comparison Lt = true
+is_comparison Gt = true
+is_comparison Le = true
+is_comparison Ge = true
+is_comparison EqNumber = true
+is_comparison NeNumber = true
+is_comparison EqText = true
+is_comparison NeText = true
+is_comparison _ = false
 
 -- The value of a whole expression: its decimal form where it is a number, else its text.
 abbrev pub value_by : Option ℤ → Bytes → Bytes

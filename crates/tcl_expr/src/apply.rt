@@ -6,7 +6,7 @@ ghost use Rattle.txt_core.specs.Truth.{truth};
 ghost use Rattle.tcl_expr.specs.Operators.{combined, in_decimal, joined, on_truths, on_numbers, unary, binary, value_of, Gives};
 
 use crate::arithmetic::combined;
-use crate::comparison::compared;
+use crate::comparison::comparison_holds;
 use crate::operator::{ExprFault, Op};
 use std::alloc::Global;
 use txt_core::{NoMemory, Text, read_int, read_truth, truth_text, write_int};
@@ -93,20 +93,14 @@ fn on_numbers(alloc: Global, op: Op, left: &Text, right: &Text) -> Result<Text, 
 pub fn apply_binary(alloc: Global, op: Op, left: &Text, right: &Text) -> Result<Text, ExprFault>
     ensures { Gives result (binary op left.now right.now) }
 {
-    let truth = match op {
-        Op::Lt => compared(left, right).is_lt(),
-        Op::Gt => compared(left, right).is_gt(),
-        Op::Le => compared(left, right).is_le(),
-        Op::Ge => compared(left, right).is_ge(),
-        Op::EqNumber => compared(left, right).is_eq(),
-        Op::NeNumber => compared(left, right).is_ne(),
-        Op::EqText => left == right,
-        Op::NeText => left != right,
-        Op::And | Op::Or => return on_truths(alloc, op, left, right),
-        _ => return on_numbers(alloc, op, left, right),
-    };
-    let text = truth_text(alloc, truth)?;
-    Ok(text)
+    if let Some(holds) = comparison_holds(op, left, right) {
+        let text = truth_text(alloc, holds)?;
+        return Ok(text);
+    }
+    match op {
+        Op::And | Op::Or => on_truths(alloc, op, left, right),
+        _ => on_numbers(alloc, op, left, right),
+    }
 }
 
 /// The value of a whole expression: its decimal form where it is a number, else its text. Its only

@@ -14,6 +14,7 @@ mod run;
 mod token;
 
 pub use apply::{apply_binary, apply_unary, expression_value};
+pub use comparison::comparison_holds;
 pub use expr::Expr;
 pub use fault::ExprText;
 pub use law::{division, least_place, one_answer, one_reading};

@@ -19,5 +19,8 @@ decreases-simple_binary l = 8 * l.room + 3
 abbrev pub decreases-simple_chosen : goal.decreases-simple_chosen
 decreases-simple_chosen l = 8 * l.room + 1
 
+abbrev pub decreases-simple_tested : goal.decreases-simple_tested
+decreases-simple_tested l = 8 * l.room + 2
+
 abbrev pub decreases-simple_choice : goal.decreases-simple_choice
-decreases-simple_choice l = 8 * l.room + 2
+decreases-simple_choice l = 8 * l.room + 3

@@ -6,40 +6,23 @@ use Rattle.tcl_eval.specs.Engine.{state_of}
 use Rattle.tcl_eval.specs.declared.stack.Ended.{Ended}
 use Rattle.tcl_eval.proofs.engine.Engine.turn_straight.Goals as goal
 
-pub returns-in_ok-turn-in-Holds-clause-means : goal.returns-in_ok-turn-in-Holds-clause-means
-returns-in_ok-turn-in-Holds-clause-means g c = λ go k gv.
+pub returns-in_ok-turn-in-Some-true-clause-means : goal.returns-in_ok-turn-in-Some-true-clause-means
+returns-in_ok-turn-in-Some-true-clause-means g c = λ go k gv.
     let ns = names_of c.args.natives.now in
     let t = g.H.Host.table in
-    let test = rw c.in-Holds.is at c.in_ok-test_straight.ensures.means in
-    c.in_ok-turn-in-Holds.ensures.means go k gv
+    let test = rw c.in-Some-true.field-0-test at c.in-Some-true.ensures.means in
+    c.in_ok-turn-in-Some-true.ensures.means go k gv
     ∙ test ns c.args.levels (k 0 []) (turn_body (nested ns t c.args.levels) c.args.turning.now go k) k gv
 
-pub returns-in-Fails-clause-means : goal.returns-in-Fails-clause-means
-returns-in-Fails-clause-means g c = λ go k gv.
+pub returns-in-Some-false-clause-means : goal.returns-in-Some-false-clause-means
+returns-in-Some-false-clause-means g c = λ go k gv.
     let ns = names_of c.args.natives.now in
     let t = g.H.Host.table in
-    let e = c.test_straight.new.self in
-    let test = rw c.in-Fails.is at c.in_ok-test_straight.ensures.means in
+    let e = c.test_at_once.new.self in
+    let test = rw c.in-Some-false.field-0-test at c.in-Some-false.ensures.means in
     ap (λ (v : Ended). give v k (state_of e) e.budget gv) c.done.ensures
     ∙ test ns c.args.levels (k 0 []) (turn_body (nested ns t c.args.levels) c.args.turning.now go k) k gv
 
-pub returns-in-Ends-clause-means : goal.returns-in-Ends-clause-means
-returns-in-Ends-clause-means g c = λ go k gv.
-    let ns = names_of c.args.natives.now in
-    let t = g.H.Host.table in
-    let test = rw c.in-Ends.is at c.in_ok-test_straight.ensures.means in
-    test ns c.args.levels (k 0 []) (turn_body (nested ns t c.args.levels) c.args.turning.now go k) k gv
-
-pub returns-in-Spent-clause-means : goal.returns-in-Spent-clause-means
-returns-in-Spent-clause-means g c = λ go k gv.
-    let ns = names_of c.args.natives.now in
-    let t = g.H.Host.table in
-    let test = rw c.in-Spent.is at c.in_ok-test_straight.ensures.means in
-    test ns c.args.levels (k 0 []) (turn_body (nested ns t c.args.levels) c.args.turning.now go k) k gv
-
-pub returns-in-Left-clause-means : goal.returns-in-Left-clause-means
-returns-in-Left-clause-means g c = λ go k gv.
-    let ns = names_of c.args.natives.now in
-    let t = g.H.Host.table in
-    let test = rw c.in-Left.is at c.in_ok-test_straight.ensures.means in
-    test ns c.args.levels (k 0 []) (turn_body (nested ns t c.args.levels) c.args.turning.now go k) k gv
+pub returns-in_ok-turn-in-None-clause-means : goal.returns-in_ok-turn-in-None-clause-means
+returns-in_ok-turn-in-None-clause-means g c =
+    rw c.in-None.ensures.left at c.in_ok-turn-in-None.ensures.means

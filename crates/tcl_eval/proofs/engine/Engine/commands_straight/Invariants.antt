@@ -1,10 +1,10 @@
-use Rattle.std.proofs.Common.{◌≤◌}
+use Rattle.std.proofs.Common.{◌≤◌, []}
 use Rattle.natives.specs.Names.{names_of}
-use Rattle.tcl_eval.specs.Eval.{nested, on_ok, run_commands}
+use Rattle.tcl_eval.specs.Eval.{nested, run_commands}
 use Rattle.tcl_eval.specs.Places.{tree_of, commands_from, commands_size}
 use Rattle.tcl_eval.specs.Straight.{Alike, Straightly}
 use Rattle.tcl_eval.specs.Engine.{Holds}
-use Rattle.tcl_eval.proofs.engine.Engine.run_straight.Given as goal
+use Rattle.tcl_eval.proofs.engine.Engine.commands_straight.Given as goal
 
 abbrev pub invariant-commands : goal.invariant-commands
 invariant-commands g l =
@@ -13,9 +13,7 @@ invariant-commands g l =
     let tree = tree_of l.script in
     let inner = nested ns t l.levels in
     record {
-      means : Alike l.self l.fn.self
-          (λ k. on_ok (λ result. run_commands ns t inner (commands_from l.at tree) result k) k l.value.code l.value.result)
-          (λ k. on_ok (λ result. run_commands ns t inner (commands_from l.fn.from tree) result k) k l.fn.value.code l.fn.value.result);
+      means : Alike l.self l.fn.self (run_commands ns t inner (commands_from l.at tree) []) (run_commands ns t inner (commands_from l.fn.from tree) []);
       size : commands_size (commands_from l.at tree) ≤ commands_size (commands_from l.fn.from tree);
       straight : Straightly l.self l.fn.self;
       holds : Holds l.self l.fn.self;
