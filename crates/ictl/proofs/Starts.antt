@@ -9,7 +9,7 @@ use Rattle.server_host.specs.declared.edition.Edition.{Edition}
 use Rattle.ictl.specs.Main.{Progress, answered, behind, both, cleanups_from, ends, full, traces_from}
 use Rattle.ictl.specs.Visits.{visit_of}
 use Rattle.ictl.specs.Standing.{inner_written}
-use Rattle.ictl.specs.Interps.{Stands, Begins, GoesBehind, BehindWithin, behind_of, gives, taken, interp_state, interp_written, ending_of, IsSound, IsWithin}
+use Rattle.ictl.specs.Interps.{Stands, GoesBehind, BehindWithin, behind_of, gives, taken, interp_state, interp_written, ending_of, IsSound, IsWithin}
 use Rattle.ictl.specs.Falls.{GoesOut}
 use Rattle.ictl.specs.declared.inner.InnerRun.{InnerRun}
 use Rattle.ictl.specs.declared.next.Next.{Next}
@@ -17,7 +17,7 @@ use Rattle.ictl.specs.declared.next.Next.TheVariants.{Ended, NoMemory}
 use Rattle.ictl.specs.declared.task.Task.TheVariants.{Over}
 use Rattle.ictl.specs.declared.interp.Interp.{Interp}
 use Rattle.ictl.proofs.Beginnings.{behind_begins}
-use Rattle.ictl.proofs.Interpreters.{answered_or, ok_both, stands_out}
+use Rattle.ictl.proofs.Interpreters.{answered_so, ok_both, stands_out}
 use Rattle.ictl.proofs.Overs.{over_gives}
 use Rattle.ictl.proofs.Resets.{run_from, defined_from}
 use Rattle.ictl.proofs.Settlings.{none_taken}
@@ -26,31 +26,32 @@ use Rattle.ictl.proofs.Withins.{either, err_same, defined_within, within_from, o
 -- a run that was begun with a spare blueprint, by what its start answered
 pub started : {E : Type 0} (names : Names) (came : Result Next E) (next : Next) (run : Edition → List Answer → Progress) (new with_spare old : Interp) (after before : ℕ)
     → with_spare ≡ record old { spare = with_spare.spare } → MatchResult came (λ n. next ≡ n) (λ e. next ≡ NoMemory)
-    → IfOk came (λ n. Begins names (run with_spare.blueprint.value) n after before new with_spare)
-    → Begins names (run old.blueprint.value) next after before new old
+    → IfOk came (λ n. (further : List Answer) → run with_spare.blueprint.value further ≡ gives names n (taken names after before new with_spare) new further)
+    → Stands names (run old.blueprint.value) next (taken names after before new old) new []
 started names came next run new with_spare old after before rest same stands =
     run_from names next run new with_spare old after before rest
-    (answered_or came next (λ (n : Next). Begins names (run with_spare.blueprint.value) n after before new with_spare) tt same stands)
+    (answered_so came next (λ (n : Next). (further : List Answer) → run with_spare.blueprint.value further ≡ gives names n (taken names after before new with_spare) new further) same stands)
 
 -- the same of a definition run
 pub defined : {E : Type 0} (names : Names) (came : Result Next E) (next : Next) (run : Edition → List Answer → Progress) (new with_spare old : Interp)
     → with_spare ≡ record old { spare = with_spare.spare } → MatchResult came (λ n. next ≡ n) (λ e. next ≡ NoMemory)
-    → IfOk came (λ n. Stands names (run with_spare.blueprint.value) n 0 new []) → Stands names (run old.blueprint.value) next 0 new []
+    → IfOk came (λ n. (further : List Answer) → run with_spare.blueprint.value further ≡ gives names n 0 new further)
+    → Stands names (run old.blueprint.value) next 0 new []
 defined names came next run new with_spare old rest same stands =
     defined_from names next run new with_spare old rest
-    (answered_or came next (λ (n : Next). Stands names (run with_spare.blueprint.value) n 0 new []) tt same stands)
+    (answered_so came next (λ (n : Next). (further : List Answer) → run with_spare.blueprint.value further ≡ gives names n 0 new further) same stands)
 
 -- and it is within its run
 pub defined_most : {E : Type 0} (names : Names) (came : Result Next E) (run : Edition → List Answer → Progress) (new with_spare old : Interp) (first last : ℕ)
     → with_spare ≡ record old { spare = with_spare.spare } → last + Writes with_spare.settling.run.engine.made ≡ first + Writes new.settling.run.engine.made
     → OnErr came (IsWithin 0 first last new (run with_spare.blueprint.value []))
-    → IfOk came (λ n. Stands names (run with_spare.blueprint.value) n 0 new []) → IfOk came (λ n. GoesOut n new)
+    → IfOk came (λ n. (further : List Answer) → run with_spare.blueprint.value further ≡ gives names n 0 new further) → IfOk came (λ n. GoesOut n new)
     → IsWithin 0 first last new (run old.blueprint.value [])
 defined_most names came run new with_spare old first last rest counted most stands out =
     subst (λ (i : Interp). IsWithin 0 first last new (run i.blueprint.value [])) rest
     (either came (IsWithin 0 first last new (run with_spare.blueprint.value [])) most
-    (ok_both came (λ (n : Next). Stands names (run with_spare.blueprint.value) n 0 new []) (λ (n : Next). GoesOut n new) (λ n. IsWithin 0 first last new (run with_spare.blueprint.value []))
-    (λ n is goes. defined_within names n with_spare new first last (run with_spare.blueprint.value []) counted goes (stands_out names n (run with_spare.blueprint.value) 0 new goes is [])) stands out))
+    (ok_both came (λ (n : Next). (further : List Answer) → run with_spare.blueprint.value further ≡ gives names n 0 new further) (λ (n : Next). GoesOut n new) (λ n. IsWithin 0 first last new (run with_spare.blueprint.value []))
+    (λ n is goes. defined_within names n with_spare new first last (run with_spare.blueprint.value []) counted goes (is [])) stands out))
 
 -- what runs behind a response that was written whole is within its run
 pub written_most : {E : Type 0} (names : Names) (came : Result Next E) (old new : Interp) (first last : ℕ)

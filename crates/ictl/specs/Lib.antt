@@ -15,4 +15,5 @@ pub mod CameCode
 pub mod Steps
 pub mod Within
 pub mod Ways
+pub mod Begun
 pub mod Renewing

@@ -9,11 +9,12 @@ ghost use Rattle.http_req.specs.declared.request.Request.{Request};
 ghost use Rattle.ictl.specs.Fresh.{script_state};
 ghost use Rattle.ictl.specs.Replies.{verdict};
 ghost use Rattle.ictl.specs.Main.{run_questions, Main, Script, Define, both, answered, outcome_of, first_depth};
-ghost use Rattle.ictl.specs.Interps.{IsNew, Holds, IsSameRun, ending_of, interp_state, spare_of, Counts, gives, Stands, Begins, GoesBehind, trace_from, cleaned, trace_ended, IsVisitOf, BeginsWithin, AnswerWithin, BehindWithin};
+ghost use Rattle.ictl.specs.Interps.{IsNew, Holds, IsSameRun, ending_of, interp_state, spare_of, Counts, gives, taken, GoesBehind, trace_from, cleaned, trace_ended, IsVisitOf, BeginsWithin, AnswerWithin, BehindWithin};
 ghost use Rattle.ictl.specs.Standing.{CountsMade};
 ghost use Rattle.ictl.specs.Steps.{LowersIn, defined_gives};
 ghost use Rattle.ictl.specs.declared.defining.DefineRun.{DefineRun as Defining};
 ghost use Rattle.ictl.specs.Falls.{IsReady, DefineStopAsks, DefineFalls, IsAsking, IsWriting, GoesOut, MoveStandsAt, Falls, number_of, first_number, PartFalls};
+ghost use Rattle.ictl.specs.Begun.{ComesTo};
 ghost use Rattle.ictl.specs.Ways.{ChangesTask, way_from, way_on, MovesAlong, WayWithin};
 
 use crate::defining::{DefineRun, DefineStop};
@@ -101,8 +102,8 @@ impl Interp {
         requires { IsNew (names_of natives.now) self.old }
         ensures stands { let names = names_of natives.now in
             IfOk result (λ next.
-            Begins names (Main names self.old.blueprint.value request moment) next steps.new
-            steps.old self.new self.old) }
+            ComesTo names (Main names self.old.blueprint.value request moment) next
+            (taken names steps.new steps.old self.new self.old) self.new) }
         ensures counts { Counts (names_of natives.now) steps.new steps.old self.new self.old }
         ensures most { let names = names_of natives.now in
             OnErr result
@@ -141,8 +142,8 @@ impl Interp {
         requires { IsNew (names_of natives.now) self.old }
         ensures stands { let names = names_of natives.now in
             IfOk result (λ next.
-            Begins names (Script names self.old.blueprint.value script.now moment) next steps.new
-            steps.old self.new self.old) }
+            ComesTo names (Script names self.old.blueprint.value script.now moment) next
+            (taken names steps.new steps.old self.new self.old) self.new) }
         ensures counts { Counts (names_of natives.now) steps.new steps.old self.new self.old }
         ensures most { let names = names_of natives.now in
             OnErr result
@@ -175,8 +176,8 @@ impl Interp {
         requires inner { self.old.settling.inner ≡ None }
         ensures stands { let names = names_of natives.now in
             IfOk result (λ next.
-            Begins names (Script names self.old.blueprint.value script self.old.moment) next
-            steps.new steps.old self.new self.old) }
+            ComesTo names (Script names self.old.blueprint.value script self.old.moment) next
+            (taken names steps.new steps.old self.new self.old) self.new) }
         ensures counts { Counts (names_of natives.now) steps.new steps.old self.new self.old }
         ensures most { let names = names_of natives.now in
             OnErr result
@@ -211,8 +212,8 @@ impl Interp {
         requires { IsNew (names_of natives.now) self.old }
         ensures stands { let names = names_of natives.now in
             IfOk result (λ next.
-            Stands names (Define names self.old.blueprint.value script.now moment) next 0 self.new
-            []) }
+            ComesTo names (Define names self.old.blueprint.value script.now moment) next 0
+            self.new) }
         ensures steps { CountsMade steps.new steps.old self.new.settling.run self.old.settling.run }
         ensures most { let names = names_of natives.now in
             OnErr result

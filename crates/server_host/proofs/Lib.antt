@@ -2,4 +2,3 @@ pub mod Asking
 pub mod NamesGathered
 pub mod Lifting
 pub mod Naming
-mod Tmp

@@ -40,7 +40,6 @@ fn is_schedule(words: &Words) -> bool
 }
 
 /// Asks the schedule, where the word at a place is a number of seconds that may be.
-#[tactic(auto, using(crate::proofs::Tmp::unchanged))]
 fn schedule(host: &RunHost, place: usize, words: &Words) -> Result<HostReply, Refusal>
     ensures { Comes result host.now (schedules place words.now host.now) }
 {

@@ -13,6 +13,7 @@ use Rattle.tcl_parse.specs.Outcome as parsed
 use Rattle.tcl_parse.specs.Reading.{reading}
 use Rattle.tcl_expr.specs.Trees as trees
 use Rattle.tcl_expr.specs.Trees.{Tree}
+use Rattle.tcl_expr.specs.View.{tree_of as expression_tree}
 use Rattle.tcl_expr.specs.Outcome as answers
 use Rattle.tcl_expr.specs.Outcome.{Answer}
 use Rattle.tcl_expr.specs.Reading.{expression_of}
@@ -39,6 +40,7 @@ use Rattle.tcl_eval.specs.declared.operation.Way.{Way}
 use Rattle.tcl_eval.specs.declared.operation.Way.TheVariants.{Both, IfTrue, IfFalse}
 use Rattle.tcl_eval.specs.declared.parameter.Parameter.{Parameter}
 use Rattle.tcl_eval.specs.declared.stack.Ended.{Ended}
+use Rattle.tcl_eval.specs.declared.stack.Evaluation.{Evaluation}
 use Rattle.tcl_eval.specs.declared.verb.Verb.{Verb}
 use Rattle.tcl_eval.specs.declared.verb.Verb.TheVariants as verb
 use Rattle.natives.specs.Names.{has_name}
@@ -53,6 +55,7 @@ use Rattle.tcl_eval.specs.Going.{Source, unread, read, Inner, on_ok, pay, give, 
 use Rattle.tcl_eval.specs.Pieces.{run_part, run_parts}
 use Rattle.tcl_eval.specs.Commands.{rename_of, proc_of, call_bound, define_proc, do_proc, renamed_as, do_rename, do_eval, catch_end, do_catch, came_next}
 use Rattle.tcl_eval.specs.Expressions.{with_one, with_two, way_of, behind_left, run_expression, run_answer, evaluate, test, value_end, do_expr}
+use Rattle.tcl_eval.specs.Evaluations.{evaluation_next}
 use Rattle.tcl_eval.specs.Branches.{run_body, choose, choose_of, from_condition}
 use Rattle.tcl_eval.specs.Loops.{assigned, in_loop, between, turn_body, turns, turn_on, do_while, do_for, walk_on, over_values, over_names, do_foreach}
 use Rattle.tcl_eval.specs.Switch.{options, body_for, by_pairs, by_listing, by_words, by_options}
@@ -232,6 +235,17 @@ module _ {H : Type 0} (inner : Inner H) (run : Runs inner) where
   evaluate_alike : (bytes : List ℕ) (m : ℕ) (k k' : Next H) → After m k k' → Alike m (evaluate inner bytes k) (evaluate inner bytes k')
   evaluate_alike bytes m k k' h =
       pay_alike 1 m (run_answer inner bytes (expression_of bytes) k) (run_answer inner bytes (expression_of bytes) k') (run_answer_alike bytes (expression_of bytes) m k k' h)
+
+  -- an `expr` whose words are all there
+  pub evaluation_alike : (evaluation : Evaluation) (m : ℕ) (k k' : Next H) → After m k k' → Alike m (evaluation_next inner evaluation k) (evaluation_next inner evaluation k')
+  evaluation_alike evaluation m k k' h =
+      let x : Tree = expression_tree evaluation.expr.value in
+      let end : After m (command_end k) (command_end k') = command_end_after m k k' h in
+      let way : Next H → Rest H = λ n. run_expression inner x (value_end (command_end n)) in
+      pay_alike evaluation.cost m (pay 1 (way k)) (pay 1 (way k'))
+      (pay_alike 1 m (way k) (way k')
+      (run_expression_alike x m (value_end (command_end k)) (value_end (command_end k'))
+      (on_ok_after (λ v. command_end k 0 (value_of v)) (λ v. command_end k' 0 (value_of v)) m (command_end k) (command_end k') (λ v. end 0 (value_of v)) end)))
 
   tested : (one one' other other' : Rest H) (m : ℕ) (k k' : Next H) → Alike m one one' → Alike m other other' → After m k k' → After m (on_ok (λ v. by_truth v one other k) k) (on_ok (λ v. by_truth v one' other' k') k')
   tested one one' other other' m k k' h1 h2 h =

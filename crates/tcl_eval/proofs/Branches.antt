@@ -66,7 +66,7 @@ module _ {H : Type 0} (ns : Names) (t : LeafTable H) where
       ∙ sym (ap (λ (cs : List (List ℕ × List ℕ)). choose inner cs all.last k s b g) (some_left all.clauses at clause found))
 
   -- no condition is left
-  pub choose_last : (inner : Inner H) (all : Branches) (at : ℕ) (last : Option (List ℕ)) (k : Next H) (s : State H) (b : ℕ) (g : Given) (x : Out H) → None ≡ slice_get all.clauses at → last ≡ all.last → x ≡ otherwise inner last k s b g → x ≡ choose inner (drop at all.clauses) all.last k s b g
+  pub choose_last : (inner : Inner H) (all : Branches) (at : ℕ) (last : Option (List ℕ)) (k : Next H) (s : State H) (b : ℕ) (g : Given) (x : Out H) → None ≡ slice_get all.clauses at → last ≡ all.last → x ≡ run_body inner last k s b g → x ≡ choose inner (drop at all.clauses) all.last k s b g
   choose_last inner all at last k s b g x none is e =
       e
       ∙ ap (λ (o : Option (List ℕ)). run_body inner o k s b g) is

@@ -17,7 +17,7 @@ use Rattle.tcl_eval.specs.declared.engine.Engine.{Engine}
 use Rattle.tcl_eval.specs.declared.stack.Ended.{Ended}
 use Rattle.tcl_eval.specs.declared.loop_turns.Ran.{Ran}
 use Rattle.tcl_eval.specs.declared.stack.Frame.{Frame}
-use Rattle.tcl_eval.specs.declared.stack.Frame.TheVariants.{Procedure, Result as Result_frame}
+use Rattle.tcl_eval.specs.declared.stack.Frame.TheVariants.{ProcedureResult}
 use Rattle.tcl_eval.specs.Turns.{ran_next}
 use Rattle.tcl_eval.proofs.Stacks.{pushed}
 
@@ -55,7 +55,5 @@ module _ {H : Type 0} (ns : Names) (t : LeafTable H) where
       ∙ ap (λ (f : Stack). from f old.stack.items) is
 
   -- what is left of a body stands on the stack
-  pub call_pushed : (fs fs1 fs2 : List Frame) (ran : Ran) (s : State H) (b : ℕ) (g : Given) → fs1 ≡ fs ++ Result_frame ∷ [] → fs2 ≡ fs1 ++ Procedure ∷ [] → ran_next ns t ran (stack_next ns t fs2) s b g ≡ ran_next ns t ran (proc_end (command_end (stack_next ns t fs))) s b g
-  call_pushed fs fs1 fs2 ran s b g first second =
-      ap (λ (x : Next H). ran_next ns t ran x s b g) (pushed ns t fs1 fs2 Procedure second)
-      ∙ ap (λ (x : Next H). ran_next ns t ran (proc_end x) s b g) (pushed ns t fs fs1 Result_frame first)
+  pub call_pushed : (fs fs1 : List Frame) (ran : Ran) (s : State H) (b : ℕ) (g : Given) → fs1 ≡ fs ++ ProcedureResult ∷ [] → ran_next ns t ran (stack_next ns t fs1) s b g ≡ ran_next ns t ran (proc_end (command_end (stack_next ns t fs))) s b g
+  call_pushed fs fs1 ran s b g push = ap (λ (x : Next H). ran_next ns t ran x s b g) (pushed ns t fs fs1 ProcedureResult push)

@@ -25,18 +25,12 @@ use Rattle.tcl_eval.specs.declared.engine.Engine.{Engine}
 use Rattle.tcl_eval.specs.declared.stack.Frame.{Frame}
 use Rattle.tcl_eval.specs.declared.stack.Frame.TheVariants.{Script}
 use Rattle.std.proofs.lemmas.Bool.{le-ltb}
-use Rattle.tcl_expr.specs.Grammar.{Reads}
-use Rattle.tcl_expr.specs.Outcome as expr_outcome
-use Rattle.tcl_expr.specs.Outcome.{Answer}
-use Rattle.tcl_expr.specs.Reading.{expression_is, expression_of}
-use Rattle.tcl_expr.specs.Trees.{Tree}
+use Rattle.tcl_expr.specs.Reading.{expression_of}
 use Rattle.tcl_eval.specs.State.{spent}
-use Rattle.tcl_eval.specs.AtOnce.{at_once}
 use Rattle.tcl_eval.specs.Eval.{command_cost, command_end, joined, wrong_words_end}
 use Rattle.tcl_eval.specs.Expressions.{evaluate, run_answer, value_end, whole_value}
 use Rattle.tcl_eval.specs.declared.verb.Verb.{Verb}
 use Rattle.tcl_eval.specs.declared.verb.Verb.TheVariants.{Expr}
-use Rattle.tcl_eval.proofs.AtOnce.{expression_gives}
 use Rattle.tcl_eval.proofs.Alike.{Runs, run_words_alike}
 use Rattle.tcl_eval.proofs.Stacks.{pushed}
 use Rattle.tcl_eval.proofs.Steps.{other_code, handed_on}
@@ -145,16 +139,6 @@ module _ {H : Type 0} (ns : Names) (t : LeafTable H) where
   pub whole_gives : (code : ℕ) (result : List ℕ) (k : Next H) (s : State H) (b : ℕ) (g : Given) → give (whole_value code result) k s b g ≡ value_end k code result s b g
   whole_gives zero result k s b g = refl
   whole_gives (suc code) result k s b g = refl
-
-  -- the words of an `expr` come to this at once
-  pub expr_gives : (levels : ℕ) (text words : List ℕ) (x : Tree) (value ended : Ended) (k : Next H) (s : State H) (b : ℕ) (g : Given) → Reads text (expr_outcome.tree x) → at_once s.frames x ≡ Some value → ended ≡ whole_value value.code value.result → text ≡ words → give ended k s b g ≡ run_answer (nested ns t levels) words (expression_of words) (value_end k) s b g
-  expr_gives levels text words x value ended k s b g reads found is same =
-      let inner = nested ns t levels in
-      ap (λ (v : Ended). give v k s b g) is
-      ∙ whole_gives value.code value.result k s b g
-      ∙ expression_gives ns t levels s b g x (value_end k) value found
-      ∙ sym (ap (λ (a : Answer). run_answer inner text a (value_end k) s b g) (expression_is text (expr_outcome.tree x) reads))
-      ∙ ap (λ (w : List ℕ). run_answer inner w (expression_of w) (value_end k) s b g) same
 
   -- an `expr` is paid for, with its evaluation
   pub expr_paid : (inner : Inner H) (words : List (List ℕ)) (ws : Words) (k : Next H) (s : State H) (b cost : ℕ) (g : Given) (x : Out H) → IsOwn s.commands words → has_name ns (arg words 0) ≡ false → begins_var_command words ≡ false → verb_of (arg words 0) ≡ Expr → 2 ≤ length words → cost ≡ command_cost words + 1 → cost ≤ b → ws ≡ no_words → x ≡ run_answer inner (joined (drop 1 words)) (expression_of (joined (drop 1 words))) (value_end (command_end k)) s (b - cost) g → x ≡ run_words ns t inner ws words k s b g

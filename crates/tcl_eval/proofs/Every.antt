@@ -44,6 +44,7 @@ use Rattle.tcl_eval.specs.declared.operation.Way.{Way}
 use Rattle.tcl_eval.specs.declared.operation.Way.TheVariants.{Both, IfTrue, IfFalse}
 use Rattle.tcl_eval.specs.declared.parameter.Parameter.{Parameter}
 use Rattle.tcl_eval.specs.declared.stack.Ended.{Ended}
+use Rattle.tcl_eval.specs.declared.stack.Evaluation.{Evaluation}
 use Rattle.tcl_eval.specs.declared.stack.Frame.{Frame}
 use Rattle.tcl_eval.specs.declared.stack.Frame.TheVariants as frames
 use Rattle.tcl_eval.specs.declared.stack.Ready.{Ready}
@@ -58,7 +59,7 @@ use Rattle.natives.specs.Names.{has_name}
 use Rattle.tcl_eval.specs.Natives.{is_in_range, replied, call_native}
 use Rattle.tcl_eval.specs.State.{State, TextEnd, LeafTable, Given, Out, done, spent, too_deep, Rest, Next}
 use Rattle.tcl_eval.specs.Messages.{script_fault, too_long, no_boolean, bad_expression, no_list, bad_value, unknown_command, variable_fault, no_command, command_exists}
-use Rattle.tcl_eval.specs.Costs.{result_cost}
+use Rattle.tcl_eval.specs.Costs.{evaluation_cost, result_cost}
 use Rattle.tcl_eval.specs.Results.{most_bytes, most_levels, error_of, wrong_words_end, element_name, returned, read_as, stored, stored_of, return_of, raised_of, break_of, continue_of}
 use Rattle.tcl_eval.specs.Parameters.{Values, parameters, bound}
 use Rattle.tcl_eval.specs.Words.{arg, joined}
@@ -72,6 +73,7 @@ use Rattle.tcl_eval.specs.Switch.{options, body_for, by_pairs, by_listing, by_wo
 use Rattle.tcl_eval.specs.Info.{info_said, do_info}
 use Rattle.tcl_eval.specs.Eval.{verb_of, is_for_host, set_or_fails, set_global, make, define, leaf, built_in, built, run_command, act, command, run_words, run_commands, run_reading, run_script, nested, eval}
 use Rattle.tcl_eval.specs.Places.{tree_of, commands_from, command_at, words_from, place_parts}
+use Rattle.tcl_eval.specs.Evaluations.{evaluation_next}
 use Rattle.tcl_eval.specs.Kept.{grown, judged, run_too_long, run_kept, run_costly}
 use Rattle.tcl_eval.specs.declared.gather.SoFar.{SoFar}
 use Rattle.tcl_eval.specs.declared.gather.SoFar.TheVariants as kept
@@ -632,6 +634,20 @@ module _ {H : Type 0} (P Q : State H → ℕ → Given → Out H → Type 0) (Sh
       run_parts_good inner run w [] (word_end (λ v. run_costly inner ws k) k)
       (word_end_good (λ v. run_costly inner ws k) k (λ v short. run_costly_good inner run ws k h) h)
 
+  -- expressions under way
+
+  value_end_good : (k : Next H) → GoodNext k → GoodNext (value_end k)
+  value_end_good k h = on_ok_good (λ v. k 0 (value_of v)) k (λ v. h 0 (value_of v)) h
+
+  operand_good : (k : Next H) → GoodNext k → GoodNext (on_ok (λ v. judged k 0 v) (judged k))
+  operand_good k h = on_ok_good (λ v. judged k 0 v) (judged k) (λ v. judged_next_good k h 0 v) (judged_next_good k h)
+
+  evaluation_good : (inner : Inner H) → Runs inner → (evaluation : Evaluation) (k : Next H) → GoodNext k → Good (evaluation_next inner evaluation k)
+  evaluation_good inner run evaluation k h =
+      let x : Tree = expression_tree evaluation.expr.value in
+      let way : Rest H = run_expression inner x (value_end (command_end k)) in
+      pay_good evaluation.cost (pay evaluation_cost way) (pay_good 1 way (run_expression_good inner run x (value_end (command_end k)) (value_end_good (command_end k) (command_end_good k h))))
+
   -- any words are as a run reads them
   abbrev pub AnyShort : Type 0
   AnyShort = (words : List (List ℕ)) → AllByRecursion Short words
@@ -659,11 +675,13 @@ module _ {H : Type 0} (P Q : State H → ℕ → Given → Out H → Type 0) (Sh
       on_ok_good (λ v. read_variable (element_name array v) k) k (λ v. read_variable_good (element_name array v) k h) h
   frame_good rule any ns frames.Result k h = command_end_good k h
   frame_good rule any ns frames.Procedure k h = proc_end_good k h
+  frame_good rule any ns frames.ProcedureResult k h = proc_end_good (command_end k) (command_end_good k h)
   frame_good rule any ns (frames.Caught name) k h = catch_end_good name k h
   frame_good rule any ns (frames.Expression expr levels) k h =
       let inner : Inner H = nested ns t levels in
       on_ok_good (λ v. run_expression inner (expression_tree expr.value) k) k
       (λ v. run_expression_good inner (run_script_good rule ns levels) (expression_tree expr.value) k h) h
+  frame_good rule any ns frames.Operand k h = operand_good k h
   frame_good rule any ns (frames.Operation op) k h = on_ok_good (λ v. give (with_one op v) k) k (λ v. give_good (with_one op v) k h) h
   frame_good rule any ns (frames.Left op right levels) k h =
       let inner : Inner H = nested ns t levels in
@@ -684,7 +702,8 @@ module _ {H : Type 0} (P Q : State H → ℕ → Given → Out H → Type 0) (Sh
       let go : List ℕ → Rest H = λ v. by_truth v (run_expression inner x k) (run_expression inner y k) k in
       on_ok_good go k
       (λ v. by_truth_good v (run_expression inner x k) (run_expression inner y k) k (run_expression_good inner run x k h) (run_expression_good inner run y k h) h) h
-  frame_good rule any ns frames.Value k h = on_ok_good (λ v. k 0 (value_of v)) k (λ v. h 0 (value_of v)) h
+  frame_good rule any ns frames.Value k h = value_end_good k h
+  frame_good rule any ns frames.ValueResult k h = value_end_good (command_end k) (command_end_good k h)
   frame_good rule any ns (frames.Branch b) k h = branch_good rule ns b k h
 
   above_good : LeafRule → AnyShort → (ns : Names) (fs : List Frame) (k : Next H) → GoodNext k → GoodNext (above ns t fs k)
@@ -697,6 +716,7 @@ module _ {H : Type 0} (P Q : State H → ℕ → Given → Out H → Type 0) (Sh
   pub ready_good : LeafRule → AnyShort → (ns : Names) (what : Ready) (k : Next H) → GoodNext k → Good (ready_next ns t what k)
   ready_good rule any ns (ready.Command words levels) k h =
       command_good rule ns (nested ns t levels) (run_script_good rule ns levels) words (any (drop 1 words)) k h
+  ready_good rule any ns (ready.Expression evaluation levels) k h = evaluation_good (nested ns t levels) (run_script_good rule ns levels) evaluation k h
   ready_good rule any ns (ready.Branch b value) k h = branch_good rule ns b k h value.code value.result
   ready_good rule any ns ready.TooDeep k h = λ s b g. c.sinks s b g
   ready_good rule any ns ready.Spent k h = λ s b g. c.spends s b g
@@ -704,6 +724,8 @@ module _ {H : Type 0} (P Q : State H → ℕ → Given → Out H → Type 0) (Sh
   pub step_good : LeafRule → AnyShort → (ns : Names) (what : Step) (k : Next H) → GoodNext k → Good (step_next ns t what k)
   step_good rule any ns (step.Value value) k h = give_good value k h
   step_good rule any ns (step.Pieces place so_far levels) k h = run_kept_good (nested ns t levels) (run_script_good rule ns levels) (place_parts place) so_far k h
+  step_good rule any ns (step.Bracket script levels) k h =
+      run_script_good rule ns levels (read (tree_of script.value)) (on_ok (λ v. judged k 0 v) (judged k)) (operand_good k h)
   step_good rule any ns (step.Stop what) k h = ready_good rule any ns what k h
 
   -- what a command may run, where so many levels are left to it

@@ -14,9 +14,9 @@ use Rattle.tcl_expr.specs.Grammar.{Reads}
 use Rattle.tcl_expr.specs.declared.expr.Expr.{Expr}
 use Rattle.tcl_expr.specs.View.{tree_of}
 use Rattle.tcl_eval.specs.State.{State, LeafTable, Given, Out, spent, Rest, Next}
-use Rattle.tcl_parse.specs.Tree.{Parts}
+use Rattle.tcl_parse.specs.Tree.{Commands, Parts, bracket, no_parts, part}
 use Rattle.tcl_eval.specs.Messages.{bad_expression}
-use Rattle.tcl_eval.specs.Eval.{Inner, ended, error_of, give, on_ok, by_truth, nested, run_parts}
+use Rattle.tcl_eval.specs.Eval.{Inner, read, ended, error_of, give, on_ok, by_truth, nested, run_parts, run_script}
 use Rattle.tcl_eval.specs.Expressions.{run_expression, run_answer, evaluate, value_end, do_expr, way_of, behind_left}
 use Rattle.tcl_eval.specs.Words.{joined}
 use Rattle.tcl_eval.specs.Results.{wrong_words_end}
@@ -47,13 +47,6 @@ module _ {H : Type 0} (ns : Names) (t : LeafTable H) where
   part_step fs fs1 fs2 f expr levels value s b g e1 e2 is =
       expression_step fs1 fs2 expr levels value s b g e2 is
       ∙ ap (λ (k : Next H). run_expression (nested ns t levels) (tree_of expr.value) k s b g) (pushed ns t fs fs1 f e1)
-
-  -- a part of an expression that is a word begins, for whose value a frame waits
-  pub part_word : (fs fs1 : List Frame) (f : Frame) (expr whole : Expr) (levels : ℕ) (s : State H) (b : ℕ) (g : Given) (x : Out H) → fs1 ≡ fs ++ f ∷ [] → tree_of expr ≡ tree_of whole → x ≡ run_expression (nested ns t levels) (tree_of whole) (stack_next ns t fs1) s b g → x ≡ run_expression (nested ns t levels) (tree_of expr) (frame_next ns t f (stack_next ns t fs)) s b g
-  part_word fs fs1 f expr whole levels s b g x push is e =
-      e
-      ∙ ap (λ (k : Next H). run_expression (nested ns t levels) (tree_of whole) k s b g) (pushed ns t fs fs1 f push)
-      ∙ sym (ap (λ (v : Tree). run_expression (nested ns t levels) v (frame_next ns t f (stack_next ns t fs)) s b g) is)
 
   -- an expression begins, behind a good end
   pub begun : (x : Tree) (expr : Expr) (levels code : ℕ) (result : List ℕ) (k : Next H) (s : State H) (b : ℕ) (g : Given) (y : Out H) → code ≡ 0 → tree_of expr ≡ x → y ≡ run_expression (nested ns t levels) x k s b g → y ≡ on_ok (λ r. run_expression (nested ns t levels) (tree_of expr) k) k code result s b g
@@ -114,6 +107,10 @@ module _ {H : Type 0} where
       ∙ ap (λ (x : List ℕ). run_parts inner p' x (judged k) s b g) ise
 
 module _ {H : Type 0} (ns : Names) (t : LeafTable H) where
+  -- a bracket that is a whole operand begins
+  pub lone_step : (levels : ℕ) (cs : Commands) (ps : Parts) (k : Next H) (s : State H) (b : ℕ) (g : Given) → ps ≡ part (bracket cs) no_parts → run_script ns t levels (read cs) (on_ok (λ v. judged k 0 v) (judged k)) s b g ≡ run_parts (nested ns t levels) ps [] (judged k) s b g
+  lone_step levels cs ps k s b g is = sym (ap (λ (x : Parts). run_parts (nested ns t levels) x [] (judged k) s b g) is)
+
   -- a step that is this value
   pub value_is : (step : Step) (value : Ended) (k : Next H) (s : State H) (b : ℕ) (g : Given) → step ≡ Value_step value → step_next ns t step k s b g ≡ give value k s b g
   value_is step value k s b g is = ap (λ (x : Step). step_next ns t x k s b g) is

@@ -3,6 +3,7 @@ pub mod Alike
 pub mod AtOnce
 pub mod Bases
 pub mod Branches
+pub mod Evaluations
 pub mod Every
 pub mod Expressions
 pub mod Fronts

@@ -50,6 +50,7 @@ module _ {H : Type 0} where
   done_alone tried.Spent new old was = tt
   done_alone (tried.Left values) new old was = absurd was
   done_alone (tried.Costly count) new old was = absurd was
+  done_alone (tried.Evaluates evaluation) new old was = absurd was
 
   -- an engine goes on as it was
   pub left_alone : (new old : Engine H) (way : Next H → Rest H) (k : Next H) (g : Given) → new ≡ old → way k (state_of new) new.budget g ≡ way k (state_of old) old.budget g

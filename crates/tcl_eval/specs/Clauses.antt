@@ -2,15 +2,19 @@
 use Rattle.std.specs.Prelude.{◌≡◌, ◌<◌, ◌≤◌, ℕ, ◌+◌, [], length, Option}
 use Rattle.txt_core.specs.Names.{Words, Names}
 use Rattle.tcl_parse.specs.Tree.{Words as TreeWords, no_words}
-use Rattle.tcl_eval.specs.State.{LeafTable, Rest, Next}
+use Rattle.tcl_expr.specs.Trees.{Tree}
+use Rattle.tcl_eval.specs.State.{LeafTable, Given, Rest, Next}
 use Rattle.tcl_eval.specs.Eval.{nested, run_words}
+use Rattle.tcl_eval.specs.Expressions.{run_expression}
+use Rattle.tcl_eval.specs.Evaluations.{begun_next}
 use Rattle.tcl_eval.specs.Places.{words_from, words_size}
 use Rattle.tcl_eval.specs.Stack.{branch_next, branch_free, frame_next, step_next, step_weight, stack_weight}
 use Rattle.tcl_eval.specs.Straight.{Alike, tried_next, tried_size}
-use Rattle.tcl_eval.specs.Engine.{Same, Nears, acted_next, credit, gone_next}
+use Rattle.tcl_eval.specs.Engine.{Same, Nears, acted_next, credit, gone_next, state_of}
 use Rattle.tcl_eval.specs.declared.branch.Branch.{Branch}
 use Rattle.tcl_eval.specs.declared.engine.Engine.{Engine}
 use Rattle.tcl_eval.specs.declared.engine.OpenQuestion.{OpenQuestion}
+use Rattle.tcl_eval.specs.declared.evaluation.Begun.{Begun}
 use Rattle.tcl_eval.specs.declared.stack.Acted.{Acted}
 use Rattle.tcl_eval.specs.declared.stack.Ended.{Ended}
 use Rattle.tcl_eval.specs.declared.stack.Frame.{Frame}
@@ -54,6 +58,12 @@ module _ {H : Type 0} (table : LeafTable H) where
   -- what was done of a command is this way to go on from the old engine, whatever names natives have and whichever question is open
   abbrev pub ActsAs : Acted → Engine H → Engine H → (Names → Next H → Rest H) → Type 0
   ActsAs acted new old way = (names : Names) (opened : Option OpenQuestion) → Same names table new old (acted_next names table acted opened) (way names)
+
+  -- an expression goes on as it was begun, whatever comes next and is left of the budget
+  abbrev pub Begins : Begun → Engine H → Tree → Type 0
+  Begins begun engine x =
+      (names : Names) (levels : ℕ) (k : Next H) (budget : ℕ) (given : Given)
+      → begun_next (nested names table levels) begun k (state_of engine) budget given ≡ run_expression (nested names table levels) x k (state_of engine) budget given
 
 -- of a command, no more is left to go over than behind these values
 abbrev pub IsLeftOf : Words → Tried → Type 0

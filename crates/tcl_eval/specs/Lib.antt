@@ -28,6 +28,7 @@ pub mod Verbs
 pub mod Places
 pub mod Kept
 pub mod Short
+pub mod Evaluations
 pub mod Stack
 pub mod Straight
 pub mod Clauses

@@ -4,15 +4,16 @@ use Rattle.txt_core.specs.Names.{Names}
 use Rattle.tcl_eval.specs.State.{LeafTable, Rest, Next, done, spent, too_deep}
 use Rattle.tcl_expr.specs.View.{tree_of as expression_tree}
 use Rattle.tcl_host.specs.Codes as code_of
-use Rattle.tcl_eval.specs.Eval.{unread, give, on_ok, command_end, proc_end, catch_end, read_variable, by_truth, element_name, command, run_words, run_commands, nested}
+use Rattle.tcl_eval.specs.Eval.{unread, read, give, on_ok, command_end, proc_end, catch_end, read_variable, by_truth, element_name, command, run_words, run_commands, run_script, nested}
 use Rattle.tcl_eval.specs.Expressions.{with_one, with_two, way_of, behind_left, run_expression, value_end}
 use Rattle.tcl_eval.specs.Branches.{choose}
 use Rattle.tcl_eval.specs.Pages.{piece_end, run_pieces}
 use Rattle.tcl_eval.specs.Loops.{in_loop, between, turn_body, turns, turn_on, walk_on}
-use Rattle.tcl_eval.specs.Kept.{grown, run_kept, run_costly}
+use Rattle.tcl_eval.specs.Evaluations.{evaluation_next}
+use Rattle.tcl_eval.specs.Kept.{grown, judged, run_kept, run_costly}
 use Rattle.tcl_eval.specs.Places.{tree_of, commands_from, command_at, words_from, place_parts, parts_size, words_size, commands_size, tree_size}
 use Rattle.tcl_eval.specs.declared.stack.Frame.{Frame}
-use Rattle.tcl_eval.specs.declared.stack.Frame.TheVariants.{Script, Command, Costly, Word, Index, Result, Procedure, Caught, Expression, Operation, Left, Right, Choice, Value, Branch as Branching}
+use Rattle.tcl_eval.specs.declared.stack.Frame.TheVariants.{Script, Command, Costly, Word, Index, Result, Procedure, ProcedureResult, Caught, Expression, Operand, Operation, Left, Right, Choice, Value, ValueResult, Branch as Branching}
 use Rattle.tcl_eval.specs.declared.branch.Branch.{Branch}
 use Rattle.tcl_eval.specs.declared.branch.Branch.TheVariants as branch
 use Rattle.tcl_eval.specs.declared.stack.Ready.{Ready}
@@ -51,8 +52,10 @@ module _ {H : Type 0} (names : Names) (table : LeafTable H) where
   frame_next (Index array) k = on_ok (λ value. read_variable (element_name array value) k) k
   frame_next Result k = command_end k
   frame_next Procedure k = proc_end k
+  frame_next ProcedureResult k = proc_end (command_end k)
   frame_next (Caught name) k = catch_end name k
   frame_next (Expression expr levels) k = on_ok (λ result. run_expression (nested names table levels) (expression_tree expr.value) k) k
+  frame_next Operand k = on_ok (λ value. judged k code_of.ok value) (judged k)
   frame_next (Operation op) k = on_ok (λ operand. give (with_one op operand) k) k
   frame_next (Left op right levels) k =
       on_ok (λ left. behind_left (way_of op) left (run_expression (nested names table levels) (expression_tree right.value) (on_ok (λ value. give (with_two op left value) k) k)) k) k
@@ -60,6 +63,7 @@ module _ {H : Type 0} (names : Names) (table : LeafTable H) where
   frame_next (Choice first second levels) k =
       on_ok (λ value. by_truth value (run_expression (nested names table levels) (expression_tree first.value) k) (run_expression (nested names table levels) (expression_tree second.value) k) k) k
   frame_next Value k = value_end k
+  frame_next ValueResult k = value_end (command_end k)
   frame_next (Branching b) k = branch_next b k
 
   -- frames from the lowest up, above what comes last
@@ -74,6 +78,7 @@ module _ {H : Type 0} (names : Names) (table : LeafTable H) where
   -- what is ready to be done, or an end, above a stack
   abbrev pub ready_next : Ready → Next H → Rest H
   ready_next (ready.Command words levels) k = command names table (nested names table levels) words k
+  ready_next (ready.Expression evaluation levels) k = evaluation_next (nested names table levels) evaluation k
   ready_next (ready.Branch b value) k = branch_next b k value.code value.result
   ready_next ready.TooDeep k = λ state budget given. too_deep state
   ready_next ready.Spent k = λ state budget given. spent state
@@ -88,6 +93,8 @@ module _ {H : Type 0} (names : Names) (table : LeafTable H) where
   step_next (step.Value value) k = k value.code value.result
   step_next (step.Pieces place so_far levels) k =
       run_kept (nested names table levels) (place_parts place) so_far k
+  step_next (step.Bracket script levels) k =
+      run_script names table levels (read (tree_of script.value)) (on_ok (λ value. judged k code_of.ok value) (judged k))
   step_next (step.Stop what) k = ready_next what k
 
 -- ---- how many steps may come before the next command is paid for
@@ -101,13 +108,16 @@ frame_weight (Word place so_far levels) = parts_size (place_parts place) + 2
 frame_weight (Index array) = 1
 frame_weight Result = 1
 frame_weight Procedure = 1
+frame_weight ProcedureResult = 1
 frame_weight (Caught name) = 1
 frame_weight (Expression expr levels) = tree_size (expression_tree expr.value)
+frame_weight Operand = 1
 frame_weight (Operation op) = 1
 frame_weight (Left op right levels) = tree_size (expression_tree right.value) + 2
 frame_weight (Right op left) = 1
 frame_weight (Choice first second levels) = tree_size (expression_tree first.value) + tree_size (expression_tree second.value) + 1
 frame_weight Value = 1
+frame_weight ValueResult = 1
 frame_weight (Branching b) = 1
 
 abbrev pub stack_weight : List Frame → ℕ
@@ -117,6 +127,7 @@ stack_weight (frame ∷ frames) = frame_weight frame + stack_weight frames
 abbrev pub step_weight : Step → ℕ
 step_weight (step.Value value) = 0
 step_weight (step.Pieces place so_far levels) = parts_size (place_parts place) + 1
+step_weight (step.Bracket script levels) = commands_size (tree_of script.value) + 2
 step_weight (step.Stop what) = 0
 
 -- ---- how many texts may be run before the next command is paid for
@@ -140,13 +151,16 @@ frame_free (Word place so_far levels) = 0
 frame_free (Index array) = 0
 frame_free Result = 0
 frame_free Procedure = 0
+frame_free ProcedureResult = 0
 frame_free (Caught name) = 0
 frame_free (Expression expr levels) = 0
+frame_free Operand = 0
 frame_free (Operation op) = 0
 frame_free (Left op right levels) = 0
 frame_free (Right op left) = 0
 frame_free (Choice first second levels) = 0
 frame_free Value = 0
+frame_free ValueResult = 0
 frame_free (Branching b) = branch_free b
 
 abbrev pub stack_free : List Frame → ℕ
@@ -155,6 +169,7 @@ stack_free (frame ∷ frames) = frame_free frame + stack_free frames
 
 abbrev pub ready_free : Ready → ℕ
 ready_free (ready.Command words levels) = 0
+ready_free (ready.Expression evaluation levels) = 0
 ready_free (ready.Branch b value) = branch_free b
 ready_free ready.TooDeep = 0
 ready_free ready.Spent = 0
@@ -166,4 +181,5 @@ settled_free (settled.Ready what) = ready_free what
 abbrev pub step_free : Step → ℕ
 step_free (step.Value value) = 0
 step_free (step.Pieces place so_far levels) = 0
+step_free (step.Bracket script levels) = 0
 step_free (step.Stop what) = ready_free what

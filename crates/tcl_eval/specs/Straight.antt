@@ -11,6 +11,7 @@ use Rattle.tcl_eval.specs.Words.{arg}
 use Rattle.tcl_eval.specs.Going.{Inner, on_ok, give}
 use Rattle.tcl_eval.specs.Eval.{run_words, run_commands, verb_of}
 use Rattle.tcl_eval.specs.Kept.{run_costly}
+use Rattle.tcl_eval.specs.Evaluations.{evaluation_next}
 use Rattle.tcl_eval.specs.Places.{commands_from, command_at, words_from, words_size, commands_size}
 use Rattle.tcl_eval.specs.Engine.{state_of}
 use Rattle.tcl_eval.specs.declared.engine.Engine.{Engine}
@@ -78,6 +79,7 @@ module _ {H : Type 0} where
   LeftAlone tried.Spent new old = Unit {0}
   LeftAlone (tried.Left values) new old = new ≡ old
   LeftAlone (tried.Costly count) new old = new ≡ old
+  LeftAlone (tried.Evaluates evaluation) new old = new ≡ old
 
 module _ {H : Type 0} (names : Names) (table : LeafTable H) where
   -- how a command of these words goes on from what was done of it
@@ -86,6 +88,7 @@ module _ {H : Type 0} (names : Names) (table : LeafTable H) where
   tried_next inner words tried.Spent k = λ state budget given. spent state
   tried_next inner words (tried.Left values) k = run_words names table inner (words_from (length values) words) values k
   tried_next inner words (tried.Costly count) k = run_costly inner (words_from count words) k
+  tried_next inner words (tried.Evaluates evaluation) k = evaluation_next inner evaluation k
 
   -- what comes behind the command at a place of a script
   abbrev pub behind_command : Inner H → Commands → ℕ → Next H → Next H
@@ -99,6 +102,7 @@ module _ {H : Type 0} (names : Names) (table : LeafTable H) where
       run_words names table inner (words_from (length values) (command_at at script)) values (behind_command inner script at k)
   stand_next inner script (stand.Costly at word) k =
       run_costly inner (words_from word (command_at at script)) (behind_command inner script at k)
+  stand_next inner script (stand.Evaluates at evaluation) k = evaluation_next inner evaluation (behind_command inner script at k)
 
 -- a command was done, or costs more than is left
 abbrev pub IsDone : Tried → Type 0
@@ -106,6 +110,7 @@ IsDone (tried.Gives value) = Unit {0}
 IsDone tried.Spent = Unit {0}
 IsDone (tried.Left values) = ⊥
 IsDone (tried.Costly count) = ⊥
+IsDone (tried.Evaluates evaluation) = ⊥
 
 -- how much of a command of these words there is to go over
 abbrev pub tried_size : TreeWords → Tried → ℕ
@@ -113,6 +118,7 @@ tried_size words (tried.Gives value) = 0
 tried_size words tried.Spent = 0
 tried_size words (tried.Left values) = words_size (words_from (length values) words)
 tried_size words (tried.Costly count) = words_size (words_from count words)
+tried_size words (tried.Evaluates evaluation) = 0
 
 -- how much of a script there is to go over from where it stands
 abbrev pub stand_size : Commands → Stand → ℕ
@@ -122,6 +128,7 @@ stand_size script (stand.Waits at values) =
     words_size (words_from (length values) (command_at at script)) + 1 + commands_size (commands_from (at + 1) script)
 stand_size script (stand.Costly at word) =
     words_size (words_from word (command_at at script)) + 1 + commands_size (commands_from (at + 1) script)
+stand_size script (stand.Evaluates at evaluation) = commands_size (commands_from (at + 1) script) + 1
 
 -- the place of the command at which a script stands lies below this, so that the next place is a number of the machine's
 abbrev pub IsWithin : Stand → Type 0
@@ -129,3 +136,4 @@ IsWithin (stand.Ends value) = Unit {0}
 IsWithin stand.Spent = Unit {0}
 IsWithin (stand.Waits at values) = at < 2 ^ 63
 IsWithin (stand.Costly at word) = at < 2 ^ 63
+IsWithin (stand.Evaluates at evaluation) = at < 2 ^ 63

@@ -86,7 +86,8 @@ fn only_bracket(pieces: &[Piece]) -> Option<&Rc<Script>>
 }
 
 /// What a word comes to that is a bracket which came to this.
-fn bracket_word(alloc: Global, value: Ended) -> Result<Ended, NoMemory>
+#[inline(always)]
+pub(crate) fn bracket_word(alloc: Global, value: Ended) -> Result<Ended, NoMemory>
     ensures { IfOk result (λ word. word ≡ bracket_value value.code value.result) }
 {
     if value.code != OK {
@@ -121,6 +122,10 @@ impl<H: Host> Engine<H> {
                 Ok(Bracketed::Left)
             }
             Tried::Costly(_) => Ok(Bracketed::Left),
+            Tried::Evaluates(evaluation) => {
+                drop(evaluation);
+                Ok(Bracketed::Left)
+            }
         }
     }
 

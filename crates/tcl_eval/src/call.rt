@@ -1,12 +1,13 @@
 //! Calls of procedures. Where a body comes to its value straight away, nothing is put on the stack for
 //! its call.
 
-ghost use Rattle.std.specs.Prelude.{◌≡◌, IfOk, IfSome, OnOk, Ok};
+ghost use Rattle.std.specs.Prelude.{◌≡◌, ◌≤◌, ◌+◌, IfOk, IfSome, OnOk, Ok};
 ghost use Rattle.natives.specs.Names.{names_of};
 ghost use Rattle.tcl_frame.specs.Frames.{popped};
 ghost use Rattle.txt_core.specs.Names.{Names};
 ghost use Rattle.tcl_eval.specs.Calls.{IsCalled};
 ghost use Rattle.tcl_eval.specs.Eval.{call_bound, call_proc, command, command_end, give, nested, proc_end, unread, write_all};
+ghost use Rattle.tcl_eval.specs.Stack.{stack_weight, step_weight};
 ghost use Rattle.tcl_eval.specs.Straight.{Alike, Straightly};
 ghost use Rattle.tcl_eval.specs.Turns.{IsSet, ran_next};
 ghost use Rattle.tcl_eval.specs.Engine.{Holds, Nears, Remains, Stays, credit};
@@ -170,8 +171,7 @@ impl<H: Host> Engine<H> {
                 stand,
                 levels,
             } => {
-                self.stack.push(Frame::Result)?;
-                self.stack.push(Frame::Procedure)?;
+                self.stack.push(Frame::ProcedureResult)?;
                 let step = self.enter_stand(script, stand, levels)?;
                 Ok(step)
             }
@@ -202,11 +202,15 @@ impl<H: Host> Engine<H> {
     }
 
     /// Ends a call of a procedure whose body came to this, and pays for its result.
-    fn end_call(&mut self, value: Ended) -> Result<Step, NoMemory>
+    #[inline(never)]
+    pub(crate) fn end_call(&mut self, value: Ended) -> Result<Step, NoMemory>
         ensures means { IfOk result (λ step.
             (names : Names)
             → StepIs names H.table step self.new self.old
             (λ k. proc_end (command_end k) value.code value.result)) }
+        ensures falls { IfOk result (λ step.
+            stack_weight self.new.stack.items + step_weight step
+            ≤ stack_weight self.old.stack.items) }
         ensures keeps { IfOk result (λ step. Stays step self.new self.old) }
         ensures holds { Holds self.new self.old }
     {

@@ -117,6 +117,10 @@ impl<H: Host> Engine<H> {
                 Ok(Once::Left)
             }
             Tried::Costly(_) => Ok(Once::Left),
+            Tried::Evaluates(evaluation) => {
+                drop(evaluation);
+                Ok(Once::Left)
+            }
         }
     }
 

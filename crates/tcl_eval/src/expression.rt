@@ -17,13 +17,14 @@ ghost use Rattle.tcl_eval.specs.declared.stack.Step.{Step};
 
 use crate::cost::EVALUATION_COST;
 use crate::engine::Engine;
+use crate::evaluation::shared_bracket;
 use crate::expr_reading::ExprReading;
 use crate::gather::SoFar;
 use crate::message::{bad_expression, no_boolean};
 use crate::operation::{Way, way_of, with_one, with_two};
-use crate::place::first_piece;
+use crate::place::{first_piece, only_pieces};
 use crate::read_expr::ReadExpr;
-use crate::simple_value::simple_value;
+use crate::simple_value::{leaf, simple_value};
 use crate::stack::{Acted, Ended, Frame, Step};
 use crate::value::{done, error, wrong_words};
 use crate::words::{behind_name, joined};
@@ -38,6 +39,7 @@ use txt_core::{NoMemory, Text, Words, read_truth};
 pub(crate) const MOST_AT_ONCE: u32 = 60;
 
 /// What an `expr` comes to whose expression came to this.
+#[inline(always)]
 pub(crate) fn value_ended(alloc: Global, value: Ended) -> Result<Ended, NoMemory>
     ensures { IfOk result (λ ended. ended ≡ whole_value value.code value.result) }
 {
@@ -50,34 +52,52 @@ pub(crate) fn value_ended(alloc: Global, value: Ended) -> Result<Ended, NoMemory
     })
 }
 
-/// The word that an expression is, if it is one.
-fn operand_word(part: &Expr) -> Result<Option<Rc<Script>>, NoMemory>
-    ensures { IfOk result (λ found. IfSome found (λ script.
-        tree_of part.now ≡ tree_of (Expr.Word script))) }
-{
-    match part {
-        Expr::Word(word) => {
-            let script = word.clone()?;
-            Ok(Some(script))
-        }
-        Expr::Value(_) | Expr::Unary(..) | Expr::Binary(..) | Expr::Choice(..) => Ok(None),
-    }
-}
-
 #[tactic(auto, using(crate::proofs::Stacks::frees_push))]
 impl<H: Host> Engine<H> {
     /// Goes on with a word of an expression.
-    fn enter_operand(&self, word: Rc<Script>, levels: u32) -> Step
-        ensures means { (names : Names)
-            → Same names H.table self.now self.now (step_next names H.table result)
-            (run_expression (nested names H.table levels) (tree_of (Expr.Word word))) }
-        ensures weighs { step_weight result < tree_size (tree_of (Expr.Word word)) }
-        ensures free { step_free result ≡ 0 }
+    fn enter_operand(&self, word: &Rc<Script>, levels: u32) -> Result<Step, NoMemory>
+        ensures means { IfOk result (λ step.
+            (names : Names)
+            → StepIs names H.table step self.now self.now
+            (run_expression (nested names H.table levels) (tree_of (Expr.Word word.now)))) }
+        ensures weighs { IfOk result (λ step.
+            step_weight step < tree_size (tree_of (Expr.Word word.now))) }
+        ensures free { IfOk result (λ step. step_free step ≡ 0) }
     {
-        Step::Pieces {
-            place: first_piece(self.alloc, word),
-            so_far: SoFar::Kept(Text::empty(self.alloc)),
-            levels,
+        match shared_bracket(only_pieces(word))? {
+            None => {
+                let word = word.clone()?;
+                Ok(Step::Pieces {
+                    place: first_piece(self.alloc, word),
+                    so_far: SoFar::Kept(Text::empty(self.alloc)),
+                    levels,
+                })
+            }
+            Some(script) => Ok(Step::Bracket { script, levels }),
+        }
+    }
+
+    /// Goes on with an expression that is a literal, a variable alone or another word; `None` for any other
+    /// one.
+    fn leaf_step(&self, part: &Expr, levels: u32) -> Result<Option<Step>, NoMemory>
+        ensures means { IfOk result (λ found.
+            IfSome found (λ step. (names : Names)
+            → StepIs names H.table step self.now self.now
+            (run_expression (nested names H.table levels) (tree_of part.now)))) }
+        ensures weighs { IfOk result (λ found.
+            IfSome found (λ step. step_weight step < tree_size (tree_of part.now))) }
+        ensures free { IfOk result (λ found. IfSome found (λ step. step_free step ≡ 0)) }
+    {
+        if let Some(text) = leaf(&self.frames, part) {
+            let result = text.copy(self.alloc)?;
+            return Ok(Some(Step::Value(Ended { code: OK, result })));
+        }
+        match part {
+            Expr::Word(word) => {
+                let step = self.enter_operand(word, levels)?;
+                Ok(Some(step))
+            }
+            Expr::Value(_) | Expr::Unary(..) | Expr::Binary(..) | Expr::Choice(..) => Ok(None),
         }
     }
 
@@ -95,9 +115,9 @@ impl<H: Host> Engine<H> {
         ensures holds { Holds self.new self.old }
     {
         self.stack.push(frame)?;
-        let found = operand_word(&part)?;
+        let found = self.leaf_step(&part, levels)?;
         match found {
-            Some(word) => Ok(self.enter_operand(word, levels)),
+            Some(step) => Ok(step),
             None => {
                 self.stack.push(Frame::Expression { expr: part, levels })?;
                 Ok(Step::Value(done(self.alloc)))
@@ -163,6 +183,7 @@ impl<H: Host> Engine<H> {
     }
 
     /// Evaluates an expression.
+    #[inline(never)]
     pub(crate) fn give_expression(
         &mut self,
         expr: Rc<Expr>,
@@ -187,8 +208,8 @@ impl<H: Host> Engine<H> {
                 Ok(Step::Value(Ended { code: OK, result }))
             }
             Expr::Word(word) => {
-                let word = word.clone()?;
-                Ok(self.enter_operand(word, levels))
+                let step = self.enter_operand(word, levels)?;
+                Ok(step)
             }
             Expr::Unary(op, operand) => {
                 let operand = operand.clone()?;
@@ -207,6 +228,7 @@ impl<H: Host> Engine<H> {
     }
 
     /// Applies an operator to its operand.
+    #[inline(never)]
     pub(crate) fn give_operation(&self, op: Op, value: Ended) -> Result<Step, NoMemory>
         ensures means { IfOk result (λ step.
             (names : Names)
@@ -314,6 +336,7 @@ impl<H: Host> Engine<H> {
     }
 
     /// Goes on behind the left operand of an operator.
+    #[inline(never)]
     pub(crate) fn give_left(
         &mut self,
         op: Op,
@@ -337,6 +360,7 @@ impl<H: Host> Engine<H> {
     }
 
     /// Applies an operator to its operands.
+    #[inline(never)]
     pub(crate) fn give_right(&self, op: Op, left: Text, value: Ended) -> Result<Step, NoMemory>
         ensures means { IfOk result (λ step.
             (names : Names)
@@ -365,6 +389,7 @@ impl<H: Host> Engine<H> {
     }
 
     /// Goes on with the part that is chosen.
+    #[inline(never)]
     pub(crate) fn give_choice(
         &mut self,
         first: Rc<Expr>,
@@ -401,6 +426,7 @@ impl<H: Host> Engine<H> {
     }
 
     /// Ends an `expr`.
+    #[inline(never)]
     pub(crate) fn give_value(&self, value: Ended) -> Result<Step, NoMemory>
         ensures means { IfOk result (λ step.
             (names : Names)

@@ -77,6 +77,7 @@ impl Expressions {
     }
 
     /// What stands at the place of a text, where it is of this text.
+    #[inline(always)]
     fn find_latest(&self, text: &Text) -> Result<Option<Rc<ReadExpr>>, NoMemory>
         ensures { IfOk result (λ found. IfSome found (λ read. read.value ≡ text.now)) }
     {
@@ -151,6 +152,7 @@ impl Expressions {
 }
 
 /// What is kept, where it is that of this text.
+#[inline(always)]
 fn shared_for(read: &Rc<ReadExpr>, text: &Text) -> Result<Option<Rc<ReadExpr>>, NoMemory>
     ensures { IfOk result (λ found. IfSome found (λ read. read.value ≡ text.now)) }
 {

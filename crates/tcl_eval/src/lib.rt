@@ -9,6 +9,7 @@ mod choice;
 mod condition;
 mod cost;
 mod engine;
+mod evaluation;
 mod expr_reading;
 mod expression;
 mod expression_cache;

@@ -69,6 +69,7 @@ pub fn parameters(alloc: Global, text: &Text) -> Result<Result<Vec<Parameter>, T
 }
 
 /// Puts a value of this name at the end.
+#[inline(always)]
 fn push_value(alloc: Global, values: &mut Pairs, name: &Text, value: Text) -> Result<(), NoMemory>
     ensures { OnOk result (values.new ≡ values.old ++ (name.now, value) ∷ []) }
 {

@@ -106,6 +106,13 @@ impl<H: Host> Engine<H> {
                         Acted::Spent => return Ok(Outcome::Spent),
                     },
                 },
+                Ready::Expression { evaluation, levels } => {
+                    match self.evaluate_whole(evaluation, levels)? {
+                        Gone::Goes(next) => step = next,
+                        Gone::TooDeep => return Ok(Outcome::TooDeep),
+                        Gone::Spent => return Ok(Outcome::Spent),
+                    }
+                }
             }
         }
     }

@@ -267,6 +267,9 @@ impl<H: Host> Engine<H> {
                 let step = self.next_costly(script, at, word, levels)?;
                 Ok(step)
             }
+            Tried::Evaluates(evaluation) => {
+                Ok(Step::Stop(Ready::Expression { evaluation, levels }))
+            }
         }
     }
 
@@ -308,6 +311,7 @@ impl<H: Host> Engine<H> {
     }
 
     /// Gives a command the value of its next word.
+    #[inline(never)]
     fn give_word(
         &mut self,
         natives: &Natives,
@@ -399,6 +403,7 @@ impl<H: Host> Engine<H> {
     }
 
     /// Gives a word the value of its next piece.
+    #[inline(never)]
     fn give_piece(
         &mut self,
         place: Place,
@@ -427,7 +432,7 @@ impl<H: Host> Engine<H> {
     }
 
     /// Gives a script what its command before `next` came to.
-    fn give_script(
+    pub(crate) fn give_script(
         &mut self,
         natives: &Natives,
         script: Rc<Script>,
@@ -471,11 +476,14 @@ impl<H: Host> Engine<H> {
             Stand::Spent => Ok(Step::Stop(Ready::Spent)),
             Stand::Waits { at, values } => self.enter_command(script, at, values, levels),
             Stand::Costly { at, word } => self.enter_costly(script, at, word, levels),
+            Stand::Evaluates { at, evaluation } => {
+                self.enter_evaluation(script, at, evaluation, levels)
+            }
         }
     }
 
     /// Puts on the stack what follows the command at a place of a script.
-    fn push_following(
+    pub(crate) fn push_following(
         &mut self,
         script: &Rc<Script>,
         at: usize,
@@ -683,8 +691,10 @@ impl<H: Host> Engine<H> {
             Frame::Index { array } => self.give_index(array, value),
             Frame::Result => self.end_command(value),
             Frame::Procedure => self.end_procedure(value),
+            Frame::ProcedureResult => self.end_call(value),
             Frame::Caught { name } => self.end_catch(name, value),
             Frame::Expression { expr, levels } => self.give_expression(expr, levels, value),
+            Frame::Operand => self.give_operand(value),
             Frame::Operation { op } => self.give_operation(op, value),
             Frame::Left { op, right, levels } => self.give_left(op, right, levels, value),
             Frame::Right { op, left } => self.give_right(op, left, value),
@@ -694,6 +704,7 @@ impl<H: Host> Engine<H> {
                 levels,
             } => self.give_choice(first, second, levels, value),
             Frame::Value => self.give_value(value),
+            Frame::ValueResult => self.end_expr(value),
             Frame::Branch(branch) => Ok(Step::Stop(Ready::Branch { branch, value })),
         }
     }
@@ -719,6 +730,7 @@ impl<H: Host> Engine<H> {
                     so_far,
                     levels,
                 } => self.next_piece(natives, place, so_far, levels)?,
+                Step::Bracket { script, levels } => self.enter_lone(natives, script, levels)?,
                 Step::Value(value) => match self.stack.pop() {
                     None => return Ok(AtRest::Ended(value)),
                     Some(frame) => self.give(natives, frame, value)?,

@@ -25,7 +25,7 @@ use txt_core::{NoMemory, Text, read_truth};
 /// The value of an expression that is a literal, or a word of bytes alone or of a variable alone, which is
 /// there, without a copy. Of any other one this says nothing.
 #[inline(always)]
-fn leaf<'a>(frames: &'a Frames, expr: &'a Expr) -> Option<&'a Text>
+pub(crate) fn leaf<'a>(frames: &'a Frames, expr: &'a Expr) -> Option<&'a Text>
     ensures { IfSome result (λ text.
         at_once frames.now (tree_of expr.now) ≡ Some (ended code_of.ok text.now)) }
 {
@@ -67,7 +67,7 @@ pub(crate) fn simple_truth(frames: &Frames, expr: &Expr) -> Option<bool>
 }
 
 /// The error of a value that has no truth.
-fn untrue(alloc: Global, value: &Text) -> Result<Ended, NoMemory>
+pub(crate) fn untrue(alloc: Global, value: &Text) -> Result<Ended, NoMemory>
     ensures { IfOk result (λ ended. ended ≡ error_of (no_boolean value.now)) }
 {
     error(alloc, no_boolean(alloc, value.bytes())?)

@@ -19,6 +19,14 @@ pub struct Ended {
     pub result: Text,
 }
 
+/// An `expr` whose words are all there: what its command costs, and the expression that it comes to, by the
+/// tests of choices that are known. Nothing was paid for.
+#[derive(Drop)]
+pub struct Evaluation {
+    pub cost: u64,
+    pub expr: Rc<Expr>,
+}
+
 /// Suspended work, which waits for a code and a result. `levels` is how many levels are left to a
 /// script that it runs.
 #[derive(Drop)]
@@ -59,6 +67,8 @@ pub enum Frame {
     Result,
     /// A procedure under way.
     Procedure,
+    /// A procedure under way, whose result is paid for.
+    ProcedureResult,
     /// A `catch` under way, and the variable for the result, where one is named.
     Caught {
         name: Option<Text>,
@@ -68,6 +78,8 @@ pub enum Frame {
         expr: Rc<Expr>,
         levels: u32,
     },
+    /// An operand, or an expression, that is one bracket and waits for its end.
+    Operand,
     /// A unary operator, which waits for its operand.
     Operation {
         op: Op,
@@ -91,6 +103,8 @@ pub enum Frame {
     },
     /// An `expr` under way.
     Value,
+    /// An `expr` under way, whose result is paid for.
+    ValueResult,
     /// A choice, a loop or a page under way, which goes on with a text.
     Branch(Branch),
 }
@@ -100,6 +114,8 @@ pub enum Frame {
 pub enum Ready {
     /// A command, which is to be paid for.
     Command { words: Words, levels: u32 },
+    /// An `expr`, which is to be paid for.
+    Expression { evaluation: Evaluation, levels: u32 },
     /// A choice, a loop or a page gets what it waited for.
     Branch { branch: Branch, value: Ended },
     TooDeep,
@@ -123,6 +139,11 @@ pub enum Step {
     Pieces {
         place: Place,
         so_far: SoFar,
+        levels: u32,
+    },
+    /// An operand that is this bracket begins.
+    Bracket {
+        script: Rc<Script>,
         levels: u32,
     },
     /// Something is to be paid for, or all ends.

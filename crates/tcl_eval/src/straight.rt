@@ -1,15 +1,13 @@
 //! Commands that come to a value straight away, for which nothing is put on the stack.
 
-ghost use Rattle.std.specs.Prelude.{◌≡◌, ◌≤◌, ◌+◌, ◌-◌, ℕ, [], drop, IfOk, IfSome, OnOk, IsTrue, true};
+ghost use Rattle.std.specs.Prelude.{◌≡◌, ◌≤◌, ◌+◌, ◌-◌, ℕ, [], IfOk, IfSome, OnOk, IsTrue, true};
 ghost use Rattle.natives.specs.Names.{names_of};
-ghost use Rattle.tcl_expr.specs.Reading.{expression_of};
-ghost use Rattle.tcl_eval.specs.Expressions.{run_answer, value_end};
 ghost use Rattle.tcl_eval.specs.declared.verb.Verb.{Verb};
 ghost use Rattle.tcl_parse.specs.Tree.{Words};
 ghost use Rattle.tcl_varcmd.specs.Commands.{begins_var_command, var_came};
 ghost use Rattle.txt_core.specs.Names.{Names};
 ghost use Rattle.tcl_eval.specs.State.{Given, Next};
-ghost use Rattle.tcl_eval.specs.Eval.{Inner, act, arg, built, built_in, came_next, joined, command_end, give, nested, on_ok, run_commands, verb_of};
+ghost use Rattle.tcl_eval.specs.Eval.{Inner, act, arg, built, built_in, came_next, command_end, give, nested, on_ok, run_commands, verb_of};
 ghost use Rattle.tcl_eval.specs.Places.{tree_of, command_at, commands_from, commands_size, words_size};
 ghost use Rattle.tcl_eval.specs.Straight.{Alike, Does, IfExpr, IfGives, IfLeft, IsDone, IsExpr, IsNamedExpr, IsOwn, IsWithin, LeftAlone, Straightly, paid_next, tried_next, tried_size, stand_next, stand_size};
 ghost use Rattle.tcl_eval.specs.Engine.{Holds, state_of};
@@ -18,16 +16,12 @@ ghost use Rattle.tcl_eval.specs.Clauses.{IsLeftOf, Tries, TriesCommand};
 use crate::bracket::Passed;
 use crate::cost::{EVALUATION_COST, result_cost};
 use crate::engine::Engine;
-use crate::expr_reading::ExprReading;
-use crate::expression::{MOST_AT_ONCE, value_ended};
 use crate::gather::Gathered;
 use crate::place::{has_command, words_of};
-use crate::read_expr::ReadExpr;
-use crate::simple_value::simple_value;
-use crate::stack::Ended;
+use crate::stack::{Ended, Evaluation};
 use crate::value::{do_break, do_continue, do_error, do_return, done, failed, too_long};
 use crate::verb::{Verb, find_verb};
-use crate::words::{begins_with, behind_name, first_word, joined};
+use crate::words::{begins_with, first_word};
 use cmd_table::Cmd;
 use natives::{Fault, Natives};
 use tcl_host::{Host, OK};
@@ -46,6 +40,8 @@ pub enum Tried {
     Left(Gathered),
     /// So many of its words cost more than is left of the budget.
     Costly(usize),
+    /// It is this `expr`, for which something may be run. Nothing of it was done.
+    Evaluates(Evaluation),
 }
 
 /// What a command comes to whose words are all there, and which can be paid for.
@@ -70,6 +66,8 @@ pub enum Stand {
     Waits { at: usize, values: Gathered },
     /// So many words of the command at this place cost more than is left of the budget.
     Costly { at: usize, word: usize },
+    /// The command at this place is this `expr`, which is still to be done.
+    Evaluates { at: usize, evaluation: Evaluation },
 }
 
 #[tactic(auto, using(crate::proofs::Stacks::frees_push))]
@@ -231,7 +229,7 @@ impl<H: Host> Engine<H> {
 
     /// Pays for a command of this cost, which came to this value.
     #[inline(always)]
-    fn pay_tried(&mut self, cost: u64, value: Ended) -> Result<Tried, NoMemory>
+    pub(crate) fn pay_tried(&mut self, cost: u64, value: Ended) -> Result<Tried, NoMemory>
         requires { cost ≤ self.old.budget }
         ensures means { IfOk result (λ tried.
             (names : Names) (inner : Inner H) (words : Words) (k : Next H) (given : Given)
@@ -248,48 +246,8 @@ impl<H: Host> Engine<H> {
         Ok(tried)
     }
 
-    /// What an `expr` of a text that was read comes to, where nothing is run for it; `None` where something
-    /// may be run, or where the text is no expression.
-    fn read_value(&self, read: &ReadExpr) -> Result<Option<Ended>, NoMemory>
-        ensures means { IfOk result (λ found.
-            IfSome found (λ ended. (names : Names) (levels : ℕ)
-            → Does self.now self.now ended (λ k.
-            run_answer (nested names H.table levels) read.now (expression_of read.now)
-            (value_end k)))) }
-    {
-        match read.reading() {
-            ExprReading::Bad { .. } => Ok(None),
-            ExprReading::Good(expr) => {
-                match simple_value(self.alloc, &self.frames, expr, MOST_AT_ONCE)? {
-                    None => Ok(None),
-                    Some(value) => {
-                        let ended = value_ended(self.alloc, value)?;
-                        Ok(Some(ended))
-                    }
-                }
-            }
-        }
-    }
-
-    /// What an `expr` of these words comes to behind its cost, where nothing is run for it; `None` where
-    /// something may be run, or where the words are no expression.
-    fn expr_value(&mut self, words: &Words) -> Result<Option<Ended>, NoMemory>
-        ensures means { IfOk result (λ found.
-            IfSome found (λ ended. (names : Names) (levels : ℕ)
-            → Does self.new self.old ended (λ k.
-            run_answer (nested names H.table levels) (joined (drop 1 words.now))
-            (expression_of (joined (drop 1 words.now))) (value_end k)))) }
-        ensures same { OnOk result (self.new ≡ self.old) }
-        ensures holds { Holds self.new self.old }
-    {
-        let text = joined(self.alloc, behind_name(words))?;
-        let read = self.readings.read_expression(self.alloc, &text)?;
-        let found = self.read_value(&read)?;
-        Ok(found)
-    }
-
-    /// Does an `expr` whose words are all there, and pays for it, where nothing is run for it and so much
-    /// is left of the budget.
+    /// Does an `expr` whose words are all there, and pays for it, where so much is left of the budget and
+    /// nothing is run for it. For another one it tells what is left to evaluate.
     fn try_expr(&mut self, values: Gathered) -> Result<Tried, NoMemory>
         ensures means { IfOk result (λ tried.
             (names : Names) (levels : ℕ) (words : Words)
@@ -303,15 +261,16 @@ impl<H: Host> Engine<H> {
         if values.len() < 2 {
             return Ok(Tried::Left(values));
         }
-        let cost = values.cost().saturating_add(EVALUATION_COST);
-        if (self.budget as u128) < cost {
+        let cost = values.cost();
+        let whole = cost.saturating_add(EVALUATION_COST);
+        if (self.budget as u128) < whole {
             return Ok(Tried::Left(values));
         }
-        match self.expr_value(values.words())? {
+        match self.expr_begun(values.words())? {
             None => Ok(Tried::Left(values)),
-            Some(value) => {
+            Some(begun) => {
                 self.spare.put(values);
-                let tried = self.pay_tried(cost as u64, value)?;
+                let tried = self.try_begun(cost as u64, begun)?;
                 Ok(tried)
             }
         }
@@ -456,6 +415,7 @@ impl<H: Host> Engine<H> {
                 Tried::Spent => return Ok(Stand::Spent),
                 Tried::Left(values) => return Ok(Stand::Waits { at, values }),
                 Tried::Costly(word) => return Ok(Stand::Costly { at, word }),
+                Tried::Evaluates(evaluation) => return Ok(Stand::Evaluates { at, evaluation }),
             }
             at += 1;
         }

@@ -47,6 +47,7 @@ pub fn kept_value(alloc: Global, so_far: SoFar) -> Result<Ended, NoMemory>
 }
 
 /// What a word with this value comes to.
+#[inline(always)]
 pub fn judged(alloc: Global, text: Text) -> Result<Ended, NoMemory>
     ensures { IfOk result (λ value. value ≡ kept_value (SoFar.Kept text)) }
 {

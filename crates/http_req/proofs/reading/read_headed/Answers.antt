@@ -36,10 +36,10 @@ returns-in_err-read_body-in-None g c =
     let stands : HeadStands (front c.bytes.result.now) c.args.spans.now c.args.head.now = subst (λ (input : List ℕ). HeadStands (front input) c.args.spans.now c.args.head.now) (sym c.bytes.ensures) c.requires in
     let passes = passes_head c.bytes.result.now c.args.spans.now c.args.head.now c.args.peer.now c.in_ok-request.request stands c.in_ok-request.ensures (sym c.in-None.is ∙ c.refusal.ensures) in
     let p = err_from_is_err_and c.from_residual-in_err-read_body-in-None.result c.from_residual-in_err-read_body-in-None.ensures.1 in
-    rw p.1 (subst (λ (answer : Got). Received _ _ _ _ (Err answer) _ _ _) (sym p.2)
+    rw p.1 (subst (λ (answer : Got). Received c.args.carry.now (g.S.Source.rest c.args.source.now) (g.S.Source.faults c.args.source.now) c.args.peer.now (Err answer) c.read_body.new.carry (g.S.Source.rest c.read_body.new.source) (g.S.Source.faults c.read_body.new.source)) (sym p.2)
     (received_body _ _ _ _ _ _ c.bytes.result.now c.args.peer.now c.args.head.now.len c.in_ok-request.request _ _ _ _ (moves_none _ _ _) passes c.in_err-read_body-in-None.ensures))
 
-pub returns-in_ok-read_body-in-None : goal.returns-in-None
+pub returns-in_ok-read_body-in-None : goal.returns-in_ok-read_body-in-None
 returns-in_ok-read_body-in-None g c =
     let stands : HeadStands (front c.bytes.result.now) c.args.spans.now c.args.head.now = subst (λ (input : List ℕ). HeadStands (front input) c.args.spans.now c.args.head.now) (sym c.bytes.ensures) c.requires in
     let passes = passes_head c.bytes.result.now c.args.spans.now c.args.head.now c.args.peer.now c.in_ok-request.request stands c.in_ok-request.ensures (sym c.in-None.is ∙ c.refusal.ensures) in

@@ -42,7 +42,7 @@ returns-in-Some-clause-gives g c = λ bp m question further.
     let names = names_of c.args.natives.now in
     let d = c.args.self.now in
     ap (λ (a : Answer). said a c.args.run.now.engine.budget (state_of c.args.run.now) further)
-    (c.published.ensures ∙ ap (λ (value : List ℕ). published value c.args.answer) c.into_text.ensures)
+    (c.published-said.ensures ∙ ap (λ (value : List ℕ). published value c.args.answer) c.into_text.ensures)
     ∙ ap (λ (v : Option (List ℕ)). define_at names bp m question c.args.run.now d v (c.args.answer ∷ further)) (sym c.in-Some.is ∙ c.take.ensures.value)
 
 pub returns-in_err-came-in-None-clause-most : goal.returns-in_err-came-in-None-clause-most

@@ -13,7 +13,6 @@ use Rattle.ictl.specs.Falls.{Suffices, first_number}
 use Rattle.ictl.specs.declared.defining.DefineRun.{DefineRun}
 use Rattle.ictl.specs.declared.interp.Interp.{Interp}
 use Rattle.ictl.specs.Within.{RunWrites}
-use Rattle.ictl.proofs.Interpreters.{unless}
 use Rattle.ictl.proofs.Beginnings.{begun_state}
 use Rattle.ictl.proofs.Withins.{define_begins_at, define_bounded_at, define_cut, begun_none, new_writes, wants}
 use Rattle.ictl.proofs.interp.Interp.begin_define.Goals as goal
@@ -38,7 +37,7 @@ stop-requires-clause-suffices g c =
     subst (λ (d : DefineRun). Suffices c.in_ok-came.came c.start.new.self d.questions) (sym c.new-defining.ensures) (c.in_ok-came.ensures.suffices 1800000 (omega arith))
 
 pub returns-clause-stands : goal.returns-clause-stands
-returns-clause-stands g c = unless c.defined.result _ (λ further.
+returns-clause-stands g c = λ further.
     let names = names_of c.args.natives.now in
     let old = c.args.self.now in
     let bp = old.blueprint.value in
@@ -48,7 +47,7 @@ returns-clause-stands g c = unless c.defined.result _ (λ further.
     sym (c.defined.ensures.gives names 0 further
     ∙ ap (λ (x : Defined). defined_end 0 x) (c.in_ok-last.ensures.gives names bp m further)
     ∙ define_begins_at names bp c.in_ok-script.script c.args.script.now m c.new-defining.result.questions (comes_to names c.in_ok-came.came c.start.new.self) _ further c.depth_of_runs-depth.result c.depth_of_runs-depth.ensures few
-    (λ given. sym (c.in_ok-came.ensures.gives given)) state c.in_ok-script.ensures))
+    (λ given. sym (c.in_ok-came.ensures.gives given)) state c.in_ok-script.ensures)
 
 pub returns-clause-steps : goal.returns-clause-steps
 returns-clause-steps g c =

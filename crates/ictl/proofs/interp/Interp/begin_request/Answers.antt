@@ -4,7 +4,7 @@ use Rattle.server_host.specs.declared.edition.Edition.{Edition}
 use Rattle.server_host.specs.Hosts.{HostState, serving}
 use Rattle.ictl.specs.Falls.{first_number}
 use Rattle.ictl.specs.declared.interp.Interp.{Interp}
-use Rattle.ictl.proofs.Interpreters.{from_none, moved_on, ok_same, unless}
+use Rattle.ictl.proofs.Interpreters.{from_none, moved_on, ok_same}
 use Rattle.ictl.proofs.Beginnings.{begun_state, request_begins, visit_is}
 use Rattle.ictl.specs.Main.{Main}
 use Rattle.ictl.specs.Interps.{IsWithin, interp_written}
@@ -57,11 +57,11 @@ returns-clause-stands g c =
       visit = c.enter.new.self;
     } in
     ok_same c.moves.result _ _
-    (λ next h. unless next _ (λ further.
+    (λ next h further.
     sym (from_none names next c.moves.new.self _ further _
     (moved_on names c.in_ok-step.step next between c.first_stage.new.self c.moves.new.self 0 c.args.steps.now c.first_stage.new.steps c.moves.new.steps further _
     c.first_stage.ensures.counts c.moves.ensures.counts (c.in_ok-step.ensures.gives 0 further) (λ n. h n further))
-    ∙ request_begins names bp c.args.request c.args.moment c.enter.new.self _ further visit state)))
+    ∙ request_begins names bp c.args.request c.args.moment c.enter.new.self _ further visit state))
     c.moves.ensures.gives
 
 pub returns-clause-visit : goal.returns-clause-visit

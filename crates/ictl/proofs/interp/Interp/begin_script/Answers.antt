@@ -1,10 +1,10 @@
-use Rattle.std.proofs.Common.{ℕ, List, ap, ◌∙◌, [], subst}
+use Rattle.std.proofs.Common.{ℕ, List, sym, ap, ◌∙◌, [], subst}
 use Rattle.natives.specs.Names.{names_of}
 use Rattle.server_host.specs.declared.edition.Edition.{Edition}
 use Rattle.server_host.specs.Hosts.{HostState, scripting}
 use Rattle.ictl.specs.Main.{Script}
 use Rattle.ictl.proofs.Beginnings.{begun_state}
-use Rattle.ictl.specs.Interps.{IsWithin, Begins}
+use Rattle.ictl.specs.Interps.{IsWithin}
 use Rattle.ictl.proofs.Withins.{begun_none, new_writes, wants}
 use Rattle.ictl.proofs.interp.Interp.begin_script.Goals as goal
 
@@ -23,9 +23,8 @@ pub returns-clause-falls : goal.returns-clause-falls
 returns-clause-falls g c = c.in_ok-next.ensures.falls
 
 pub returns-clause-stands : goal.returns-clause-stands
-returns-clause-stands g c =
-    let names = names_of c.args.natives.now in
-    subst (λ (s : List ℕ). Begins names (Script names c.args.self.now.blueprint.value s c.args.moment) c.in_ok-next.next c.run_script.new.steps c.args.steps.now c.run_script.new.self c.args.self.now) c.in_ok-script.ensures c.in_ok-next.ensures.stands
+returns-clause-stands g c = λ further.
+    sym (ap (λ (s : List ℕ). Script (names_of c.args.natives.now) c.args.self.now.blueprint.value s c.args.moment further) c.in_ok-script.ensures) ∙ c.in_ok-next.ensures.stands further
 
 pub returns-in_err-script-clause-most : goal.returns-in_err-script-clause-most
 returns-in_err-script-clause-most g c =

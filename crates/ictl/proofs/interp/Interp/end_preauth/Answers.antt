@@ -37,8 +37,8 @@ returns-in-Behind-clause-gives g c =
     ∙ follows_so afters.Behind c.in_ok-after.after (verdict c.args.code c.args.value) next behind (interp_state old) (account_of b q inside) further c.in-Behind.is c.in_ok-after.ensures)
     c.authorise.ensures.gives
 
-pub returns-in-Responds-clause-gives : goal.returns-in-Responds-clause-gives
-returns-in-Responds-clause-gives g c = λ inside further.
+pub returns-clause-gives : goal.returns-clause-gives
+returns-clause-gives g c = λ inside further.
     let names = names_of c.args.natives.now in
     let old = c.args.self.now in
     let q = old.settling.questions in
@@ -49,17 +49,17 @@ returns-in-Responds-clause-gives g c = λ inside further.
 pub returns-in-Behind-clause-lowers : goal.returns-in-Behind-clause-lowers
 returns-in-Behind-clause-lowers g c = ok_same c.authorise.result _ _ (λ step h. lowers_more step c.authorise.new.self _ _ (omega arith) h) c.authorise.ensures.lowers
 
-pub returns-in-Responds-clause-lowers : goal.returns-in-Responds-clause-lowers
-returns-in-Responds-clause-lowers g c = stops_lower c.respond.result _ c.respond.new.self _ c.respond.ensures.stops
+pub returns-clause-lowers : goal.returns-clause-lowers
+returns-clause-lowers g c = stops_lower c.respond.result _ c.respond.new.self _ c.respond.ensures.stops
 
-pub returns-in-Responds-clause-falls : goal.returns-in-Responds-clause-falls
-returns-in-Responds-clause-falls g c = λ before less. write_falls c.respond.result _ c.respond.new.self before c.respond.ensures.stops
+pub returns-clause-falls : goal.returns-clause-falls
+returns-clause-falls g c = λ before less. write_falls c.respond.result _ c.respond.new.self before c.respond.ensures.stops
 
-pub returns-in-Responds-clause-next : goal.returns-in-Responds-clause-next
-returns-in-Responds-clause-next g c = write_stands c.respond.result _ _ c.args.self.now c.respond.new.self c.respond.ensures.stops c.respond.ensures.task c.requires.1
+pub returns-clause-next : goal.returns-clause-next
+returns-clause-next g c = write_stands c.respond.result _ _ c.args.self.now c.respond.new.self c.respond.ensures.stops c.respond.ensures.task c.requires.1
 
-pub returns-in-Responds-clause-counts : goal.returns-in-Responds-clause-counts
-returns-in-Responds-clause-counts g c = rest_counts (names_of c.args.natives.now) c.args.self.now c.respond.new.self c.args.steps.now (Writing Answered, c.respond.ensures.task)
+pub returns-clause-counts : goal.returns-clause-counts
+returns-clause-counts g c = rest_counts (names_of c.args.natives.now) c.args.self.now c.respond.new.self c.args.steps.now (Writing Answered, c.respond.ensures.task)
 
 pub returns-in_err-after-clause-most : goal.returns-in_err-after-clause-most
 returns-in_err-after-clause-most g c = wants c.from_residual.result _ (λ inside.

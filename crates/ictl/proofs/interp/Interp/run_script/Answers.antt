@@ -5,7 +5,7 @@ use Rattle.ictl.specs.Interps.{interp_state, interp_written, IsWithin}
 use Rattle.ictl.specs.Falls.{first_number}
 use Rattle.ictl.specs.declared.task.Task.TheVariants as tasks
 use Rattle.ictl.proofs.Settlings.{both_counted}
-use Rattle.ictl.proofs.Interpreters.{moved_on, from_none, from_outset, outset_counts, unless}
+use Rattle.ictl.proofs.Interpreters.{moved_on, from_none, from_outset, outset_counts}
 use Rattle.ictl.proofs.Beginnings.{script_begins}
 use Rattle.ictl.proofs.Withins.{outset_within, within_from, moved_within, wants}
 use Rattle.ictl.proofs.interp.Interp.run_script.Goals as goal
@@ -20,7 +20,7 @@ pub returns-clause-next : goal.returns-clause-next
 returns-clause-next g c = c.in_ok-next.ensures.next
 
 pub returns-clause-stands : goal.returns-clause-stands
-returns-clause-stands g c = unless c.in_ok-next.next _ (λ further.
+returns-clause-stands g c = λ further.
     let names = names_of c.args.natives.now in
     let old = c.args.self.now in
     let out = record old.settling { run = c.set_out.new.self } in
@@ -30,7 +30,7 @@ returns-clause-stands g c = unless c.in_ok-next.next _ (λ further.
     c.moves.ensures.counts
     (from_outset names (works.Script c.args.script) tasks.Script old c.run.new.self out c.in_ok-step.step 200000 0 c.run.new.steps c.args.steps.now further c.set_out.ensures.state refl refl (c.in_ok-step.ensures.gives 0 further))
     (λ n. c.in_ok-next.ensures.gives n further))
-    ∙ script_begins names old.blueprint.value c.args.script old.moment old.settling.questions (interp_state old) further c.requires.questions c.requires.state))
+    ∙ script_begins names old.blueprint.value c.args.script old.moment old.settling.questions (interp_state old) further c.requires.questions c.requires.state)
 
 pub returns-clause-counts : goal.returns-clause-counts
 returns-clause-counts g c =

@@ -5,7 +5,7 @@ use Rattle.ictl.specs.Visits.{visit_of}
 use Rattle.ictl.specs.Main.{Main}
 use Rattle.ictl.specs.Interps.{UnlessNoMemory, interp_written, IsSound, IsWithin, interp_state}
 use Rattle.ictl.specs.declared.interp.Interp.{Interp}
-use Rattle.ictl.proofs.Interpreters.{answered_so, answered_or, ok_both, stands_out}
+use Rattle.ictl.proofs.Interpreters.{answered_so, answered_or, ok_both}
 use Rattle.ictl.proofs.Resets.{spared_new, holds_from, sound_from, holds_same}
 use Rattle.ictl.proofs.Starts.{started}
 use Rattle.cmd_table.specs.Commands.{Writes}
@@ -63,7 +63,7 @@ returns-in-Ok-clause-most g c =
     let names = names_of c.args.natives.now in
     subst (λ (i : Interp). IsWithin 0 c.args.steps.now c.begin_request.new.steps c.begin_request.new.self (Main names i.blueprint.value c.args.request c.args.moment [])) c.take_spare.ensures.rest
     (either c.begin_request.result _ c.begin_request.ensures.most
-    (ok_both c.begin_request.result _ _ _ (λ next is out. began_within names next c.take_spare.new.self c.begin_request.new.self c.args.steps.now c.begin_request.new.steps _ c.begin_request.ensures.counts out (stands_out names next (Main names c.take_spare.new.self.blueprint.value c.args.request c.args.moment) _ c.begin_request.new.self out is [])) c.begin_request.ensures.stands c.begin_request.ensures.next))
+    (ok_both c.begin_request.result _ _ _ (λ next is out. began_within names next c.take_spare.new.self c.begin_request.new.self c.args.steps.now c.begin_request.new.steps _ c.begin_request.ensures.counts out (is [])) c.begin_request.ensures.stands c.begin_request.ensures.next))
 
 pub returns-in-Err-clause-most : goal.returns-in-Err-clause-most
 returns-in-Err-clause-most g c =

@@ -4,7 +4,7 @@ use Rattle.server_host.specs.declared.edition.Edition.{Edition}
 use Rattle.ictl.specs.Main.{Script}
 use Rattle.ictl.specs.Interps.{interp_written, IsSound, IsWithin, interp_state}
 use Rattle.ictl.specs.declared.interp.Interp.{Interp}
-use Rattle.ictl.proofs.Interpreters.{answered_or, ok_both, stands_out}
+use Rattle.ictl.proofs.Interpreters.{answered_or, ok_both}
 use Rattle.ictl.proofs.Resets.{spared_new, holds_from, sound_from, holds_same}
 use Rattle.ictl.proofs.Starts.{started}
 use Rattle.cmd_table.specs.Commands.{Writes}
@@ -54,7 +54,7 @@ returns-in-Ok-clause-most g c =
     let names = names_of c.args.natives.now in
     subst (λ (i : Interp). IsWithin 0 c.args.steps.now c.begin_script.new.steps c.begin_script.new.self (Script names i.blueprint.value c.args.script.now c.args.moment [])) c.take_spare.ensures.rest
     (either c.begin_script.result _ c.begin_script.ensures.most
-    (ok_both c.begin_script.result _ _ _ (λ next is out. began_within names next c.take_spare.new.self c.begin_script.new.self c.args.steps.now c.begin_script.new.steps _ c.begin_script.ensures.counts out (stands_out names next (Script names c.take_spare.new.self.blueprint.value c.args.script.now c.args.moment) _ c.begin_script.new.self out is [])) c.begin_script.ensures.stands c.begin_script.ensures.next))
+    (ok_both c.begin_script.result _ _ _ (λ next is out. began_within names next c.take_spare.new.self c.begin_script.new.self c.args.steps.now c.begin_script.new.steps _ c.begin_script.ensures.counts out (is [])) c.begin_script.ensures.stands c.begin_script.ensures.next))
 
 pub returns-in-Err-clause-most : goal.returns-in-Err-clause-most
 returns-in-Err-clause-most g c =

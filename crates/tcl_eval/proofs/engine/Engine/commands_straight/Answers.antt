@@ -1,4 +1,4 @@
-use Rattle.std.proofs.Common.{◌∙◌, arith}
+use Rattle.std.proofs.Common.{◌∙◌, ◌+◌, [], arith}
 use Rattle.natives.specs.Names.{names_of}
 use Rattle.tcl_eval.specs.Eval.{nested, run_commands}
 use Rattle.tcl_eval.specs.Places.{tree_of, commands_from}
@@ -69,6 +69,17 @@ returns-in-Costly-clause-means g c = λ k gv.
     next_from ns t inner tree c.commands.at [] k (state_of e) e.budget gv _ (rw c.commands-test.true at c.has_command.ensures.there) (did (behind_command ns t inner tree c.commands.at k) gv)
     ∙ c.commands.invariant.means k gv
 
+pub returns-in-Evaluates-clause-means : goal.returns-in-Evaluates-clause-means
+returns-in-Evaluates-clause-means g c = λ k gv.
+    let ns = names_of c.args.natives.now in
+    let t = g.H.Host.table in
+    let e = c.commands.self in
+    let tree = tree_of c.args.script.now in
+    let inner = nested ns t c.args.levels in
+    let did = rw c.in-Evaluates.is at c.in_ok-value.ensures.means in
+    next_from ns t inner tree c.commands.at [] k (state_of e) e.budget gv _ (rw c.commands-test.true at c.has_command.ensures.there) (did (behind_command ns t inner tree c.commands.at k) gv)
+    ∙ c.commands.invariant.means k gv
+
 pub returns-clause-means : goal.returns-clause-means
 returns-clause-means g c = λ k gv.
     let ns = names_of c.args.natives.now in
@@ -111,4 +122,9 @@ returns-in-Left-clause-size g c =
 pub returns-in-Costly-clause-size : goal.returns-in-Costly-clause-size
 returns-in-Costly-clause-size g c =
     let did = rw c.in-Costly.is at c.in_ok-value.ensures.size in
+    omega (arith, less_left (tree_of c.args.script.now) c.commands.at (rw c.commands-test.true at c.has_command.ensures.there), did, c.commands.invariant.size)
+
+pub returns-in-Evaluates-clause-size : goal.returns-in-Evaluates-clause-size
+returns-in-Evaluates-clause-size g c =
+    let did = rw c.in-Evaluates.is at c.in_ok-value.ensures.size in
     omega (arith, less_left (tree_of c.args.script.now) c.commands.at (rw c.commands-test.true at c.has_command.ensures.there), did, c.commands.invariant.size)

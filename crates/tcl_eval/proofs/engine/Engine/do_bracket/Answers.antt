@@ -41,3 +41,10 @@ returns-in-Costly-clause-means g c = λ levels k gv.
     let t = g.H.Host.table in
     let alone = rw c.in-Costly.is at c.in_ok-value.ensures.alone in
     left_alone c.try_simple.new.self c.args.self.now (λ k. run_parts (nested ns t (suc levels)) (part (bracket_of (command_at 0 (tree_of c.args.script.now))) no_parts) [] (judged k)) k gv alone
+
+pub returns-in-Evaluates-clause-means : goal.returns-in-Evaluates-clause-means
+returns-in-Evaluates-clause-means g c = λ levels k gv.
+    let ns = names_of c.args.natives.now in
+    let t = g.H.Host.table in
+    let alone = rw c.in-Evaluates.is at c.in_ok-value.ensures.alone in
+    left_alone c.try_simple.new.self c.args.self.now (λ k. run_parts (nested ns t (suc levels)) (part (bracket_of (command_at 0 (tree_of c.args.script.now))) no_parts) [] (judged k)) k gv alone

@@ -1,23 +1,30 @@
-use Rattle.std.proofs.Common.{ap, arith}
-use Rattle.tcl_expr.specs.Trees.{Tree}
-use Rattle.tcl_expr.specs.declared.expr.Expr.TheVariants.{Word}
-use Rattle.tcl_eval.specs.Places.{tree_size}
+use Rattle.std.proofs.Common.{◌∙◌, ap, refl, arith}
+use Rattle.tcl_expr.specs.View.{tree_of}
+use Rattle.tcl_eval.specs.State.{Next}
+use Rattle.tcl_eval.specs.Eval.{nested}
+use Rattle.tcl_eval.specs.Expressions.{run_expression}
 use Rattle.tcl_eval.specs.Engine.{state_of}
-use Rattle.tcl_eval.proofs.Stacks.{weighed}
-use Rattle.tcl_eval.proofs.Expressions.{part_step, part_word}
+use Rattle.tcl_eval.proofs.Stacks.{freed, pushed, weighed}
+use Rattle.tcl_eval.proofs.Expressions.{part_step}
 use Rattle.tcl_eval.proofs.engine.Engine.enter_part.Goals as goal
 
 pub returns-in-Some-clause-means : goal.returns-in-Some-clause-means
 returns-in-Some-clause-means g c = λ ns gv.
+    let t = g.H.Host.table in
     let e = c.args.self.now in
-    let found = rw c.in-Some.is at c.in_ok-found.ensures in
-    part_word ns g.H.Host.table e.stack.items c.push.new.self.items c.args.frame c.args.part.value (Word c.in-Some.word) c.args.levels (state_of e) e.budget gv _ c.in_ok-push.ensures.items (rw c.deref.ensures at found) (c.enter_operand.ensures.means ns gv)
+    let did = rw (c.in-Some.is, c.deref.ensures) at c.in_ok-found.ensures.means in
+    did ns gv
+    ∙ ap (λ (k : Next g.row.H.Denot). run_expression (nested ns t c.args.levels) (tree_of c.args.part.value) k (state_of e) e.budget gv) (pushed ns t e.stack.items c.push.new.self.items c.args.frame c.in_ok-push.ensures.items)
 
 pub returns-in-Some-clause-weighs : goal.returns-in-Some-clause-weighs
 returns-in-Some-clause-weighs g c =
-    let found = rw c.in-Some.is at c.in_ok-found.ensures in
-    let size = ap (λ (x : Tree). tree_size x) (rw c.deref.ensures at found) in
-    omega (arith, weighed _ _ _ c.in_ok-push.ensures.items, size, c.enter_operand.ensures.weighs)
+    let weighs = rw (c.in-Some.is, c.deref.ensures) at c.in_ok-found.ensures.weighs in
+    omega (arith, weighed _ _ _ c.in_ok-push.ensures.items, weighs)
+
+pub returns-in-Some-clause-keeps : goal.returns-in-Some-clause-keeps
+returns-in-Some-clause-keeps g c = λ none.
+    let free = rw c.in-Some.is at c.in_ok-found.ensures.free in
+    (omega arith, refl, omega (arith, freed _ _ _ c.in_ok-push.ensures.items, none, free))
 
 pub returns-in_ok-push-in-None-clause-means : goal.returns-in_ok-push-in-None-clause-means
 returns-in_ok-push-in-None-clause-means g c = λ ns gv.

@@ -17,3 +17,12 @@ returns-in-Waits-clause-falls g c = rw c.in-Waits.is c.enter_command.ensures.fal
 
 pub returns-in-Costly-clause-falls : goal.returns-in-Costly-clause-falls
 returns-in-Costly-clause-falls g c = rw c.in-Costly.is c.enter_costly.ensures.falls
+
+pub enter_evaluation-requires : goal.enter_evaluation-requires
+enter_evaluation-requires g c = rw c.in-Evaluates.is at c.requires
+
+pub returns-in-Evaluates-clause-means : goal.returns-in-Evaluates-clause-means
+returns-in-Evaluates-clause-means g c = rw c.in-Evaluates.is c.enter_evaluation.ensures.means
+
+pub returns-in-Evaluates-clause-falls : goal.returns-in-Evaluates-clause-falls
+returns-in-Evaluates-clause-falls g c = rw c.in-Evaluates.is c.enter_evaluation.ensures.falls

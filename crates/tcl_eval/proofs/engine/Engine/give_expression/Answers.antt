@@ -1,8 +1,6 @@
 use Rattle.std.proofs.Common.{◌∙◌, ap, sym, arith}
-use Rattle.tcl_parse.specs.View.{script_of}
-use Rattle.tcl_parse.specs.declared.tree.Script.{Script}
-use Rattle.tcl_expr.specs.Trees.{word, unary}
-use Rattle.tcl_expr.specs.View.{only_word, tree_of}
+use Rattle.tcl_expr.specs.Trees.{unary}
+use Rattle.tcl_expr.specs.View.{tree_of}
 use Rattle.tcl_expr.specs.declared.expr.Expr.{Expr}
 use Rattle.tcl_eval.specs.Stack.{stack_next}
 use Rattle.tcl_eval.specs.Engine.{state_of}
@@ -17,8 +15,8 @@ pub returns-in-Word-clause-means : goal.returns-in-Word-clause-means
 returns-in-Word-clause-means g c = λ ns gv.
     let t = g.H.Host.table in
     let e = c.args.self.now in
-    let is = ap (λ (x : Expr). tree_of x) (rw c.deref.ensures at c.in-Word.is) ∙ ap (λ (s : Script). word (only_word (script_of s))) (sym c.in_ok-word-in-Word.ensures.cases) in
-    begun ns t _ c.args.expr.value c.args.levels c.args.value.code c.args.value.result (stack_next ns t e.stack.items) (state_of e) e.budget gv _ c.if-value-ne-OK.false is (c.enter_operand.ensures.means ns gv)
+    let is = ap (λ (x : Expr). tree_of x) (rw c.deref.ensures at c.in-Word.is) in
+    begun ns t _ c.args.expr.value c.args.levels c.args.value.code c.args.value.result (stack_next ns t e.stack.items) (state_of e) e.budget gv _ c.if-value-ne-OK.false is (c.in_ok-step-in-Word.ensures.means ns gv)
 
 pub returns-in-Unary-clause-means : goal.returns-in-Unary-clause-means
 returns-in-Unary-clause-means g c = λ ns gv.

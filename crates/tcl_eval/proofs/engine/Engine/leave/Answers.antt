@@ -9,4 +9,4 @@ returns-in_ok-step-in-Stands-clause-means g c = λ ns gv.
     let e = c.args.self.now in
     rw c.in-Stands.is
     (c.in_ok-step-in-Stands.ensures.means ns gv
-    ∙ call_pushed ns g.H.Host.table e.stack.items c.push.new.self.items c.push-in-Stands.new.self.items (ran.Stands c.in-Stands.script c.in-Stands.stand c.in-Stands.levels) (state_of e) e.budget gv c.in_ok-push-in-Stands.ensures.items c.in_ok-push-in-Stands-2.ensures.items)
+    ∙ call_pushed ns g.H.Host.table e.stack.items c.push.new.self.items (ran.Stands c.in-Stands.script c.in-Stands.stand c.in-Stands.levels) (state_of e) e.budget gv c.in_ok-push-in-Stands.ensures.items)

@@ -114,3 +114,42 @@ returns-in_err-value-in-None-clause-front g c =
     let front : (given : Given) → IsFront c.do_command.new.self.made (state_in (gives ns t way e given)).made =
     λ given. step_front ns t c.steps.step way c.do_command.new.self c.steps.self e given same c.steps.invariant.means in
     on_err _ front
+
+pub steps-preserved : goal.steps-preserved
+steps-preserved g c =
+    let ns = names_of c.args.natives.now in
+    let settled = rw (c.in-Ready.is, c.in-Expression.is) at c.in_ok-value.ensures.means in
+    let went = rw c.in-Goes-3.is at c.in_ok-next-in-Expression.ensures.means in
+    let remains = c.in_ok-next-in-Expression.ensures.remains in
+    let before = c.in_ok-value.ensures.keeps in
+    record {
+      means = λ gv. went ns gv ∙ settled gv ∙ c.steps.invariant.means gv;
+      closed = remains.1 ∙ before.1 ∙ c.steps.invariant.closed;
+      lower = omega (arith, remains.0, before.0, c.steps.invariant.lower);
+      steps = c.steps.invariant.steps;
+      counts = counted_on c.steps.steps c.args.steps.now c.evaluate_whole.new.self c.settle.new.self c.args.self.now c.in_ok-next-in-Expression.ensures.holds
+          (counted_on c.steps.steps c.args.steps.now c.settle.new.self c.steps.self c.args.self.now c.in_ok-value.ensures.holds c.steps.invariant.counts);
+    }
+
+pub returns-in-TooDeep-5-clause-means : goal.returns-in-TooDeep-5-clause-means
+returns-in-TooDeep-5-clause-means g c = λ gv.
+    let settled = rw (c.in-Ready.is, c.in-Expression.is) at c.in_ok-value.ensures.means in
+    let went = rw c.in-TooDeep-5.is at c.in_ok-next-in-Expression.ensures.means in
+    went (names_of c.args.natives.now) gv ∙ settled gv ∙ c.steps.invariant.means gv
+
+pub returns-in-Spent-5-clause-means : goal.returns-in-Spent-5-clause-means
+returns-in-Spent-5-clause-means g c = λ gv.
+    let settled = rw (c.in-Ready.is, c.in-Expression.is) at c.in_ok-value.ensures.means in
+    let went = rw c.in-Spent-5.is at c.in_ok-next-in-Expression.ensures.means in
+    went (names_of c.args.natives.now) gv ∙ settled gv ∙ c.steps.invariant.means gv
+
+pub returns-in_err-next-in-Expression-clause-front : goal.returns-in_err-next-in-Expression-clause-front
+returns-in_err-next-in-Expression-clause-front g c =
+    let ns = names_of c.args.natives.now in
+    let t = g.H.Host.table in
+    let e = c.args.self.now in
+    let way = step_next ns t c.args.step in
+    let same = c.in_err-next-in-Expression.ensures.holds.1 ∙ c.in_ok-value.ensures.holds.1 in
+    let front : (given : Given) → IsFront c.evaluate_whole.new.self.made (state_in (gives ns t way e given)).made =
+    λ given. step_front ns t c.steps.step way c.evaluate_whole.new.self c.steps.self e given same c.steps.invariant.means in
+    on_err _ front

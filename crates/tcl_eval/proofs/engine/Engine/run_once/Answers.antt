@@ -34,3 +34,8 @@ pub returns-in-Costly-clause-means : goal.returns-in-Costly-clause-means
 returns-in-Costly-clause-means g c = λ levels.
     let alone = rw c.in-Costly.is at c.in_ok-value.ensures.alone in
     paid_none c.try_simple.new.self c.args.self.now alone
+
+pub returns-in-Evaluates-clause-means : goal.returns-in-Evaluates-clause-means
+returns-in-Evaluates-clause-means g c = λ levels.
+    let alone = rw c.in-Evaluates.is at c.in_ok-value.ensures.alone in
+    paid_none c.try_simple.new.self c.args.self.now alone

@@ -18,6 +18,17 @@ steps-preserved-in_ok-step-in-Pieces g c =
       holds = held_both c.next_piece.new.self c.steps.self c.args.self.now c.in_ok-step-in-Pieces.ensures.holds c.steps.invariant.holds;
     }
 
+pub steps-preserved-in_ok-step-in-Bracket : goal.steps-preserved-in_ok-step-in-Bracket
+steps-preserved-in_ok-step-in-Bracket g c =
+    let before = rw c.in-Bracket.is at c.steps.invariant.means in
+    let kept = c.in_ok-step-in-Bracket.ensures.keeps in
+    record {
+      means = λ gv. c.in_ok-step-in-Bracket.ensures.means gv ∙ before gv;
+      keeps = (omega (arith, kept.0, c.steps.invariant.keeps.0), kept.1 ∙ c.steps.invariant.keeps.1);
+      free = omega (arith, kept.2, c.steps.invariant.free, ap (λ (s : Step). step_free s) c.in-Bracket.is);
+      holds = held_both c.enter_lone.new.self c.steps.self c.args.self.now c.in_ok-step-in-Bracket.ensures.holds c.steps.invariant.holds;
+    }
+
 pub steps-preserved : goal.steps-preserved
 steps-preserved g c =
     let t = g.H.Host.table in

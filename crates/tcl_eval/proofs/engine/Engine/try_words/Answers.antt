@@ -63,3 +63,13 @@ returns-in_ok-step-in-Costly-clause-falls g c =
     let size = rw c.in-Costly.is at c.in_ok-value.ensures.size in
     let same = ap (λ stack. stack_weight stack.items) c.in_ok-value.ensures.straight.2 in
     omega (arith, c.in_ok-step-in-Costly.ensures.falls, size all, same)
+
+pub returns-in-Evaluates-clause-means : goal.returns-in-Evaluates-clause-means
+returns-in-Evaluates-clause-means g c = λ gv.
+    let ns = names_of c.args.natives.now in
+    let t = g.H.Host.table in
+    let inner = nested ns t c.args.levels in
+    let all = command_at c.args.at (tree_of c.args.script.value) in
+    let none = rw (c.len.ensures, c.deref.ensures) at c.if-has_word.ensures.there in
+    let did = rw c.in-Evaluates.is at (alike_same ns t c.try_command.new.self c.args.self.now (λ k. tried_next ns t inner all c.in_ok-value.field-0 k) (λ k. run_words ns t inner (words_from (length c.args.values) all) c.args.values k) (c.in_ok-value.ensures.means c.args.levels all none) c.in_ok-value.ensures.straight.2) in
+    did gv
