@@ -8,8 +8,8 @@ ghost use Rattle.conn_host.specs.Waiting.{first_sets};
 
 use crate::form::form_of;
 use chan_core::Chans;
-use http_req::Request;
-use http_resp::Response;
+use http_req::{BoxedRequest, Request};
+use http_resp::SharedResponse;
 use ns_sets::{SetFault, Sets};
 use std::alloc::Global;
 use std::marker::Model;
@@ -31,12 +31,12 @@ const MOST_SETS_KEPT: u64 = 64;
 #[derive(Drop)]
 pub struct Conn {
     pub(crate) alloc: Global,
-    pub(crate) request: Option<Request>,
+    pub(crate) request: Option<BoxedRequest>,
     pub(crate) sets: Sets,
     /// Whether this run has made more sets than `MOST_SETS_KEPT`.
     has_many_sets: bool,
     pub(crate) channels: Chans,
-    pub(crate) response: Option<Response>,
+    pub(crate) response: Option<SharedResponse>,
     pub(crate) moment: u64,
 }
 
@@ -96,11 +96,15 @@ fn fill(alloc: Global, sets: &mut Sets, request: &Request) -> Result<(), NoMemor
 }
 
 /// Makes the sets those with which a run begins on this request; none where there is no request.
-fn fill_first(alloc: Global, sets: &mut Sets, request: &Option<Request>) -> Result<(), NoMemory>
+fn fill_first(
+    alloc: Global,
+    sets: &mut Sets,
+    request: &Option<BoxedRequest>,
+) -> Result<(), NoMemory>
     ensures { OnOk result (sets.new ≡ first_sets request.now) }
 {
     match request {
-        Some(request) => fill(alloc, sets, request),
+        Some(request) => fill(alloc, sets, request.get()),
         None => {
             sets.clear();
             Ok(())
@@ -143,7 +147,7 @@ impl Conn {
     }
 
     /// Begins a run on a request, which has no set yet; what was before is left. It takes no memory.
-    pub(crate) fn begin(&mut self, request: Request, moment: u64)
+    pub(crate) fn begin(&mut self, request: BoxedRequest, moment: u64)
         ensures { self.new ≡ unset request moment }
     {
         self.request = Some(request);
@@ -183,14 +187,14 @@ impl Conn {
     }
 
     /// The response that was given, if any.
-    pub(crate) fn response(&self) -> Option<&Response>
+    pub(crate) fn response(&self) -> Option<&SharedResponse>
         ensures { option_copied result ≡ self.now.response }
     {
         self.response.as_ref()
     }
 
     /// The request that is served, where the run has a connection.
-    pub(crate) fn request(&self) -> Option<&Request>
+    pub(crate) fn request(&self) -> Option<&BoxedRequest>
         ensures { option_copied result ≡ self.now.request }
     {
         self.request.as_ref()

@@ -8,8 +8,8 @@ use crate::answering::{dispatch, do_verb, resume};
 use crate::conn::Conn;
 use crate::responding::{require_connection, respond};
 use crate::verb::Verb;
-use http_req::Request;
-use http_resp::Response;
+use http_req::BoxedRequest;
+use http_resp::{Response, SharedResponse};
 use outside::Answer;
 use std::alloc::Global;
 use std::marker::Model;
@@ -71,7 +71,7 @@ impl ConnHost {
 
     /// The host at the beginning of a run on a request. Set 0 has the request's fields, set 1 none yet
     /// for the response, and set 2 the form. It takes no memory.
-    pub fn new(alloc: Global, request: Request, moment: u64) -> ConnHost
+    pub fn new(alloc: Global, request: BoxedRequest, moment: u64) -> ConnHost
         ensures { result ≡ serving request moment }
     {
         let mut conn = Conn::none(alloc);
@@ -85,7 +85,7 @@ impl ConnHost {
 
     /// Begins a run on a request where the host stands, as `new` does; what was before is left. It takes
     /// no memory.
-    pub fn serve(&mut self, request: Request, moment: u64)
+    pub fn serve(&mut self, request: BoxedRequest, moment: u64)
         ensures { self.new ≡ serving request moment }
     {
         self.conn.begin(request, moment);
@@ -154,14 +154,14 @@ impl ConnHost {
     }
 
     /// The response that was given, if any.
-    pub fn response(&self) -> Option<&Response>
+    pub fn response(&self) -> Option<&SharedResponse>
         ensures { option_copied result ≡ self.now.response }
     {
         self.conn.response()
     }
 
     /// The request that is served, where the run has a connection.
-    pub fn request(&self) -> Option<&Request>
+    pub fn request(&self) -> Option<&BoxedRequest>
         ensures { option_copied result ≡ self.now.request }
     {
         self.conn.request()

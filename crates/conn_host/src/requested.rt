@@ -138,7 +138,7 @@ pub fn ns_conn(host: &mut Conn, words: &Words) -> Result<Text, Refusal>
     let Some(request) = &host.request else {
         return Err(refuse(error_text::no_connection(alloc)));
     };
-    tells(alloc, verb, words, request)
+    tells(alloc, verb, words, request.get())
 }
 
 /// Whether the form has a field of this key, ignoring case.

@@ -13,7 +13,7 @@ use crate::checks::require_count;
 use crate::conn::Conn;
 use crate::host::ConnHost;
 use http_resp::status::{FOUND, NOT_FOUND};
-use http_resp::{Response, plain};
+use http_resp::{Response, SharedResponse, plain};
 use natives::word_at;
 use std::alloc::Global;
 use tcl_host::{Refusal, integer, refuse, require_fit};
@@ -95,7 +95,8 @@ pub fn respond(host: &mut Conn, response: Response) -> Result<Text, Refusal>
     if host.response.is_some() {
         return Err(refuse(error_text::response_given(host.alloc)));
     }
-    host.response = Some(response);
+    let shared = SharedResponse::new(host.alloc, response)?;
+    host.response = Some(shared);
     Ok(Text::empty(host.alloc))
 }
 

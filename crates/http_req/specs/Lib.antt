@@ -14,3 +14,4 @@ pub mod Readings
 pub mod Bodies
 pub mod Fetching
 pub mod Fronts
+pub mod RequestCode

@@ -16,10 +16,11 @@ ghost use Rattle.http_req.specs.Outcomes.{sent_front};
 ghost use Rattle.http_req.specs.Readings.{Passes, Received, cut_answer};
 ghost use Rattle.std.specs.Prelude.{drop};
 
+use crate::boxed::BoxedRequest;
 use crate::carry::{Carry, PIECE_SIZE, Stop};
 use crate::chunk::{Chunk, behind, find_chunk};
 use crate::fields::{body_length, is_chunked};
-use crate::request::{Got, Request};
+use crate::request::Got;
 use crate::status::{BAD_REQUEST, CONTENT_TOO_LARGE, FIELDS_TOO_LARGE};
 use crate::trailer::{Trailer, TrailerSpot, trailer_from};
 use outside::Source;
@@ -43,14 +44,14 @@ pub(crate) fn read_body<S: Source>(
     alloc: Global,
     source: &mut S,
     carry: &mut Carry,
-    request: &mut Request,
+    request: &mut BoxedRequest,
     start: usize,
 ) -> Result<(), Got>
     requires { Passes carry.old request.old.peer start request.old }
     ensures { Received carry.old (S.rest source.old) (S.faults source.old) request.old.peer
         (comes_to result request.new) carry.new (S.rest source.new) (S.faults source.new) }
 {
-    if is_chunked(request.fields.as_slice()) {
+    if is_chunked(request.get().fields.as_slice()) {
         read_in_chunks(alloc, source, carry, request, start)
     } else {
         read_by_length(alloc, source, carry, request, start)
@@ -63,7 +64,7 @@ fn read_by_length<S: Source>(
     alloc: Global,
     source: &mut S,
     carry: &mut Carry,
-    request: &mut Request,
+    request: &mut BoxedRequest,
     start: usize,
 ) -> Result<(), Got>
     requires passes { Passes carry.old request.old.peer start request.old }
@@ -71,12 +72,13 @@ fn read_by_length<S: Source>(
     ensures { Received carry.old (S.rest source.old) (S.faults source.old) request.old.peer
         (comes_to result request.new) carry.new (S.rest source.new) (S.faults source.new) }
 {
-    let length = body_length(request.fields.as_slice()).unwrap_or(0);
+    let length = body_length(request.get().fields.as_slice()).unwrap_or(0);
     let used = start + length as usize;
     if let Err(stop) = carry.fetch_up_to(source, used) {
         return Err(cut_off(carry, stop));
     }
-    request.body = Text::new(alloc, &carry.bytes()[start..used])?;
+    let body = Text::new(alloc, &carry.bytes()[start..used])?;
+    request.set_body(body);
     carry.use_up(used);
     Ok(())
 }
@@ -87,7 +89,7 @@ fn read_in_chunks<S: Source>(
     alloc: Global,
     source: &mut S,
     carry: &mut Carry,
-    request: &mut Request,
+    request: &mut BoxedRequest,
     start: usize,
 ) -> Result<(), Got>
     requires passes { Passes carry.old request.old.peer start request.old }
@@ -97,7 +99,7 @@ fn read_in_chunks<S: Source>(
 {
     let Chunks { body, len: begin } = read_chunks(alloc, source, carry, start)?;
     let len = read_trailer(source, carry, start, begin)?;
-    request.body = body;
+    request.set_body(body);
     carry.use_up(start + len);
     Ok(())
 }

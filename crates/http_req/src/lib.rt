@@ -2,6 +2,7 @@
 #![tactic(auto)]
 
 mod body;
+mod boxed;
 mod carry;
 mod checks;
 mod chunk;
@@ -15,6 +16,7 @@ mod status;
 mod target;
 mod trailer;
 
+pub use boxed::BoxedRequest;
 pub use carry::Carry;
 pub use head::{FIELD_ROOM, Front, HEAD_LIMIT, find_head};
 pub use law::bad_at_the_first_byte;

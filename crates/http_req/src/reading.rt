@@ -13,6 +13,7 @@ ghost use Rattle.http_req.specs.Readings.{left_of, Answers, Consumes, OnReadFaul
 ghost use Rattle.http_req.specs.Requests.{shown};
 
 use crate::body::{cut_off, read_body};
+use crate::boxed::BoxedRequest;
 use crate::carry::Carry;
 use crate::checks::{FIELD_LIMIT, refusal};
 use crate::head::{FIELD_ROOM, Front, HEAD_LIMIT, find_head};
@@ -53,7 +54,7 @@ fn receive<S: Source>(
     source: &mut S,
     carry: &mut Carry,
     peer: &Text,
-) -> Result<Request, Got>
+) -> Result<BoxedRequest, Got>
     ensures { Received carry.old (S.rest source.old) (S.faults source.old) peer.now result carry.new
         (S.rest source.new) (S.faults source.new) }
 {
@@ -70,7 +71,7 @@ fn receive_with<S: Source>(
     carry: &mut Carry,
     spans: &mut Vec<HeaderSpan>,
     peer: &Text,
-) -> Result<Request, Got>
+) -> Result<BoxedRequest, Got>
     ensures { Received carry.old (S.rest source.old) (S.faults source.old) peer.now result carry.new
         (S.rest source.new) (S.faults source.new) }
 {
@@ -86,7 +87,7 @@ fn read_headed<S: Source>(
     head: &RequestSpans,
     spans: &[HeaderSpan],
     peer: &Text,
-) -> Result<Request, Got>
+) -> Result<BoxedRequest, Got>
     requires { HeadStands (front carry.old) spans.now head.now }
     ensures { Received carry.old (S.rest source.old) (S.faults source.old) peer.now result carry.new
         (S.rest source.new) (S.faults source.new) }
@@ -96,10 +97,11 @@ fn read_headed<S: Source>(
             status: FIELDS_TOO_LARGE,
         });
     }
-    let mut request = show_front(alloc, carry.bytes(), head, spans, peer)?;
-    match refusal(&request) {
+    let shown = show_front(alloc, carry.bytes(), head, spans, peer)?;
+    match refusal(&shown) {
         Some(status) => Err(Got::Refused { status }),
         None => {
+            let mut request = BoxedRequest::new(alloc, shown)?;
             read_body(alloc, source, carry, &mut request, head.len)?;
             Ok(request)
         }

@@ -1,5 +1,6 @@
 //! A request, and what else an input may be.
 
+use crate::boxed::BoxedRequest;
 use std::alloc::AllocError;
 use txt_core::{NoMemory, Pairs, Text, Words};
 
@@ -29,7 +30,7 @@ pub struct Request {
 #[derive(Debug, Drop)]
 pub enum Got {
     /// A request, whole.
-    Request(Request),
+    Request(BoxedRequest),
     /// The input ended before the first byte of a request.
     End,
     /// The input ended inside a request, of which so many bytes were there.

@@ -9,3 +9,4 @@ pub mod Delivery
 pub mod Lines
 -- What only proofs use.
 pub mod HeadLines
+pub mod ResponseCode

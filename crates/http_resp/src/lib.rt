@@ -11,6 +11,7 @@ mod head;
 mod lines;
 mod replies;
 mod response;
+mod shared;
 pub mod status;
 
 pub use date::fixdate;
@@ -20,3 +21,4 @@ pub use lines::head_is_in_lines;
 pub use outside::Sent;
 pub use replies::{plain, reply_busy, reply_no_memory, text_reply};
 pub use response::Response;
+pub use shared::SharedResponse;

@@ -1,9 +1,6 @@
 //! What a request is answered with.
 
-ghost use Rattle.std.specs.Prelude.{◌≡◌, IfOk};
-
-use std::alloc::Global;
-use txt_core::{NoMemory, Pairs, Text};
+use txt_core::{Pairs, Text};
 
 /// What a request is answered with.
 #[derive(Debug, Drop)]
@@ -17,18 +14,4 @@ pub struct Response {
     pub kind: Text,
     /// The content.
     pub body: Text,
-}
-
-impl Response {
-    /// The same response once more. Its only error is want of memory.
-    pub fn copy(&self, alloc: Global) -> Result<Response, NoMemory>
-        ensures { IfOk result (λ copy. copy ≡ self.now) }
-    {
-        Ok(Response {
-            status: self.status,
-            fields: self.fields.copy(alloc)?,
-            kind: self.kind.copy(alloc)?,
-            body: self.body.copy(alloc)?,
-        })
-    }
 }

@@ -5,7 +5,7 @@ ghost use Rattle.tcl_host.specs.Codes as code_of;
 ghost use Rattle.ictl.specs.Replies.{is_good, verdict_in, verdict, access_in, access};
 ghost use Rattle.ictl.specs.Main.{both};
 
-use http_resp::Response;
+use http_resp::SharedResponse;
 use std::alloc::Global;
 use tcl_eval::Outcome;
 use tcl_host::{OK, RETURN};
@@ -43,7 +43,7 @@ pub enum After {
     /// What is behind its stage.
     Behind,
     /// The writing of this response.
-    Responds(Response),
+    Responds(SharedResponse),
 }
 
 /// What the authorisation says.

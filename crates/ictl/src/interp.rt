@@ -28,8 +28,8 @@ use crate::settling::{Settling, leave_inner};
 use crate::task::{Move, Task};
 use crate::visit::{AUTHORISER, Visit};
 use cmd_table::{Defs, Steps, copy_defs};
-use http_req::Request;
-use http_resp::Response;
+use http_req::BoxedRequest;
+use http_resp::SharedResponse;
 use natives::Natives;
 use outside::Answer;
 use server_host::{Edition, RunHost};
@@ -107,7 +107,7 @@ fn next_of(came: Result<Next, NoMemory>) -> Next
 }
 
 /// The reply of a run that was cut off up to its response.
-fn cut_reply(alloc: Global, ending: Ending) -> Result<Response, NoMemory>
+fn cut_reply(alloc: Global, ending: Ending) -> Result<SharedResponse, NoMemory>
     ensures { IfOk result (λ response. response ≡ cut_reply ending) }
 {
     match ending {
@@ -188,7 +188,7 @@ impl Interp {
     pub(crate) fn start_request<L: Ledger>(
         &mut self,
         natives: &Natives,
-        request: Request,
+        request: BoxedRequest,
         moment: u64,
         steps: &mut Steps<L>,
     ) -> Next

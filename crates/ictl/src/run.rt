@@ -13,7 +13,7 @@ ghost use Rattle.ictl.specs.Falls.{StandsAt, number_of, first_number, Falls};
 use crate::boxed::BoxedInterp;
 use crate::next::Next;
 use cmd_table::Steps;
-use http_req::Request;
+use http_req::BoxedRequest;
 use natives::Natives;
 use outside::{Answer, Question};
 use std::marker::Model;
@@ -60,7 +60,7 @@ impl Run {
     pub fn start_request<L: Ledger>(
         mut interp: BoxedInterp,
         natives: &Natives,
-        request: Request,
+        request: BoxedRequest,
         moment: u64,
         steps: &mut Steps<L>,
     ) -> Run

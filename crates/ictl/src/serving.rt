@@ -16,12 +16,14 @@ use crate::boxed_text::BoxedText;
 use crate::ending::{Access, After, Ending, Verdict, access_of, verdict_of};
 use crate::interp::Interp;
 use crate::next::Next;
-use crate::reply::{failed, given_or_failed, page_reply, procedure_reply, unauthorized, unentered};
+use crate::reply::{
+    failed, given_or_failed, page_reply, plain_reply, procedure_reply, unauthorized, unentered,
+};
 use crate::task::{Move, Task};
 use crate::visit::Serving;
 use cmd_table::Steps;
+use http_resp::SharedResponse;
 use http_resp::status::{FORBIDDEN, NOT_FOUND};
-use http_resp::{Response, plain};
 use natives::Natives;
 use outside::Answer;
 use server_host::RunHost;
@@ -153,6 +155,7 @@ impl Interp {
     }
 
     /// Makes a call as this task, from the global frame and outside of every page.
+    #[inline(always)]
     #[tactic(auto, using(crate::proofs::Interpreters::holds_on))]
     pub(crate) fn call<L: Ledger>(
         &mut self,
@@ -379,7 +382,7 @@ impl Interp {
                 Ok(self.respond(response))
             }
             Access::Forbidden => {
-                let response = plain(self.alloc, FORBIDDEN)?;
+                let response = plain_reply(self.alloc, FORBIDDEN)?;
                 Ok(self.respond(response))
             }
             Access::Failed => self.fail(),
@@ -463,6 +466,7 @@ impl Interp {
     }
 
     /// Calls the procedure, or asks for the page; what is neither is not found.
+    #[inline(always)]
     fn serve<L: Ledger>(
         &mut self,
         natives: &Natives,
@@ -495,7 +499,7 @@ impl Interp {
             }
             Serving::Page(path) => self.ask_page(path, budget),
             Serving::Nothing => {
-                let response = plain(self.alloc, NOT_FOUND)?;
+                let response = plain_reply(self.alloc, NOT_FOUND)?;
                 Ok(self.respond(response))
             }
         }
@@ -566,7 +570,7 @@ impl Interp {
 
     /// A response is to be written.
     #[inline(always)]
-    pub(crate) fn respond(&mut self, response: Response) -> Move
+    pub(crate) fn respond(&mut self, response: SharedResponse) -> Move
         ensures stops { result ≡ Move.Stops (Next.Write response) }
         ensures task { self.new ≡ record self.old { task = Task.Writing Ending.Answered } }
     {

@@ -166,6 +166,7 @@ impl Settling {
     }
 
     /// Goes on until a question goes out, or the script has ended.
+    #[inline(always)]
     fn go_on<L: Ledger>(
         &mut self,
         natives: &Natives,
@@ -255,6 +256,8 @@ impl Settling {
     }
 
     /// Begins the run inside that is asked for, in an interpreter of its own on the same blueprint.
+    #[cold]
+    #[inline(never)]
     fn enter<L: Ledger>(
         &mut self,
         natives: &Natives,

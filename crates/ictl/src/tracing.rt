@@ -25,7 +25,7 @@ use crate::serving::words_at;
 use crate::settling::FIRST_DEPTH;
 use crate::task::{Move, Task};
 use cmd_table::Steps;
-use http_req::Request;
+use http_req::BoxedRequest;
 use natives::Natives;
 use outside::Answer;
 use server_host::RunHost;
@@ -95,7 +95,7 @@ impl Interp {
     pub(crate) fn begin_request<L: Ledger>(
         &mut self,
         natives: &Natives,
-        request: Request,
+        request: BoxedRequest,
         moment: u64,
         steps: &mut Steps<L>,
     ) -> Result<Next, NoMemory>
@@ -118,7 +118,7 @@ impl Interp {
     {
         let Ok(()) = self
             .visit
-            .enter(self.alloc, &self.routes, self.authorises, &request)
+            .enter(self.alloc, &self.routes, self.authorises, request.get())
         else {
             drop(request);
             return Err(NoMemory);

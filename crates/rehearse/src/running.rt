@@ -6,7 +6,7 @@ ghost use Rattle.ictl.specs.Interps.{IsNew};
 ghost use Rattle.rehearse.specs.Playing.{RequestBegan, ScriptBegan, DefineBegan, Resumed, WentBehind};
 
 use cmd_table::Steps;
-use http_req::Request;
+use http_req::BoxedRequest;
 use ictl::{BoxedInterp, Run};
 use natives::Natives;
 use outside::Answer;
@@ -17,7 +17,7 @@ use txt_core::Text;
 pub fn begin_request<L: Ledger>(
     interp: BoxedInterp,
     natives: &Natives,
-    request: Request,
+    request: BoxedRequest,
     moment: u64,
     steps: &mut Steps<L>,
 ) -> Run

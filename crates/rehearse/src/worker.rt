@@ -21,8 +21,8 @@ use crate::objects::Objects;
 use crate::running::{begin_request, go_behind, resume};
 use crate::setting::Setting;
 use cmd_table::Steps;
-use http_req::{Carry, Got, Request, read_request};
-use http_resp::{Response, plain, response_bytes};
+use http_req::{BoxedRequest, Carry, Got, read_request};
+use http_resp::{SharedResponse, plain, response_bytes};
 use ictl::{Next, Run, one_response};
 use natives::Natives;
 use serving::{Behind, after_request, asks_close, closes, counted, is_head_only};
@@ -139,7 +139,7 @@ impl Worker {
         setting: &Setting,
         objects: &Objects,
         mut connection: Connection,
-        request: Request,
+        request: BoxedRequest,
         steps: &mut Steps<L>,
     ) -> Result<(), NoMemory>
         requires ready { IsReady (names_of natives.now) objects.now.blueprint
@@ -154,8 +154,9 @@ impl Worker {
         let interp = self
             .keeper
             .take(self.alloc, natives, &objects.blueprint, steps)?;
-        let asks_close = asks_close(&request);
-        let head_only = is_head_only(&request);
+        let asked = request.get();
+        let asks_close = asks_close(asked);
+        let head_only = is_head_only(asked);
         let moment = setting.moment;
         let run = begin_request(interp, natives, request, moment, steps);
         connection.requests += 1;
@@ -250,7 +251,7 @@ impl Worker {
         &self,
         connection: &Connection,
         serving: &UnderWay,
-        reply: &Response,
+        reply: &SharedResponse,
         listing: &mut Listing,
     ) -> Result<(), NoMemory>
         ensures { OnOk result
@@ -264,9 +265,10 @@ impl Worker {
     {
         let (requests, answer_bytes) = (connection.requests, connection.answer_bytes);
         let closes = closes(serving.asks_close, requests, answer_bytes);
-        let bytes = response_bytes(self.alloc, reply, serving.moment, serving.head_only, closes)?;
+        let given = reply.get();
+        let bytes = response_bytes(self.alloc, given, serving.moment, serving.head_only, closes)?;
         let epoch = serving.run.epoch();
-        listing.push_response(self.number, Some(epoch), reply.status, bytes.bytes())
+        listing.push_response(self.number, Some(epoch), given.status, bytes.bytes())
     }
 
     /// Writes the response of the request.

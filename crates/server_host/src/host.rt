@@ -5,8 +5,8 @@ use crate::edition::Edition;
 use crate::kind::Kind;
 use adp_host::AdpHost;
 use conn_host::ConnHost;
-use http_req::Request;
-use http_resp::Response;
+use http_req::BoxedRequest;
+use http_resp::SharedResponse;
 use outside::Answer;
 use std::alloc::Global;
 use std::marker::Model;
@@ -91,7 +91,7 @@ impl RunHost {
     /// Begins the run that serves a request, which came at this moment; what was before is left. Set 0
     /// has the request's fields, set 1 none yet for the response, and set 2 the form. The run isn't
     /// marked. It takes no memory.
-    pub fn serve(&mut self, request: Request, moment: u64)
+    pub fn serve(&mut self, request: BoxedRequest, moment: u64)
         ensures { self.new ≡ serving request moment self.old.blueprint }
     {
         self.unmark();
@@ -145,14 +145,14 @@ impl RunHost {
     }
 
     /// The request that is served, where the run has a connection.
-    pub fn request(&self) -> Option<&Request>
+    pub fn request(&self) -> Option<&BoxedRequest>
         ensures { option_copied result ≡ self.now.conn.request }
     {
         self.conn.request()
     }
 
     /// The response that was given, if any.
-    pub fn response(&self) -> Option<&Response>
+    pub fn response(&self) -> Option<&SharedResponse>
         ensures { option_copied result ≡ self.now.conn.response }
     {
         self.conn.response()

@@ -1,7 +1,7 @@
 //! Whole requests, by their bytes: what commands tell of them, and the replies to those that are refused.
 
 use crate::rows::{CHUNKS, REQUESTS};
-use crate::telling::{Told, on, parts, put, spelled, text, told_on};
+use crate::telling::{Told, on_boxed, parts, put, spelled, text, told_on};
 use http_req::{Carry, Got, read_request};
 use http_resp::{plain, response_bytes};
 use outside::MemSource;
@@ -74,7 +74,9 @@ fn truncated(alloc: Global, have: u64) -> Text {
 /// What a command on a request comes to, or why there is none; nothing where memory wants.
 fn told(alloc: Global, got: Got, line: &str) -> Text {
     match got {
-        Got::Request(request) => told_on(alloc, on(alloc, request), Told::Command, line),
+        Got::Request(request) => {
+            told_on(alloc, Ok(on_boxed(alloc, request)), Told::Command, line)
+        }
         Got::Refused { status } => refused(alloc, status),
         Got::Truncated { have } => truncated(alloc, have),
         Got::End => text(alloc, "end"),

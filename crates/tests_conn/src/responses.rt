@@ -49,7 +49,7 @@ pub fn given(alloc: Global, host: &mut ConnHost, line: &str) -> Text {
     let mut told = done(alloc, host, line);
     if let Some(response) = host.response() {
         put(&mut told, b" and ");
-        tell_response(alloc, &mut told, response);
+        tell_response(alloc, &mut told, response.get());
     }
     told
 }
@@ -88,7 +88,7 @@ fn bytes_of(alloc: Global, response: &Response) -> Text {
 pub fn sent(alloc: Global, host: &mut ConnHost, line: &str) -> Text {
     let _done = done(alloc, host, line);
     match host.response() {
-        Some(response) => bytes_of(alloc, response),
+        Some(response) => bytes_of(alloc, response.get()),
         None => Text::empty(alloc),
     }
 }

@@ -8,7 +8,7 @@
 use crate::commands::{form, user_and_password};
 use crate::responses::{given, sent};
 use conn_host::ConnHost;
-use http_req::Request;
+use http_req::{BoxedRequest, Request};
 use outside::Answer;
 use std::alloc::Global;
 use tcl_host::HostReply;
@@ -98,7 +98,12 @@ pub type Made = Result<ConnHost, NoMemory>;
 
 /// A host on a request.
 pub fn on(alloc: Global, request: Request) -> Made {
-    Ok(ConnHost::new(alloc, request, MOMENT))
+    Ok(on_boxed(alloc, BoxedRequest::new(alloc, request)?))
+}
+
+/// The same for a request at a place of its own in memory.
+pub fn on_boxed(alloc: Global, request: BoxedRequest) -> ConnHost {
+    ConnHost::new(alloc, request, MOMENT)
 }
 
 /// A host on a request with these fields, this query and this body.

@@ -570,7 +570,7 @@ impl World {
                 Some(connection)
             }
             Ok(Next::Write(response)) => {
-                self.respond(alloc, place, &connection, &run, &response);
+                self.respond(alloc, place, &connection, &run, response.get());
                 run.written = true;
                 connection.run = Some(run);
                 Some(connection)
@@ -588,7 +588,7 @@ impl World {
     fn manner(alloc: Global, connection: &Connection) -> Option<(bool, bool)> {
         let number = connection.begun.saturating_sub(1);
         match read_nth(alloc, &connection.input, number) {
-            Got::Request(request) => Some((asks_close(&request), is_head_only(&request))),
+            Got::Request(request) => Some((asks_close(request.get()), is_head_only(request.get()))),
             _ => None,
         }
     }

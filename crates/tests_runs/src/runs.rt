@@ -9,7 +9,7 @@ ghost use Rattle.ictl.specs.Came.{IsAtQuestion, IsAtResponse};
 
 use blueprint::from_script;
 use cmd_table::{Defs, Steps};
-use http_req::Request;
+use http_req::{BoxedRequest, Request};
 use ictl::{BoxedInterp, Next, Run};
 use natives::Natives;
 use outside::Answer;
@@ -121,7 +121,8 @@ fn interp_of<L: Ledger>(
     }
 }
 
-/// Begins a request, a scheduled script (`script`) or a definition run (`define`), by two words.
+/// Begins a request, a scheduled script (`script`) or a definition run (`define`), by two words. Where memory wants
+/// for a request, its path is run as a script, and the row is wrong.
 fn start<L: Ledger>(
     alloc: Global,
     natives: &Natives,
@@ -137,10 +138,10 @@ fn start<L: Ledger>(
     match kind {
         "script" => Run::start_script(interp, natives, &text, 0, steps),
         "define" => Run::start_define(interp, natives, &text, 0, steps),
-        method => {
-            let request = request(alloc, method, what);
-            Run::start_request(interp, natives, request, 0, steps)
-        }
+        method => match BoxedRequest::new(alloc, request(alloc, method, what)) {
+            Ok(request) => Run::start_request(interp, natives, request, 0, steps),
+            Err(_) => Run::start_script(interp, natives, &text, 0, steps),
+        },
     }
 }
 
@@ -225,7 +226,8 @@ fn go_on<L: Ledger>(
             resume(natives, run, answer(alloc, said), steps);
         }
         Next::Write(response) => {
-            tell_response(alloc, told, response.status, &response.body);
+            let given = response.get();
+            tell_response(alloc, told, given.status, &given.body);
             written(natives, run, steps);
         }
         _ => {}

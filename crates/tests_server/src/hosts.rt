@@ -2,7 +2,7 @@
 
 use crate::texts::{add_def, again, digits, put, script, text, words_between};
 use cmd_table::{Def, Defs, copy_def};
-use http_req::Request;
+use http_req::{BoxedRequest, Request};
 use outside::{Answer, Question, Service};
 use server_host::{Edition, RunHost};
 use std::alloc::Global;
@@ -68,8 +68,9 @@ fn idle(alloc: Global) -> Result<RunHost, NoMemory> {
 }
 
 /// Begins the run of a request.
-fn serve(alloc: Global, host: &mut RunHost) {
-    host.serve(request(alloc), 7);
+fn serve(alloc: Global, host: &mut RunHost) -> Result<(), NoMemory> {
+    host.serve(BoxedRequest::new(alloc, request(alloc))?, 7);
+    Ok(())
 }
 
 /// Begins the run of a scheduled script.
@@ -85,10 +86,7 @@ fn begin_definitions(host: &mut RunHost) -> Result<(), NoMemory> {
 /// Begins a run of the kind of this letter, at moment 7.
 fn begin(alloc: Global, host: &mut RunHost, kind: u8) -> Result<(), NoMemory> {
     match kind {
-        b's' => {
-            serve(alloc, host);
-            Ok(())
-        }
+        b's' => serve(alloc, host),
         b't' => begin_script(host),
         _ => begin_definitions(host),
     }
@@ -249,7 +247,7 @@ fn mark(host: &RunHost) -> &'static [u8] {
 /// The status of the response that was given; 0 where there is none.
 fn status(host: &RunHost) -> u64 {
     match host.response() {
-        Some(response) => u64::from(response.status),
+        Some(response) => u64::from(response.get().status),
         None => 0,
     }
 }

@@ -39,7 +39,7 @@ fn add_request(request: &Request, out: &mut Answer) {
 /// Adds an answer.
 fn add_got(got: &Got, out: &mut Answer) {
     match got {
-        Got::Request(request) => add_request(request, out),
+        Got::Request(request) => add_request(request.get(), out),
         Got::End => out.add(b"end"),
         Got::Truncated { have } => {
             out.add(b"truncated ");

@@ -32,7 +32,7 @@ use crate::run::{answer_all, end_run};
 use crate::served::{End, Served, ServedList};
 use crate::worker::Worker;
 use cmd_table::Steps;
-use http_req::Request;
+use http_req::BoxedRequest;
 use http_resp::{Sent, Writer, Wrote};
 use ictl::{BoxedInterp, Next, Run};
 use natives::Natives;
@@ -48,7 +48,7 @@ use txt_core::moment_of;
 fn begin<L: Ledger>(
     interp: BoxedInterp,
     natives: &Natives,
-    request: Request,
+    request: BoxedRequest,
     moment: u64,
     steps: &mut Steps<L>,
 ) -> Run
@@ -160,7 +160,7 @@ fn run_item<R: Wait, K: Sink, P: Pages, C: Clock, L: Ledger>(
     shared: &Shared,
     worker: &mut Worker,
     passes: &mut Passes,
-    request: Request,
+    request: BoxedRequest,
     manner: Manner,
     sink: &mut K,
     pages: &mut P,
@@ -239,7 +239,7 @@ pub(crate) fn serve_request<R: Wait, K: Sink, P: Pages, C: Clock, G: Gate, L: Le
     shared: &Shared,
     worker: &mut Worker,
     passes: &mut Passes,
-    request: Request,
+    request: BoxedRequest,
     sink: &mut K,
     pages: &mut P,
     clock: &mut C,
@@ -268,9 +268,10 @@ pub(crate) fn serve_request<R: Wait, K: Sink, P: Pages, C: Clock, G: Gate, L: Le
         return Some(end_in_want(moment_of(clock.moment()), sink));
     }
     let place = served.len() as u64;
+    let asked = request.get();
     let manner = Manner {
-        asks: asks_close(&request),
-        head_only: is_head_only(&request),
+        asks: asks_close(asked),
+        head_only: is_head_only(asked),
         requests: place + 1,
         answered: *answered,
     };

@@ -11,7 +11,7 @@ ghost use Rattle.worker.specs.Working.{bytes_sent, way_of, end_behind, SendsRepl
 
 use crate::heard::AnswerList;
 use crate::served::{End, ServedOutcome};
-use http_resp::{Response, Sent, Writer, Wrote, reply_no_memory};
+use http_resp::{Sent, SharedResponse, Writer, Wrote, reply_no_memory};
 use ictl::Next;
 use outside::Sink;
 use serving::{Behind, after_request, closes, counted};
@@ -83,7 +83,7 @@ pub(crate) fn tell_want<K: Sink>(moment: u64, sink: &mut K) -> Done
 pub(crate) fn write<K: Sink>(
     alloc: Global,
     writer: &mut Writer,
-    response: &Response,
+    response: &SharedResponse,
     moment: u64,
     manner: Manner,
     answers: &AnswerList,
@@ -97,7 +97,7 @@ pub(crate) fn write<K: Sink>(
 {
     let answered = count_all(manner.answered, answers);
     let close = closes(manner.asks, manner.requests, answered);
-    writer.write(alloc, response, moment, manner.head_only, close, sink)
+    writer.write(alloc, response.get(), moment, manner.head_only, close, sink)
 }
 
 /// Writes the named reply where no run was begun, and ends the session.

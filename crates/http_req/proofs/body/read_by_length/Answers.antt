@@ -7,12 +7,12 @@ use Rattle.http_req.proofs.body.read_by_length.Goals as goal
 
 pub overflow_add-used : goal.overflow_add-used
 overflow_add-used g c =
-    let read = read_length _ _ _ _ c.requires.passes c.body_length.result (c.body_length.ensures ∙ ap length_told c.as_slice.ensures) c.unwrap_or-length.result c.unwrap_or-length.ensures in
+    let read = read_length _ _ _ _ c.requires.passes c.body_length.result (c.body_length.ensures ∙ ap length_told c.as_slice.ensures ∙ ap (λ (r : Request). length_told r.fields) c.get.ensures) c.unwrap_or-length.result c.unwrap_or-length.ensures in
     omega (arith, read.1)
 
 pub returns-in-Err : goal.returns-in-Err
 returns-in-Err g c =
-    let read = read_length _ _ _ _ c.requires.passes c.body_length.result (c.body_length.ensures ∙ ap length_told c.as_slice.ensures) c.unwrap_or-length.result c.unwrap_or-length.ensures in
+    let read = read_length _ _ _ _ c.requires.passes c.body_length.result (c.body_length.ensures ∙ ap length_told c.as_slice.ensures ∙ ap (λ (r : Request). length_told r.fields) c.get.ensures) c.unwrap_or-length.result c.unwrap_or-length.ensures in
     let gets = body_short _ _ _ _ _ _ _ _ _ c.requires.passes c.in-Err.ensures.moves c.requires.plain (omega (arith, read.0, c.in-Err.ensures.short)) in
     received_no_request _ _ _ _ _ _ _ _ c.in-Err.ensures.moves
     (subst (λ answer. Stops c.fetch_up_to.new.self c.args.request.now.peer (g.S.Source.rest c.args.source.now) (g.S.Source.faults c.args.source.now) (g.S.Source.rest c.fetch_up_to.new.source) (g.S.Source.faults c.fetch_up_to.new.source) answer)
@@ -20,9 +20,9 @@ returns-in-Err g c =
 
 pub returns : goal.returns
 returns g c =
-    let read = read_length _ _ _ _ c.requires.passes c.body_length.result (c.body_length.ensures ∙ ap length_told c.as_slice.ensures) c.unwrap_or-length.result c.unwrap_or-length.ensures in
+    let read = read_length _ _ _ _ c.requires.passes c.body_length.result (c.body_length.ensures ∙ ap length_told c.as_slice.ensures ∙ ap (λ (r : Request). length_told r.fields) c.get.ensures) c.unwrap_or-length.result c.unwrap_or-length.ensures in
     let used : ℕ = c.args.start + c.unwrap_or-length.result in
-    let gets = body_whole c.args.carry.now c.fetch_up_to.new.self _ _ _ _ _ _ c.args.request.now (record c.args.request.now { body = c.in_ok-request.field-0 }) used c.requires.passes c.fetch_up_to.ensures.moves c.requires.plain
+    let gets = body_whole c.args.carry.now c.fetch_up_to.new.self _ _ _ _ _ _ c.args.request.now (record c.args.request.now { body = c.in_ok-body.body }) used c.requires.passes c.fetch_up_to.ensures.moves c.requires.plain
     (omega (arith, read.0)) c.in_default.ensures.enough
-    (ap (λ (body : List ℕ). let q : Request = record c.args.request.now { body = body } in q) (c.in_ok-request.ensures ∙ ap (λ (bytes : List ℕ). take (used - c.args.start) (drop c.args.start bytes)) c.bytes.ensures)) in
-    received_request _ _ _ _ _ _ _ _ used _ c.fetch_up_to.ensures.moves gets c.use_up.ensures
+    (ap (λ (body : List ℕ). let q : Request = record c.args.request.now { body = body } in q) (c.in_ok-body.ensures ∙ ap (λ (bytes : List ℕ). take (used - c.args.start) (drop c.args.start bytes)) c.bytes.ensures)) in
+    rw c.set_body.ensures (received_request _ _ _ _ _ _ _ _ used _ c.fetch_up_to.ensures.moves gets c.use_up.ensures)

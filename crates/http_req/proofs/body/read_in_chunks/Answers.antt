@@ -75,4 +75,4 @@ returns g c =
     let moves = moves_then c.read_chunks.ensures.moves c.read_trailer.ensures.moves in
     let gets = (chunks_whole _ c.read_trailer.new.carry _ _ _ _ c.args.request.now.peer c.args.start c.args.request.now (record c.args.request.now { body = c.in_ok-body.field-0.body }) c.in_ok-body.field-0.body c.in_ok-body.field-0.len c.in_ok-len.len
     c.requires.passes moves c.requires.chunked inside chunks c.in_ok-len.ensures.ends refl).0 in
-    received_request _ _ _ _ _ _ _ _ (c.args.start + c.in_ok-len.len) _ moves gets c.use_up.ensures
+    rw c.set_body.ensures (received_request _ _ _ _ _ _ _ _ (c.args.start + c.in_ok-len.len) _ moves gets c.use_up.ensures)

@@ -1,6 +1,7 @@
 use Rattle.std.proofs.Common.{◌≡◌, ◌∙◌, ◌+◌, ◌∷◌, ◌++◌, ℕ, List, [], length, refl, sym, ap, subst, arith}
 use Rattle.std.specs.Prelude.{min, Some}
 use Rattle.natives.specs.Names.{names_of}
+use Rattle.serving.specs.Connections.{asks_close}
 use Rattle.worker.specs.Lists.{listed}
 use Rattle.worker.specs.Items.{bytes_of}
 use Rattle.worker.specs.Sessions.{at, answered_by}
@@ -44,7 +45,7 @@ returns-in-Ok-clause-steps g c =
     steps_item (names_of c.args.natives.now) _ c.args.request _ _ (listed c.args.served.now) (listed c.push_reserved.new.self) c.in-Ok.item c.in-Ok.sent c.end_behind-end.result
     (c.in-Ok.ensures.item count before (omega (arith, place)) c.requires.counts)
     (c.push_reserved.ensures.items ∙ ap (λ (l : List Served). l ++ c.in-Ok.item ∷ []) c.reserve.ensures.same)
-    (c.end_behind-end.ensures before c.requires.counts ∙ (λ i. end_behind c.in-Ok.item.outcome c.in-Ok.sent (c.asks_close.ensures i) (place i + 1) (before + bytes_of c.in-Ok.item.answers)))
+    (c.end_behind-end.ensures before c.requires.counts ∙ (λ i. end_behind c.in-Ok.item.outcome c.in-Ok.sent ((c.asks_close.ensures ∙ ap asks_close c.get-asked.ensures) i) (place i + 1) (before + bytes_of c.in-Ok.item.answers)))
 
 pub returns-in-Ok-clause-counts : goal.returns-in-Ok-clause-counts
 returns-in-Ok-clause-counts g c =

@@ -1,5 +1,6 @@
 use Rattle.std.proofs.Common.{sym, ap, ◌∙◌, arith, ◌+◌, [], subst}
 use Rattle.natives.specs.Names.{names_of}
+use Rattle.http_req.specs.declared.request.Request.{Request}
 use Rattle.server_host.specs.declared.edition.Edition.{Edition}
 use Rattle.server_host.specs.Hosts.{HostState, serving}
 use Rattle.ictl.specs.Falls.{first_number}
@@ -7,6 +8,7 @@ use Rattle.ictl.specs.declared.interp.Interp.{Interp}
 use Rattle.ictl.proofs.Interpreters.{from_none, moved_on, ok_same}
 use Rattle.ictl.proofs.Beginnings.{begun_state, request_begins, visit_is}
 use Rattle.ictl.specs.Main.{Main}
+use Rattle.ictl.specs.Visits.{visit_by}
 use Rattle.ictl.specs.Interps.{IsWithin, interp_written}
 use Rattle.ictl.proofs.Withins.{begun_none, err_same, new_writes, within_from, moved_within, wants}
 use Rattle.ictl.proofs.interp.Interp.begin_request.Goals as goal
@@ -28,7 +30,7 @@ returns-in_err-step-clause-most g c =
     wants c.from_residual.result _ (let names = names_of c.args.natives.now in
     let old = c.args.self.now in
     let bp = old.blueprint.value in
-    let visit = visit_is names old c.args.request c.enter.new.self c.requires (c.in-Ok.ensures bp.defs c.requires.0.routes) in
+    let visit = visit_is names old c.args.request c.enter.new.self c.requires (c.in-Ok.ensures bp.defs c.requires.0.routes ∙ ap (λ (r : Request). visit_by old.authorises r bp.defs) c.get.ensures) in
     let state = begun_state names old c.serve.new.self (λ (b : Edition). serving c.args.request c.args.moment b) c.requires.1 (c.serve.ensures ∙ ap (λ (h : HostState). serving c.args.request c.args.moment h.blueprint) c.host_mut.ensures.value) in
     let between : Interp = record old {
       settling = record old.settling { run = record { engine = record old.settling.run.engine { host = c.serve.new.self } }; questions = 1800000 };
@@ -49,7 +51,7 @@ returns-clause-stands g c =
     let names = names_of c.args.natives.now in
     let old = c.args.self.now in
     let bp = old.blueprint.value in
-    let visit = visit_is names old c.args.request c.enter.new.self c.requires (c.in-Ok.ensures bp.defs c.requires.0.routes) in
+    let visit = visit_is names old c.args.request c.enter.new.self c.requires (c.in-Ok.ensures bp.defs c.requires.0.routes ∙ ap (λ (r : Request). visit_by old.authorises r bp.defs) c.get.ensures) in
     let state = begun_state names old c.serve.new.self (λ (b : Edition). serving c.args.request c.args.moment b) c.requires.1 (c.serve.ensures ∙ ap (λ (h : HostState). serving c.args.request c.args.moment h.blueprint) c.host_mut.ensures.value) in
     let between : Interp = record old {
       settling = record old.settling { run = record { engine = record old.settling.run.engine { host = c.serve.new.self } }; questions = 1800000 };
@@ -68,7 +70,7 @@ pub returns-clause-visit : goal.returns-clause-visit
 returns-clause-visit g c =
     let names = names_of c.args.natives.now in
     let old = c.args.self.now in
-    let visit = visit_is names old c.args.request c.enter.new.self c.requires (c.in-Ok.ensures old.blueprint.value.defs c.requires.0.routes) in
+    let visit = visit_is names old c.args.request c.enter.new.self c.requires (c.in-Ok.ensures old.blueprint.value.defs c.requires.0.routes ∙ ap (λ (r : Request). visit_by old.authorises r old.blueprint.value.defs) c.get.ensures) in
     ok_same c.moves.result _ _
     (λ next h. (c.moves.ensures.same.visit ∙ c.first_stage.ensures.same.visit ∙ visit, c.moves.ensures.same.moment ∙ c.first_stage.ensures.same.moment))
     c.moves.ensures.next
@@ -78,7 +80,7 @@ returns-clause-most g c =
     let names = names_of c.args.natives.now in
     let old = c.args.self.now in
     let bp = old.blueprint.value in
-    let visit = visit_is names old c.args.request c.enter.new.self c.requires (c.in-Ok.ensures bp.defs c.requires.0.routes) in
+    let visit = visit_is names old c.args.request c.enter.new.self c.requires (c.in-Ok.ensures bp.defs c.requires.0.routes ∙ ap (λ (r : Request). visit_by old.authorises r bp.defs) c.get.ensures) in
     let state = begun_state names old c.serve.new.self (λ (b : Edition). serving c.args.request c.args.moment b) c.requires.1 (c.serve.ensures ∙ ap (λ (h : HostState). serving c.args.request c.args.moment h.blueprint) c.host_mut.ensures.value) in
     let between : Interp = record old {
       settling = record old.settling { run = record { engine = record old.settling.run.engine { host = c.serve.new.self } }; questions = 1800000 };

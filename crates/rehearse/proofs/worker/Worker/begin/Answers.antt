@@ -1,5 +1,6 @@
-use Rattle.std.proofs.Common.{false, refl}
+use Rattle.std.proofs.Common.{◌∙◌, false, refl, ap}
 use Rattle.natives.specs.Names.{names_of}
+use Rattle.serving.specs.Connections.{asks_close, is_head_only}
 use Rattle.rehearse.specs.declared.worker.UnderWay.{UnderWay}
 use Rattle.rehearse.specs.declared.worker.Task.TheVariants as tasks
 use Rattle.rehearse.specs.declared.worker.Worker.{Worker}
@@ -14,7 +15,7 @@ returns-clause-begun g c = rw c.turn_to.ensures
       serving,
       refl,
       begun_serves (names_of c.args.natives.now) (setting_of (names_of c.args.natives.now) c.args.setting.now) c.args.objects.now c.args.request serving c.in_ok-interp.interp
-          c.in_ok-interp.ensures.is_new.1 c.begin_request-run.ensures refl c.asks_close-asks_close.ensures c.is_head_only-head_only.ensures refl,
+          c.in_ok-interp.ensures.is_new.1 c.begin_request-run.ensures refl (c.asks_close-asks_close.ensures ∙ ap asks_close c.get-asked.ensures) (c.is_head_only-head_only.ensures ∙ ap is_head_only c.get-asked.ensures) refl,
     ))
 
 pub returns-clause-ready : goal.returns-clause-ready
@@ -25,4 +26,4 @@ returns-clause-ready g c = rw c.turn_to.ensures
     begun_ready (names_of c.args.natives.now) c.args.objects.now.blueprint after c.args.connection serving request request c.in_ok-interp.interp
     c.requires.ready.0.0 c.in_ok-interp.ensures.none refl c.requires.ready.1 c.begin_request-run.ensures c.in_ok-interp.ensures.is_new.2 refl
     (begun_serves (names_of c.args.natives.now) (setting_of (names_of c.args.natives.now) c.args.setting.now) c.args.objects.now c.args.request serving c.in_ok-interp.interp
-    c.in_ok-interp.ensures.is_new.1 c.begin_request-run.ensures refl c.asks_close-asks_close.ensures c.is_head_only-head_only.ensures refl))
+    c.in_ok-interp.ensures.is_new.1 c.begin_request-run.ensures refl (c.asks_close-asks_close.ensures ∙ ap asks_close c.get-asked.ensures) (c.is_head_only-head_only.ensures ∙ ap is_head_only c.get-asked.ensures) refl))

@@ -1,4 +1,4 @@
-use Rattle.std.proofs.Common.{◌≡◌, ◌∷◌, [], Some, List, ℕ, ◌∙◌, ap, subst}
+use Rattle.std.proofs.Common.{◌≡◌, ◌∷◌, [], Some, List, ℕ, ◌∙◌, ap, subst, sym}
 use Rattle.http_resp.specs.ResponseBytes.{response_bytes}
 use Rattle.rehearse.specs.declared.listing.Listing.{Listing}
 use Rattle.rehearse.specs.Lines.{response}
@@ -14,7 +14,8 @@ told_as before after number epoch other status bytes others epoch_is bytes_are h
 
 pub returns : goal.returns
 returns c =
-    on_ok c.push_response.result
-    (told_as c.args.listing.now c.push_response.new.self c.args.self.now.number c.epoch-epoch.result _ c.args.reply.now.status c.bytes.result.now _ c.epoch-epoch.ensures
-    (c.bytes.ensures ∙ c.in_ok-bytes.ensures ∙ ap (response_bytes c.args.reply.now c.args.serving.now.moment c.args.serving.now.head_only) c.closes-closes.ensures))
-    c.push_response.ensures
+    rw (sym c.get-given.ensures)
+    (on_ok c.push_response.result
+    (told_as c.args.listing.now c.push_response.new.self c.args.self.now.number c.epoch-epoch.result _ c.get-given.result.now.status c.bytes.result.now _ c.epoch-epoch.ensures
+    (c.bytes.ensures ∙ c.in_ok-bytes.ensures ∙ ap (response_bytes c.get-given.result.now c.args.serving.now.moment c.args.serving.now.head_only) c.closes-closes.ensures))
+    c.push_response.ensures)
