@@ -3,6 +3,7 @@ use Rattle.std.proofs.Common.{◌≡◌, ◌≤◌, ◌==◌, ◌%◌, ℕ, zero
 use Rattle.std.specs.Prelude.{codes, decimal, bytes_eq, ◌||◌}
 use Rattle.std.specs.Int.{div_ceil}
 use Rattle.std.proofs.lemmas.Bool.{lt-ltb}
+use Rattle.txt_core.specs.Limits.{is_long}
 use Rattle.txt_core.specs.Names.{Names}
 use Rattle.txt_core.specs.Lists.{Listing, elements, bad_at}
 use Rattle.txt_core.specs.Listing as lists
@@ -36,6 +37,8 @@ use Rattle.tcl_varcmd.specs.Answers.{Came, gives as gives_text, fails as fails_w
 use Rattle.tcl_varcmd.specs.Commands.{begins_var_command, var_came}
 use Rattle.tcl_eval.specs.declared.branch.Turning.{Turning}
 use Rattle.tcl_eval.specs.declared.branch.Branches.{Branches}
+use Rattle.tcl_eval.specs.declared.loops.Flow.{Flow}
+use Rattle.tcl_eval.specs.declared.loops.Flow.TheVariants.{On, Ends}
 use Rattle.tcl_eval.specs.declared.operation.Way.{Way}
 use Rattle.tcl_eval.specs.declared.operation.Way.TheVariants.{Both, IfTrue, IfFalse}
 use Rattle.tcl_eval.specs.declared.parameter.Parameter.{Parameter}
@@ -48,7 +51,7 @@ use Rattle.tcl_eval.specs.Natives.{is_in_range, replied, call_native}
 use Rattle.tcl_eval.specs.State.{State, Leaf, says, wants, defines, stores, not_mine, Onward, goes, enters, TextEnd, LeafTable, Given, Out, spent, Rest, Next}
 use Rattle.tcl_eval.specs.Messages.{script_fault, variable_fault, too_long, no_boolean, bad_expression, no_list, bad_value, unknown_command, no_command, command_exists}
 use Rattle.tcl_eval.specs.Costs.{result_cost, command_cost, answer_cost}
-use Rattle.tcl_eval.specs.Results.{most_bytes, error_of, wrong_words_end, element_name, read_as, stored, stored_of, return_of, raised_of, break_of, continue_of}
+use Rattle.tcl_eval.specs.Results.{error_of, wrong_words_end, element_name, read_as, stored, stored_of, return_of, raised_of, break_of, continue_of}
 use Rattle.tcl_eval.specs.Parameters.{Values, parameters, bound}
 use Rattle.tcl_eval.specs.Words.{arg, joined}
 use Rattle.tcl_eval.specs.Going.{Source, unread, read, Inner, on_ok, pay, give, fails, limited, charged, command_end, word_end, with_host, with_frames, with_made, with_def, read_variable, write_variable, proc_end, write_all, decided, by_truth}
@@ -57,7 +60,7 @@ use Rattle.tcl_eval.specs.Commands.{rename_of, proc_of, call_bound, define_proc,
 use Rattle.tcl_eval.specs.Expressions.{with_one, with_two, way_of, behind_left, run_expression, run_answer, evaluate, test, value_end, do_expr}
 use Rattle.tcl_eval.specs.Evaluations.{evaluation_next}
 use Rattle.tcl_eval.specs.Branches.{run_body, choose, choose_of, from_condition}
-use Rattle.tcl_eval.specs.Loops.{assigned, in_loop, between, turn_body, turns, turn_on, do_while, do_for, walk_on, over_values, over_names, do_foreach}
+use Rattle.tcl_eval.specs.Loops.{assigned, flow_of, by_flow, in_loop, between, turn_body, turns, turn_on, do_while, do_for, walk_on, over_values, over_names, do_foreach}
 use Rattle.tcl_eval.specs.Switch.{options, body_for, by_pairs, by_listing, by_words, by_options}
 use Rattle.tcl_eval.specs.Info.{info_said, do_info}
 use Rattle.tcl_eval.specs.Eval.{verb_of, set_or_fails, set_global, make, define, is_for_host, resumed, leaf, onward, built_in, built, run_command, act, command, run_words, run_commands, run_reading, run_script, nested}
@@ -102,15 +105,15 @@ module _ {H : Type 0} where
   charged_after m k k' h code result = pay_alike (result_cost result) m (k code result) (k' code result) (h code result)
 
   limited_after : (m : ℕ) (k k' : Next H) → After m k k' → After m (limited k) (limited k')
-  limited_after m k k' h code result = choice (nat_lt most_bytes (length result)) m (k 1 too_long) (k code result) (k' 1 too_long) (k' code result) (h 1 too_long) (h code result)
+  limited_after m k k' h code result = choice (is_long result) m (k 1 too_long) (k code result) (k' 1 too_long) (k' code result) (h 1 too_long) (h code result)
 
   command_end_after : (m : ℕ) (k k' : Next H) → After m k k' → After m (command_end k) (command_end k')
   command_end_after m k k' h = limited_after m (charged k) (charged k') (charged_after m k k' h)
 
   pub word_end_after : (go go' : List ℕ → Rest H) (m : ℕ) (k k' : Next H) → ((v : List ℕ) → Alike m (go v) (go' v)) → After m k k' → After m (word_end go k) (word_end go' k')
   word_end_after go go' m k k' on h =
-      on_ok_after (λ v. cond (nat_lt most_bytes (length v)) (k 1 too_long) (go v)) (λ v. cond (nat_lt most_bytes (length v)) (k' 1 too_long) (go' v)) m k k'
-      (λ v. choice (nat_lt most_bytes (length v)) m (k 1 too_long) (go v) (k' 1 too_long) (go' v) (h 1 too_long) (on v)) h
+      on_ok_after (λ v. cond (is_long v) (k 1 too_long) (go v)) (λ v. cond (is_long v) (k' 1 too_long) (go' v)) m k k'
+      (λ v. choice (is_long v) m (k 1 too_long) (go v) (k' 1 too_long) (go' v) (h 1 too_long) (on v)) h
 
   read_variable_alike : (name : List ℕ) (m : ℕ) (k k' : Next H) → After m k k' → Alike m (read_variable name k) (read_variable name k')
   read_variable_alike name m k k' h s b g le = give_alike (read_as s.frames name) m k k' h s b g le
@@ -176,13 +179,12 @@ module _ {H : Type 0} where
   catch_end_after None m k k' h code result = h 0 (decimal code)
   catch_end_after (Some name) m k k' h code result = write_variable_alike name result (decimal code) m k k' h
 
+  by_flow_alike : (flow : Flow) (go go' : Rest H) (m : ℕ) (k k' : Next H) → Alike m go go' → After m k k' → Alike m (by_flow flow go k) (by_flow flow go' k')
+  by_flow_alike On go go' m k k' on h = on
+  by_flow_alike (Ends value) go go' m k k' on h = give_alike value m k k' h
+
   in_loop_after : (go go' : Rest H) (m : ℕ) (k k' : Next H) → Alike m go go' → After m k k' → After m (in_loop go k) (in_loop go' k')
-  in_loop_after go go' m k k' on h zero result = on
-  in_loop_after go go' m k k' on h (suc zero) result = h 1 result
-  in_loop_after go go' m k k' on h (suc (suc zero)) result = h 2 result
-  in_loop_after go go' m k k' on h (suc (suc (suc zero))) result = h 0 []
-  in_loop_after go go' m k k' on h (suc (suc (suc (suc zero)))) result = on
-  in_loop_after go go' m k k' on h (suc (suc (suc (suc (suc code))))) result = h (suc (suc (suc (suc (suc code))))) result
+  in_loop_after go go' m k k' on h code result = by_flow_alike (flow_of code result) go go' m k k' on h
 
   behind_left_alike : (way : Way) (left : List ℕ) (right right' : Rest H) (m : ℕ) (k k' : Next H) → Alike m right right' → After m k k' → Alike m (behind_left way left right k) (behind_left way left right' k')
   behind_left_alike Both left right right' m k k' on h = on
@@ -414,7 +416,7 @@ module _ {H : Type 0} (t : LeafTable H) (inner : Inner H) (run : Runs inner) whe
 
   set_global_alike : (name value : List ℕ) (m : ℕ) (k k' : Next H) → After m k k' → Alike m (set_global name value k) (set_global name value k')
   set_global_alike name value m k k' h =
-      choice (nat_lt most_bytes (length value)) m (k 1 too_long) _ (k' 1 too_long) _ (h 1 too_long)
+      choice (is_long value) m (k 1 too_long) _ (k' 1 too_long) _ (h 1 too_long)
       (λ s b g le. set_or_fails_alike (global_fault s.frames name) name value m k k' h s b g le)
 
   make_alike : (def : Def) (m : ℕ) (k k' : Next H) → After m k k' → Alike m (make def k) (make def k')

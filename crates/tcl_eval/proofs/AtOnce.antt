@@ -14,7 +14,7 @@ use Rattle.tcl_eval.specs.Going.{decided}
 use Rattle.tcl_eval.specs.Eval.{give, on_ok, by_truth, nested}
 use Rattle.tcl_eval.specs.Expressions.{way_of, with_one, with_two, behind_left, run_expression}
 use Rattle.tcl_eval.specs.Kept.{grown, kept_value, run_kept}
-use Rattle.tcl_eval.specs.AtOnce.{on_code, on_value, on_truth, rest_of_word, right_at_once, left_at_once, at_once}
+use Rattle.tcl_eval.specs.AtOnce.{on_code, on_value, on_truth, rest_of_word, right_at_once, left_alone, or_else, left_at_once, at_once}
 use Rattle.tcl_eval.specs.declared.gather.SoFar.{SoFar}
 use Rattle.tcl_eval.specs.declared.gather.SoFar.TheVariants.{Kept}
 use Rattle.tcl_eval.specs.declared.stack.Ended.{Ended}
@@ -67,17 +67,45 @@ module _ {H : Type 0} (s : State H) (b : ℕ) (g : Given) where
       value_gives found (λ value. Some (with_two op left value)) way (λ value. give (with_two op left value) k) k w h
       (λ r is. made_gives (with_two op left r) w k is) e
 
+  -- the left operand decides, or has no truth
+  pub left_ends : (way : Way) (left : List ℕ) (right : Rest H) (k : Next H) (w : Ended) → left_alone way left ≡ Some w → give w k s b g ≡ behind_left way left right k s b g
+  left_ends Both left right k w e = absurd (cc)
+  left_ends IfTrue left right k w e =
+      truth_gives (truth left) left None (Some (ended 0 (codes "0"))) right (k 0 (codes "0")) k w
+      (λ is. absurd (cc)) (λ is. made_gives (ended 0 (codes "0")) w k is) e
+  left_ends IfFalse left right k w e =
+      truth_gives (truth left) left (Some (ended 0 (codes "1"))) None (k 0 (codes "1")) right k w
+      (λ is. made_gives (ended 0 (codes "1")) w k is) (λ is. absurd (cc)) e
+
+  if_true : (o : Option Bool) (left : List ℕ) (v : Ended) (right other : Rest H) (k : Next H) → on_truth o left None (Some v) ≡ None → right s b g ≡ decided o left right other k s b g
+  if_true None left v right other k e = absurd (cc)
+  if_true (Some true) left v right other k e = refl
+  if_true (Some false) left v right other k e = absurd (cc)
+
+  if_false : (o : Option Bool) (left : List ℕ) (v : Ended) (right other : Rest H) (k : Next H) → on_truth o left (Some v) None ≡ None → right s b g ≡ decided o left other right k s b g
+  if_false None left v right other k e = absurd (cc)
+  if_false (Some true) left v right other k e = absurd (cc)
+  if_false (Some false) left v right other k e = refl
+
+  -- the right operand is evaluated
+  pub left_goes : (way : Way) (left : List ℕ) (right : Rest H) (k : Next H) → left_alone way left ≡ None → right s b g ≡ behind_left way left right k s b g
+  left_goes Both left right k e = refl
+  left_goes IfTrue left right k e = if_true (truth left) left (ended 0 (codes "0")) right (k 0 (codes "0")) k e
+  left_goes IfFalse left right k e = if_false (truth left) left (ended 0 (codes "1")) right (k 0 (codes "1")) k e
+
+  else_gives : (o other : Option Ended) (way : Way) (left : List ℕ) (right : Rest H) (k : Next H) (w : Ended)
+      → left_alone way left ≡ o → (other ≡ Some w → give w k s b g ≡ right s b g)
+      → or_else o other ≡ Some w → give w k s b g ≡ behind_left way left right k s b g
+  else_gives None other way left right k w is h e = h e ∙ left_goes way left right k is
+  else_gives (Some v) other way left right k w is h e = left_ends way left right k w (is ∙ e)
+
   left_gives : (lazy : Way) (op : Op) (left : List ℕ) (found : Option Ended) (way : Next H → Rest H) (k : Next H) (w : Ended)
       → ((v : Ended) (k' : Next H) → found ≡ Some v → give v k' s b g ≡ way k' s b g)
       → left_at_once lazy op left found ≡ Some w
       → give w k s b g ≡ behind_left lazy left (way (on_ok (λ value. give (with_two op left value) k) k)) k s b g
-  left_gives Both op left found way k w h e = right_gives op left found way k w h e
-  left_gives IfTrue op left found way k w h e =
-      truth_gives (truth left) left (right_at_once op left found) (Some (ended 0 (codes "0"))) (way (on_ok (λ value. give (with_two op left value) k) k)) (k 0 (codes "0")) k w
-      (λ is. right_gives op left found way k w h is) (λ is. made_gives (ended 0 (codes "0")) w k is) e
-  left_gives IfFalse op left found way k w h e =
-      truth_gives (truth left) left (Some (ended 0 (codes "1"))) (right_at_once op left found) (k 0 (codes "1")) (way (on_ok (λ value. give (with_two op left value) k) k)) k w
-      (λ is. made_gives (ended 0 (codes "1")) w k is) (λ is. right_gives op left found way k w h is) e
+  left_gives lazy op left found way k w h e =
+      else_gives (left_alone lazy left) (right_at_once op left found) lazy left (way (on_ok (λ value. give (with_two op left value) k) k)) k w
+      refl (λ is. right_gives op left found way k w h is) e
 
 module _ {H : Type 0} (ns : Names) (t : LeafTable H) (levels : ℕ) (s : State H) (b : ℕ) (g : Given) where
   -- a word of which this is kept

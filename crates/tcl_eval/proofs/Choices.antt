@@ -1,26 +1,23 @@
 -- An `if` that comes to a value straight away.
-use Rattle.std.proofs.Common.{◌≡◌, ◌≤◌, ℕ, suc, ◌-◌, List, [], Bool, true, false, cond, refl, sym, ap, ◌∙◌, subst, arith}
+use Rattle.std.proofs.Common.{◌≡◌, ◌≤◌, ℕ, suc, ◌-◌, List, [], Bool, cond, refl, sym, ap, ◌∙◌, subst, arith}
 use Rattle.std.proofs.lemmas.Bool.{le-ltb}
 use Rattle.txt_core.specs.Names.{Names}
 use Rattle.tcl_parse.specs.Tree.{Words, no_words, word, Commands, no_commands, command}
 use Rattle.tcl_eval.specs.State.{State, LeafTable, Given, Out, Rest, Next, spent}
 use Rattle.tcl_eval.specs.Eval.{Inner, act, arg, built_in, command_cost, command_end, do_if, give, nested, on_ok, run_commands, run_words, verb_of}
-use Rattle.tcl_eval.specs.Choices.{CameTo, IsIf, PaidAlone}
-use Rattle.tcl_eval.specs.Places.{HasCommand, command_at, words_size}
-use Rattle.tcl_eval.specs.Straight.{Alike, tried_next}
+use Rattle.tcl_eval.specs.Choices.{CameTo, PaidAlone}
+use Rattle.tcl_eval.specs.Places.{command_at, words_size}
+use Rattle.tcl_eval.specs.Straight.{Alike, CallsVerb, tried_next}
 use Rattle.tcl_eval.specs.Engine.{state_of}
 use Rattle.tcl_eval.specs.declared.engine.Engine.{Engine}
 use Rattle.tcl_eval.specs.declared.stack.Ended.{Ended}
 use Rattle.tcl_eval.specs.declared.straight.Tried.{Tried}
-use Rattle.tcl_eval.specs.declared.choice.Once.{Once}
-use Rattle.tcl_eval.specs.declared.choice.Once.TheVariants as once
+use Rattle.tcl_eval.specs.declared.stack.Once.{Once}
+use Rattle.tcl_eval.specs.declared.stack.Once.TheVariants as once
 use Rattle.tcl_eval.specs.declared.verb.Verb.{Verb}
+use Rattle.tcl_eval.specs.declared.verb.Verb.TheVariants.{If}
 use Rattle.tcl_eval.proofs.Commands.{end_built, own_act}
 use Rattle.tcl_eval.proofs.Steps.{handed_on}
-
--- a script of a first command and no second one
-pub one_only : (cs : Commands) → HasCommand true 0 cs → HasCommand false 1 cs → cs ≡ command (command_at 0 cs) no_commands
-one_only cs here none = here ∙ ap (λ (c : Commands). command (command_at 0 cs) c) none
 
 -- no words are left that there is nothing to go over of
 pub none_sized : (ws : Words) → words_size ws ≤ 0 → ws ≡ no_words
@@ -66,7 +63,7 @@ module _ {H : Type 0} (ns : Names) (t : LeafTable H) where
   one_runs inner cs k s b g x is e = e ∙ sym (ap (λ (c : Commands). run_commands ns t inner c [] k s b g) is)
 
   -- an `if` is paid for
-  pub if_paid : (inner : Inner H) (words : List (List ℕ)) (ws : Words) (k : Next H) (s : State H) (b cost : ℕ) (g : Given) (x : Out H) → IsIf ns s.commands words → cost ≡ command_cost words → cost ≤ b → ws ≡ no_words → x ≡ do_if inner words (command_end k) s (b - cost) g → x ≡ run_words ns t inner ws words k s b g
+  pub if_paid : (inner : Inner H) (words : List (List ℕ)) (ws : Words) (k : Next H) (s : State H) (b cost : ℕ) (g : Given) (x : Out H) → CallsVerb If ns s.commands words → cost ≡ command_cost words → cost ≤ b → ws ≡ no_words → x ≡ do_if inner words (command_end k) s (b - cost) g → x ≡ run_words ns t inner ws words k s b g
   if_paid inner words ws k s b cost g x called costs le done e =
       let after = command_end k in
       let less = b - command_cost words in
@@ -74,8 +71,8 @@ module _ {H : Type 0} (ns : Names) (t : LeafTable H) where
       let left : b - cost ≡ less = omega (arith, costs, le) in
       e
       ∙ ap (λ (n : ℕ). do_if inner words after s n g) left
-      ∙ sym (ap (λ (v : Verb). built_in ns t inner v words after s less g) called.3)
-      ∙ own_act ns t inner words after s less g (built_in ns t inner (verb_of (arg words 0)) words after s less g) called.0 (end_built ns t inner words after s less g (built_in ns t inner (verb_of (arg words 0)) words after s less g) called.1 called.2 refl)
+      ∙ sym (ap (λ (v : Verb). built_in ns t inner v words after s less g) called.1.2)
+      ∙ own_act ns t inner words after s less g (built_in ns t inner (verb_of (arg words 0)) words after s less g) called.0 (end_built ns t inner words after s less g (built_in ns t inner (verb_of (arg words 0)) words after s less g) called.1.0 called.1.1 refl)
       ∙ sym (ap (λ (c : Bool). cond c (spent s) (act ns t inner words after s less g)) (le-ltb b (command_cost words) pays))
       ∙ sym (ap (λ (w : Words). run_words ns t inner w words k s b g) done)
 

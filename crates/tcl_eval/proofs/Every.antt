@@ -4,6 +4,7 @@ use Rattle.std.specs.Prelude.{codes, decimal, bytes_eq, ◌||◌}
 use Rattle.std.specs.List.{AllByRecursion}
 use Rattle.std.specs.Int.{div_ceil}
 use Rattle.std.proofs.lemmas.Bool.{ltb-false}
+use Rattle.txt_core.specs.Limits.{most_bytes, is_long, most_nested}
 use Rattle.txt_core.specs.Names.{Names}
 use Rattle.txt_core.specs.Lists.{Listing, elements, bad_at}
 use Rattle.txt_core.specs.Listing as lists
@@ -40,6 +41,8 @@ use Rattle.tcl_eval.specs.declared.branch.Turning.{Turning}
 use Rattle.tcl_eval.specs.declared.branch.Branches.{Branches}
 use Rattle.tcl_eval.specs.declared.branch.Branch.{Branch}
 use Rattle.tcl_eval.specs.declared.branch.Branch.TheVariants as branch
+use Rattle.tcl_eval.specs.declared.loops.Flow.{Flow}
+use Rattle.tcl_eval.specs.declared.loops.Flow.TheVariants.{On, Ends}
 use Rattle.tcl_eval.specs.declared.operation.Way.{Way}
 use Rattle.tcl_eval.specs.declared.operation.Way.TheVariants.{Both, IfTrue, IfFalse}
 use Rattle.tcl_eval.specs.declared.parameter.Parameter.{Parameter}
@@ -60,7 +63,7 @@ use Rattle.tcl_eval.specs.Natives.{is_in_range, replied, call_native}
 use Rattle.tcl_eval.specs.State.{State, TextEnd, LeafTable, Given, Out, done, spent, too_deep, Rest, Next}
 use Rattle.tcl_eval.specs.Messages.{script_fault, too_long, no_boolean, bad_expression, no_list, bad_value, unknown_command, variable_fault, no_command, command_exists}
 use Rattle.tcl_eval.specs.Costs.{evaluation_cost, result_cost}
-use Rattle.tcl_eval.specs.Results.{most_bytes, most_levels, error_of, wrong_words_end, element_name, returned, read_as, stored, stored_of, return_of, raised_of, break_of, continue_of}
+use Rattle.tcl_eval.specs.Results.{error_of, wrong_words_end, element_name, returned, read_as, stored, stored_of, return_of, raised_of, break_of, continue_of}
 use Rattle.tcl_eval.specs.Parameters.{Values, parameters, bound}
 use Rattle.tcl_eval.specs.Words.{arg, joined}
 use Rattle.tcl_eval.specs.Going.{Source, unread, read, Inner, on_ok, pay, give, fails, limited, charged, command_end, word_end, with_host, with_frames, with_made, with_def, read_variable, write_variable, proc_end, write_all, decided, by_truth}
@@ -68,7 +71,7 @@ use Rattle.tcl_eval.specs.Pieces.{run_part, run_parts}
 use Rattle.tcl_eval.specs.Commands.{rename_of, proc_of, call_bound, define_proc, do_proc, renamed_as, do_rename, do_eval, catch_end, do_catch, came_next}
 use Rattle.tcl_eval.specs.Expressions.{with_one, with_two, way_of, behind_left, run_expression, run_answer, evaluate, test, value_end, do_expr}
 use Rattle.tcl_eval.specs.Branches.{run_body, choose, choose_of, from_condition}
-use Rattle.tcl_eval.specs.Loops.{assigned, in_loop, between, turn_body, turns, turn_on, do_while, do_for, walk_on, over_values, over_names, do_foreach}
+use Rattle.tcl_eval.specs.Loops.{assigned, flow_of, by_flow, in_loop, between, turn_body, turns, turn_on, do_while, do_for, walk_on, over_values, over_names, do_foreach}
 use Rattle.tcl_eval.specs.Switch.{options, body_for, by_pairs, by_listing, by_words, by_options}
 use Rattle.tcl_eval.specs.Info.{info_said, do_info}
 use Rattle.tcl_eval.specs.Eval.{verb_of, is_for_host, set_or_fails, set_global, make, define, leaf, built_in, built, run_command, act, command, run_words, run_commands, run_reading, run_script, nested, eval}
@@ -170,7 +173,7 @@ module _ {H : Type 0} (P Q : State H → ℕ → Given → Out H → Type 0) (Sh
   charged_good k h code result = pay_good (result_cost result) (k code result) (h code result)
 
   limited_good : (k : Next H) → GoodNext k → GoodNext (limited k)
-  limited_good k h code result = choice (nat_lt most_bytes (length result)) (k 1 too_long) (k code result) (h 1 too_long) (h code result)
+  limited_good k h code result = choice (is_long result) (k 1 too_long) (k code result) (h 1 too_long) (h code result)
 
   command_end_good : (k : Next H) → GoodNext k → GoodNext (command_end k)
   command_end_good k h = limited_good (charged k) (charged_good k h)
@@ -180,7 +183,7 @@ module _ {H : Type 0} (P Q : State H → ℕ → Given → Out H → Type 0) (Sh
 
   word_end_good : (go : List ℕ → Rest H) (k : Next H) → ((v : List ℕ) → Short v → Good (go v)) → GoodNext k → GoodNext (word_end go k)
   word_end_good go k on h =
-      on_ok_good (λ v. cond (nat_lt most_bytes (length v)) (k 1 too_long) (go v)) k
+      on_ok_good (λ v. cond (is_long v) (k 1 too_long) (go v)) k
       (λ v. judged_good most_bytes go k v (λ le. on v (c.shortens v le)) h) h
 
   read_variable_good : (name : List ℕ) (k : Next H) → GoodNext k → Good (read_variable name k)
@@ -246,13 +249,12 @@ module _ {H : Type 0} (P Q : State H → ℕ → Given → Out H → Type 0) (Sh
   catch_end_good None k h code result = h 0 (decimal code)
   catch_end_good (Some name) k h code result = write_variable_good name result (decimal code) k h
 
+  by_flow_good : (flow : Flow) (go : Rest H) (k : Next H) → Good go → GoodNext k → Good (by_flow flow go k)
+  by_flow_good On go k on h = on
+  by_flow_good (Ends value) go k on h = give_good value k h
+
   in_loop_good : (go : Rest H) (k : Next H) → Good go → GoodNext k → GoodNext (in_loop go k)
-  in_loop_good go k on h zero result = on
-  in_loop_good go k on h (suc zero) result = h 1 result
-  in_loop_good go k on h (suc (suc zero)) result = h 2 result
-  in_loop_good go k on h (suc (suc (suc zero))) result = h 0 []
-  in_loop_good go k on h (suc (suc (suc (suc zero)))) result = on
-  in_loop_good go k on h (suc (suc (suc (suc (suc code))))) result = h (suc (suc (suc (suc (suc code))))) result
+  in_loop_good go k on h code result = by_flow_good (flow_of code result) go k on h
 
   behind_left_good : (way : Way) (left : List ℕ) (right : Rest H) (k : Next H) → Good right → GoodNext k → Good (behind_left way left right k)
   behind_left_good Both left right k on h = on
@@ -476,7 +478,7 @@ module _ {H : Type 0} (P Q : State H → ℕ → Given → Out H → Type 0) (Sh
 
   set_global_good : (name value : List ℕ) → Lists (defs.Set name value) → (k : Next H) → GoodNext k → Good (set_global name value k)
   set_global_good name value put k h =
-      choice (nat_lt most_bytes (length value)) (k 1 too_long) _ (h 1 too_long)
+      choice (is_long value) (k 1 too_long) _ (h 1 too_long)
       (λ s b g. set_or_fails_good (global_fault s.frames name) name value put k h s b g)
 
   listed_good : (def : Def) → Lists def → (k : Next H) → GoodNext k → Good (λ s. k 0 [] (with_made s def))
@@ -570,9 +572,9 @@ module _ {H : Type 0} (P Q : State H → ℕ → Given → Out H → Type 0) (Sh
   ShortWork (work.Page page) = Unit {0}
 
   pub eval_good : LeafRule → (ns : Names) (depth : ℕ) (w : Work) → ShortWork w → Good (eval ns t depth w)
-  eval_good rule ns depth (work.Script bytes) short = run_script_good rule ns (most_levels + 1 - depth) (unread bytes) done c.ends
-  eval_good rule ns depth (work.Call words) short = command_good rule ns (nested ns t (most_levels - depth)) (run_script_good rule ns (most_levels - depth)) words short done c.ends
-  eval_good rule ns depth (work.Page page) short = run_page_good (nested ns t (most_levels + 1 - depth)) (run_script_good rule ns (most_levels + 1 - depth)) page done c.ends
+  eval_good rule ns depth (work.Script bytes) short = run_script_good rule ns (most_nested + 1 - depth) (unread bytes) done c.ends
+  eval_good rule ns depth (work.Call words) short = command_good rule ns (nested ns t (most_nested - depth)) (run_script_good rule ns (most_nested - depth)) words short done c.ends
+  eval_good rule ns depth (work.Page page) short = run_page_good (nested ns t (most_nested + 1 - depth)) (run_script_good rule ns (most_nested + 1 - depth)) page done c.ends
 
   -- ---- what is suspended
 

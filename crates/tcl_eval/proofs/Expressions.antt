@@ -13,7 +13,7 @@ use Rattle.tcl_expr.specs.declared.operator.Op.{Op}
 use Rattle.tcl_expr.specs.Grammar.{Reads}
 use Rattle.tcl_expr.specs.declared.expr.Expr.{Expr}
 use Rattle.tcl_expr.specs.View.{tree_of}
-use Rattle.tcl_eval.specs.State.{State, LeafTable, Given, Out, spent, Rest, Next}
+use Rattle.tcl_eval.specs.State.{State, LeafTable, Given, Out, spent, Next}
 use Rattle.tcl_parse.specs.Tree.{Commands, Parts, bracket, no_parts, part}
 use Rattle.tcl_eval.specs.Messages.{bad_expression}
 use Rattle.tcl_eval.specs.Eval.{Inner, read, ended, error_of, give, on_ok, by_truth, nested, run_parts, run_script}
@@ -24,8 +24,6 @@ use Rattle.tcl_eval.specs.Going.{decided}
 use Rattle.tcl_eval.specs.Engine.{state_of}
 use Rattle.tcl_eval.specs.declared.engine.Engine.{Engine}
 use Rattle.tcl_eval.specs.declared.operation.Way.{Way}
-use Rattle.tcl_eval.specs.declared.operation.Way.TheVariants.{Both, IfTrue, IfFalse}
-use Rattle.std.specs.Prelude.{codes}
 use Rattle.tcl_eval.specs.Stack.{frame_next, step_next, stack_next}
 use Rattle.tcl_eval.specs.declared.stack.Ended.{Ended}
 use Rattle.tcl_eval.specs.declared.stack.Frame.{Frame}
@@ -114,23 +112,6 @@ module _ {H : Type 0} (ns : Names) (t : LeafTable H) where
   -- a step that is this value
   pub value_is : (step : Step) (value : Ended) (k : Next H) (s : State H) (b : ℕ) (g : Given) → step ≡ Value_step value → step_next ns t step k s b g ≡ give value k s b g
   value_is step value k s b g is = ap (λ (x : Step). step_next ns t x k s b g) is
-
-module _ {H : Type 0} where
-  -- the right operand is always evaluated
-  pub if_both : (way : Way) (left : List ℕ) (right : Rest H) (k : Next H) (s : State H) (b : ℕ) (g : Given) (x : Out H) → way ≡ Both → x ≡ right s b g → x ≡ behind_left way left right k s b g
-  if_both way left right k s b g x is e = e ∙ sym (ap (λ (w : Way). behind_left w left right k s b g) is)
-
-  -- only where the left one is true
-  pub if_true : (way : Way) (found : Option Bool) (left : List ℕ) (right : Rest H) (k : Next H) (s : State H) (b : ℕ) (g : Given) (x : Out H) → way ≡ IfTrue → found ≡ truth left → x ≡ decided found left right (k 0 (codes "0")) k s b g → x ≡ behind_left way left right k s b g
-  if_true way found left right k s b g x is has e =
-      e ∙ ap (λ (f : Option Bool). decided f left right (k 0 (codes "0")) k s b g) has
-      ∙ sym (ap (λ (w : Way). behind_left w left right k s b g) is)
-
-  -- only where the left one is false
-  pub if_false : (way : Way) (found : Option Bool) (left : List ℕ) (right : Rest H) (k : Next H) (s : State H) (b : ℕ) (g : Given) (x : Out H) → way ≡ IfFalse → found ≡ truth left → x ≡ decided found left (k 0 (codes "1")) right k s b g → x ≡ behind_left way left right k s b g
-  if_false way found left right k s b g x is has e =
-      e ∙ ap (λ (f : Option Bool). decided f left (k 0 (codes "1")) right k s b g) has
-      ∙ sym (ap (λ (w : Way). behind_left w left right k s b g) is)
 
 -- what is bad of a text
 pub bad_read : (text : List ℕ) (why : ExprText) (at : ℕ) → Answers text (Err why) → why ≡ Bad at → IsBad at text

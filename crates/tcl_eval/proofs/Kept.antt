@@ -1,14 +1,15 @@
 -- What is kept of words under way is enough: a word that is too long is the same error whatever its bytes are, and a command whose
 -- first words cost more than is left ends the run once its words are there.
-use Rattle.std.proofs.Common.{◌≡◌, ◌<◌, ◌≤◌, ℕ, zero, suc, ◌+◌, ◌-◌, List, [], ◌∷◌, ◌++◌, length, sum_by, Bool, true, false, cond, nat_lt, refl, sym, ap, arith, length-append}
+use Rattle.std.proofs.Common.{◌≡◌, ◌<◌, ◌≤◌, ℕ, zero, suc, ◌+◌, ◌-◌, List, [], ◌∷◌, ◌++◌, length, sum_by, Bool, true, false, cond, refl, sym, ap, arith, length-append}
 use Rattle.std.proofs.lemmas.Bool.{lt-ltb, ltb-true}
 use Rattle.std.proofs.lemmas.List.Sums.{sum_by_push}
+use Rattle.txt_core.specs.Limits.{most_bytes, is_long}
 use Rattle.txt_core.specs.Names.{Names}
 use Rattle.tcl_parse.specs.Tree.{Part, Parts, no_parts, part, Words, no_words, word}
 use Rattle.tcl_eval.specs.State.{State, LeafTable, Given, spent, Rest, Next}
 use Rattle.tcl_eval.specs.Messages.{too_long}
 use Rattle.tcl_eval.specs.Costs.{command_cost}
-use Rattle.tcl_eval.specs.Results.{most_bytes, ended}
+use Rattle.tcl_eval.specs.Results.{ended}
 use Rattle.tcl_eval.specs.Going.{Inner, on_ok, give, word_end, command_end}
 use Rattle.tcl_eval.specs.Pieces.{run_part, run_parts}
 use Rattle.tcl_eval.specs.Eval.{act, run_words}
@@ -18,7 +19,7 @@ use Rattle.tcl_eval.specs.declared.gather.SoFar.TheVariants.{Kept, TooLong}
 use Rattle.tcl_eval.proofs.Alike.{Alike, After, Runs, run_part_alike, run_parts_alike, word_end_after}
 
 -- a text that is too long stays so with more at its end
-longer : (text piece : List ℕ) → nat_lt most_bytes (length text) ≡ true → nat_lt most_bytes (length (text ++ piece)) ≡ true
+longer : (text piece : List ℕ) → is_long text ≡ true → is_long (text ++ piece) ≡ true
 longer text piece e =
     lt-ltb most_bytes (length (text ++ piece)) (omega (arith, ltb-true most_bytes (length text) e, length-append text piece))
 
@@ -46,19 +47,19 @@ module _ {H : Type 0} where
 
   -- no piece is left
   pub kept_end : (inner : Inner H) (so_far : SoFar) (k : Next H) (s : State H) (b : ℕ) (g : Given) → give (kept_value so_far) k s b g ≡ run_kept inner no_parts so_far k s b g
-  kept_end inner (Kept text) k s b g = word_value (nat_lt most_bytes (length text)) text k s b g
+  kept_end inner (Kept text) k s b g = word_value (is_long text) text k s b g
   kept_end inner TooLong k s b g = refl
 
 module _ {H : Type 0} (inner : Inner H) (run : Runs inner) where
   -- the bytes of a word that is too long don't matter
-  too_long_same : (ps : Parts) (text : List ℕ) (k : Next H) (m : ℕ) → nat_lt most_bytes (length text) ≡ true → Alike m (run_too_long inner ps k) (run_parts inner ps text (judged k))
+  too_long_same : (ps : Parts) (text : List ℕ) (k : Next H) (m : ℕ) → is_long text ≡ true → Alike m (run_too_long inner ps k) (run_parts inner ps text (judged k))
   too_long_same no_parts text k m e = λ s b g le. sym (ap (λ (c : Bool). (cond c (k 1 too_long) (k 0 text)) s b g) e)
   too_long_same (part p ps) text k m e =
       run_part_alike inner run p m (on_ok (λ v. run_too_long inner ps k) k) (on_ok (λ v. run_parts inner ps (text ++ v) (judged k)) (judged k))
       (cut_after (λ v. run_too_long inner ps k) (λ v. run_parts inner ps (text ++ v) (judged k)) m k
       (λ v. too_long_same ps (text ++ v) k m (longer text v e)))
 
-  word_kept : (ps : Parts) (text : List ℕ) (k : Next H) (m : ℕ) (c : Bool) → nat_lt most_bytes (length text) ≡ c → Alike m (run_kept inner ps (cond c TooLong (Kept text)) k) (run_parts inner ps text (judged k))
+  word_kept : (ps : Parts) (text : List ℕ) (k : Next H) (m : ℕ) (c : Bool) → is_long text ≡ c → Alike m (run_kept inner ps (cond c TooLong (Kept text)) k) (run_parts inner ps text (judged k))
   word_kept ps text k m true e = too_long_same ps text k m e
   word_kept ps text k m false e = λ s b g le. refl
 
@@ -67,7 +68,7 @@ module _ {H : Type 0} (inner : Inner H) (run : Runs inner) where
   next_kept p ps (Kept text) k s b g =
       run_part_alike inner run p b (on_ok (λ v. run_kept inner ps (kept_word (text ++ v)) k) k) (on_ok (λ v. run_parts inner ps (text ++ v) (judged k)) (judged k))
       (cut_after (λ v. run_kept inner ps (kept_word (text ++ v)) k) (λ v. run_parts inner ps (text ++ v) (judged k)) b k
-      (λ v. word_kept ps (text ++ v) k b (nat_lt most_bytes (length (text ++ v))) refl)) s b g (omega arith)
+      (λ v. word_kept ps (text ++ v) k b (is_long (text ++ v)) refl)) s b g (omega arith)
   next_kept p ps TooLong k s b g = refl
 
   -- a word is judged, and what waits for it goes on

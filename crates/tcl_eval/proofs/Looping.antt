@@ -94,11 +94,9 @@ module _ {H : Type 0} where
 
 module _ {H : Type 0} where
   -- a value has no truth
-  pub no_truth : (first second : Rest H) (k : Next H) (value error : Ended) (message bytes : List ℕ) (s : State H) (b : ℕ) (g : Given) → value.code ≡ 0 → None ≡ truth value.result → error ≡ error_of message → message ≡ no_boolean bytes → bytes ≡ value.result → give error k s b g ≡ on_ok (λ v. by_truth v first second k) k value.code value.result s b g
-  no_truth first second k value error message bytes s b g z none is says same =
+  pub no_truth : (first second : Rest H) (k : Next H) (value error : Ended) (s : State H) (b : ℕ) (g : Given) → value.code ≡ 0 → None ≡ truth value.result → error ≡ error_of (no_boolean value.result) → give error k s b g ≡ on_ok (λ v. by_truth v first second k) k value.code value.result s b g
+  no_truth first second k value error s b g z none is =
       ap (λ (v : Ended). give v k s b g) is
-      ∙ ap (λ (m : List ℕ). give (error_of m) k s b g) says
-      ∙ ap (λ (n : List ℕ). give (error_of (no_boolean n)) k s b g) same
       ∙ ap (λ (o : Option Bool). decided o value.result first second k s b g) none
       ∙ good_code (λ v. by_truth v first second k) k value s b g z
 

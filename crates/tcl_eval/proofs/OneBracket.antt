@@ -1,31 +1,30 @@
 -- What a word comes to that is one bracket of one command.
 use Rattle.std.proofs.Common.{◌≡◌, ◌≤◌, ℕ, zero, suc, ◌+◌, true, false, List, [], ◌∷◌, ◌++◌, length, map, get_or, refl, sym, ap, ◌∙◌, subst, arith}
 use Rattle.txt_core.specs.Names.{Names}
-use Rattle.tcl_parse.specs.Tree.{Part, bracket, Parts, no_parts, part, parts, Words, Commands, command}
+use Rattle.tcl_parse.specs.Tree.{Part, Parts, no_parts, part, parts, Words, Commands, no_commands, command}
 use Rattle.tcl_parse.specs.View.{part_of}
 use Rattle.tcl_parse.specs.declared.tree.Piece.{Piece}
-use Rattle.tcl_eval.specs.State.{State, LeafTable, Given, Out, Rest, Next}
+use Rattle.tcl_eval.specs.State.{State, LeafTable, Given, Rest, Next}
 use Rattle.tcl_eval.specs.Eval.{Inner, give, nested, on_ok, run_parts, run_words}
 use Rattle.tcl_eval.specs.Kept.{judged}
 use Rattle.tcl_eval.specs.Places.{command_at, words_from, words_size, HasCommand}
 use Rattle.tcl_eval.specs.Straight.{Alike, IsDone, LeftAlone}
-use Rattle.tcl_eval.specs.Brackets.{LeavesAsSaid, IsWordAt, bracket_of, bracket_value, bracketed_next}
+use Rattle.tcl_eval.specs.Brackets.{LeavesAsSaid, IsWordAt, bracket_value, bracketed_next}
 use Rattle.tcl_eval.specs.Engine.{state_of}
 use Rattle.tcl_eval.specs.declared.gather.SoFar.TheVariants.{Kept}
 use Rattle.tcl_eval.specs.declared.engine.Engine.{Engine}
 use Rattle.tcl_eval.specs.declared.stack.Ended.{Ended}
 use Rattle.tcl_eval.specs.declared.straight.Tried.{Tried}
 use Rattle.tcl_eval.specs.declared.straight.Tried.TheVariants as tried
-use Rattle.tcl_eval.specs.declared.bracket.Bracketed.{Bracketed}
+use Rattle.tcl_eval.specs.declared.stack.Once.{Once}
 use Rattle.tcl_eval.specs.declared.bracket.Passed.{Passed}
 use Rattle.tcl_eval.specs.declared.bracket.Passed.TheVariants as passed
 use Rattle.tcl_eval.proofs.Alike.{run_script_alike}
 use Rattle.tcl_eval.proofs.Kept.{kept_end, judged_word}
 
--- a script has one command
-pub one_command_of : (cs : Commands) (p : Part) → p ≡ bracket cs → HasCommand true 0 cs → HasCommand false 1 cs → p ≡ bracket_of (command_at 0 cs)
-one_command_of cs p is here none =
-    is ∙ ap (λ (c : Commands). bracket c) (here ∙ ap (λ (c : Commands). command (command_at 0 cs) c) none)
+-- a script of a first command and no second one
+pub one_only : (cs : Commands) → HasCommand true 0 cs → HasCommand false 1 cs → cs ≡ command (command_at 0 cs) no_commands
+one_only cs here none = here ∙ ap (λ (c : Commands). command (command_at 0 cs) c) none
 
 -- behind fewer words less is left
 pub less_more : (what : Passed) (left mid before : Words) → words_size mid ≤ words_size before → LeavesAsSaid what left mid → LeavesAsSaid what left before
@@ -56,9 +55,9 @@ module _ {H : Type 0} where
   pub left_alone : (new old : Engine H) (way : Next H → Rest H) (k : Next H) (g : Given) → new ≡ old → way k (state_of new) new.budget g ≡ way k (state_of old) old.budget g
   left_alone new old way k g same = ap (λ (e : Engine H). way k (state_of e) e.budget g) same
 
-  -- what comes behind the command of a bracket that is a word
+  -- what comes behind the script of a bracket that is a word
   abbrev pub behind_bracket : Next H → Next H
-  behind_bracket k = on_ok (λ v. on_ok (λ w. judged k 0 w) (judged k) 0 v) (on_ok (λ w. judged k 0 w) (judged k))
+  behind_bracket k = on_ok (λ v. judged k 0 v) (judged k)
 
   bracket_gives : (inner : Inner H) (code : ℕ) (result : List ℕ) (k : Next H) (s : State H) (b : ℕ) (g : Given) → give (bracket_value code result) k s b g ≡ behind_bracket k code result s b g
   bracket_gives inner zero result k s b g = kept_end inner (Kept result) k s b g
@@ -70,12 +69,8 @@ module _ {H : Type 0} where
       ap (λ (v : Ended). give v k s b g) is ∙ bracket_gives inner value.code value.result k s b g
 
 module _ {H : Type 0} (ns : Names) (t : LeafTable H) where
-  -- a bracket of one command runs that command
-  pub bracket_runs : (levels : ℕ) (ws : Words) (k : Next H) (s : State H) (b : ℕ) (g : Given) (x : Out H) → x ≡ run_words ns t (nested ns t levels) ws [] (behind_bracket k) s b g → x ≡ run_parts (nested ns t (suc levels)) (part (bracket_of ws) no_parts) [] (judged k) s b g
-  bracket_runs levels ws k s b g x e = e
-
   -- this is the bracket, and these are its levels
-  pub bracket_here : (new old : Engine H) (what : Bracketed) (levels less : ℕ) (ps : Parts) (p : Part) → levels ≡ suc less → ps ≡ part p no_parts → Alike new old (bracketed_next (nested ns t (suc less)) (part p no_parts) what) (λ k. run_parts (nested ns t (suc less)) (part p no_parts) [] (judged k)) → Alike new old (bracketed_next (nested ns t levels) ps what) (λ k. run_parts (nested ns t levels) ps [] (judged k))
+  pub bracket_here : (new old : Engine H) (what : Once) (levels less : ℕ) (ps : Parts) (p : Part) → levels ≡ suc less → ps ≡ part p no_parts → Alike new old (bracketed_next (nested ns t (suc less)) (part p no_parts) what) (λ k. run_parts (nested ns t (suc less)) (part p no_parts) [] (judged k)) → Alike new old (bracketed_next (nested ns t levels) ps what) (λ k. run_parts (nested ns t levels) ps [] (judged k))
   bracket_here new old what levels less ps p l is did =
       let way : ℕ → Parts → Type 0 = λ n x. Alike new old (bracketed_next (nested ns t n) x what) (λ k. run_parts (nested ns t n) x [] (judged k)) in
       subst (λ (n : ℕ). way n ps) (sym l) (subst (λ (x : Parts). way (suc less) x) (sym is) did)

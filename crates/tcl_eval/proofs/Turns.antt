@@ -1,5 +1,5 @@
 -- What loops come to.
-use Rattle.std.proofs.Common.{◌≡◌, ◌≢◌, ℕ, zero, suc, ◌+◌, ◌-◌, ◌≤◌, List, [], ◌∷◌, ◌++◌, drop, length, Bool, cond, Option, Some, None, min, refl, sym, ap, ◌∙◌, arith}
+use Rattle.std.proofs.Common.{◌≡◌, ◌≢◌, ℕ, suc, ◌+◌, ◌-◌, ◌≤◌, List, [], ◌∷◌, ◌++◌, drop, length, Bool, cond, Option, Some, None, min, refl, sym, ap, ◌∙◌, arith}
 use Rattle.std.proofs.lemmas.List.{drop-drop}
 use Rattle.std.specs.Int.{div_ceil}
 use Rattle.std.proofs.lemmas.Bool.{le-ltb, eq-eqb}
@@ -10,11 +10,11 @@ use Rattle.tcl_eval.specs.State.{State, LeafTable, Given, Out, Rest, Next, spent
 use Rattle.tcl_eval.specs.Eval.{Inner, unread, nested, on_ok, by_truth, give, wrong_words_end, arg, fails}
 use Rattle.tcl_eval.specs.Expressions.{evaluate}
 use Rattle.tcl_eval.specs.Messages.{no_list}
-use Rattle.tcl_eval.specs.Loops.{in_loop, between, turns, turn_body, turn_on, do_while, do_for, walk_on, walk_all, over_values, over_names, do_foreach}
-use Rattle.tcl_eval.specs.LoopsSeen.{flow_of}
+use Rattle.tcl_eval.specs.Loops.{flow_of, by_flow, in_loop, between, turns, turn_body, turn_on, do_while, do_for, walk_on, walk_all, over_values, over_names, do_foreach}
 use Rattle.tcl_eval.specs.Stack.{stack_next}
 use Rattle.tcl_eval.specs.Engine.{state_of}
 use Rattle.tcl_eval.specs.declared.engine.Engine.{Engine}
+use Rattle.tcl_eval.specs.declared.loops.Flow.{Flow}
 use Rattle.tcl_eval.specs.declared.loops.Flow.TheVariants.{On}
 use Rattle.tcl_eval.specs.declared.branch.Turning.{Turning}
 use Rattle.tcl_eval.specs.declared.branch.Walk.{Walk}
@@ -27,12 +27,7 @@ use Rattle.tcl_eval.proofs.Branches.{dropped}
 module _ {H : Type 0} where
   -- a part of a loop ended, and the loop goes on
   pub loop_on : (code : ℕ) (result : List ℕ) (go : Rest H) (k : Next H) (s : State H) (b : ℕ) (g : Given) → On ≡ flow_of code result → go s b g ≡ in_loop go k code result s b g
-  loop_on zero result go k s b g e = refl
-  loop_on (suc zero) result go k s b g e = absurd (cc)
-  loop_on (suc (suc zero)) result go k s b g e = absurd (cc)
-  loop_on (suc (suc (suc zero))) result go k s b g e = absurd (cc)
-  loop_on (suc (suc (suc (suc zero)))) result go k s b g e = refl
-  loop_on (suc (suc (suc (suc (suc code))))) result go k s b g e = absurd (cc)
+  loop_on code result go k s b g e = ap (λ (f : Flow). by_flow f go k s b g) e
 
 module _ {H : Type 0} (ns : Names) (t : LeafTable H) where
   -- a turn begins with the condition of its loop

@@ -1,7 +1,7 @@
 -- What comes at once behind a value.
-use Rattle.std.proofs.Common.{◌≡◌, ◌≢◌, ◌≤◌, ℕ, zero, suc, List, [], length, Bool, true, false, Option, None, Some, Ok, cond, refl, sym, ap, ◌∙◌}
-use Rattle.std.proofs.lemmas.Bool.{le-ltb}
+use Rattle.std.proofs.Common.{◌≡◌, ◌≢◌, ℕ, zero, suc, List, [], Bool, true, false, Option, None, Some, Ok, cond, refl, ap, ◌∙◌}
 use Rattle.std.specs.Prelude.{IfSome, MatchOption}
+use Rattle.txt_core.specs.Limits.{is_long}
 use Rattle.txt_core.specs.Number.{number}
 use Rattle.txt_core.specs.Truth.{truth, truth_text}
 use Rattle.tcl_parse.specs.Tree.{text, variable, no_parts, part}
@@ -12,7 +12,7 @@ use Rattle.tcl_expr.specs.declared.operator.Op.{Op}
 use Rattle.tcl_expr.specs.declared.operator.Op.TheVariants.{Minus, Plus, Invert, Not, Mul, Div, Rem, Add, Sub, Shl, Shr, Lt, Gt, Le, Ge, EqNumber, NeNumber, EqText, NeText, BitAnd, BitXor, BitOr, And, Or}
 use Rattle.tcl_frame.specs.Stack.{Stack}
 use Rattle.tcl_eval.specs.Messages.{too_long}
-use Rattle.tcl_eval.specs.Results.{most_bytes, ended, read_as}
+use Rattle.tcl_eval.specs.Results.{ended, read_as}
 use Rattle.tcl_eval.specs.Expressions.{applied, way_of, with_two}
 use Rattle.tcl_eval.specs.Kept.{grown, kept_value}
 use Rattle.tcl_eval.specs.AtOnce.{HasTruth, at_once, left_at_once, on_code, on_value, word_at_once}
@@ -35,17 +35,17 @@ good_end found v go e good =
     ap (λ (o : Option Ended). on_value o go) e ∙ ap (λ (n : ℕ). on_code n v.result go) good
 
 -- a variable alone is a word
-pub variable_at_once : (frames : Stack) (name value : List ℕ) → read_as frames name ≡ ended 0 value → length value ≤ most_bytes → word_at_once frames (part (variable name) no_parts) ≡ Some (ended 0 value)
+pub variable_at_once : (frames : Stack) (name value : List ℕ) → read_as frames name ≡ ended 0 value → is_long value ≡ false → word_at_once frames (part (variable name) no_parts) ≡ Some (ended 0 value)
 variable_at_once frames name value e short =
     ap (λ (v : Ended). on_value (Some v) (λ x. Some (kept_value (grown (Kept []) x)))) e
-    ∙ ap (λ (c : Bool). Some (kept_value (cond c TooLong (Kept value)))) (le-ltb most_bytes (length value) short)
-    ∙ ap (λ (c : Bool). Some (cond c (ended 1 too_long) (ended 0 value))) (le-ltb most_bytes (length value) short)
+    ∙ ap (λ (c : Bool). Some (kept_value (cond c TooLong (Kept value)))) short
+    ∙ ap (λ (c : Bool). Some (cond c (ended 1 too_long) (ended 0 value))) short
 
 -- and so are bytes alone
-pub text_at_once : (frames : Stack) (bytes : List ℕ) → length bytes ≤ most_bytes → word_at_once frames (part (text bytes) no_parts) ≡ Some (ended 0 bytes)
+pub text_at_once : (frames : Stack) (bytes : List ℕ) → is_long bytes ≡ false → word_at_once frames (part (text bytes) no_parts) ≡ Some (ended 0 bytes)
 text_at_once frames bytes short =
-    ap (λ (c : Bool). Some (kept_value (cond c TooLong (Kept bytes)))) (le-ltb most_bytes (length bytes) short)
-    ∙ ap (λ (c : Bool). Some (cond c (ended 1 too_long) (ended 0 bytes))) (le-ltb most_bytes (length bytes) short)
+    ap (λ (c : Bool). Some (kept_value (cond c TooLong (Kept bytes)))) short
+    ∙ ap (λ (c : Bool). Some (cond c (ended 1 too_long) (ended 0 bytes))) short
 
 -- what is compared is always evaluated
 both_ways : (op : Op) → is_comparison op ≡ true → way_of op ≡ Both

@@ -59,11 +59,19 @@ IsPassed value so_far (Err failed) = (failed ≡ value) × ((value.code ≡ code
 abbrev pub right_at_once : Op → Bytes → Option Ended → Option Ended
 right_at_once op left right = on_value right (λ value. Some (with_two op left value))
 
+-- what an operator comes to by its left operand alone, which has this value; nothing where the right one is evaluated
+abbrev pub left_alone : Way → Bytes → Option Ended
+left_alone Both left = None
+left_alone IfTrue left = on_truth (truth left) left None (Some (ended code_of.ok (codes "0")))
+left_alone IfFalse left = on_truth (truth left) left (Some (ended code_of.ok (codes "1"))) None
+
+abbrev pub or_else : Option Ended → Option Ended → Option Ended
+or_else None other = other
+or_else (Some value) other = Some value
+
 -- the same, where the left operand may decide
 abbrev pub left_at_once : Way → Op → Bytes → Option Ended → Option Ended
-left_at_once Both op left right = right_at_once op left right
-left_at_once IfTrue op left right = on_truth (truth left) left (right_at_once op left right) (Some (ended code_of.ok (codes "0")))
-left_at_once IfFalse op left right = on_truth (truth left) left (Some (ended code_of.ok (codes "1"))) (right_at_once op left right)
+left_at_once way op left right = or_else (left_alone way left) (right_at_once op left right)
 
 abbrev pub at_once : Stack → Tree → Option Ended
 at_once frames (trees.value bytes) = Some (ended code_of.ok bytes)

@@ -1,7 +1,7 @@
 -- Words that are one bracket of one command.
 use Rattle.std.specs.Prelude.{◌≡◌, ◌<◌, ◌≤◌, ◌+◌, ℕ, zero, suc, []}
 use Rattle.txt_core.specs.Names.{Bytes, Words, Names}
-use Rattle.tcl_parse.specs.Tree.{Part, bracket, Parts, Words as TreeWords, no_words, word, no_commands, command}
+use Rattle.tcl_parse.specs.Tree.{Parts, Words as TreeWords, no_words, word}
 use Rattle.tcl_eval.specs.State.{LeafTable, Rest, Next, spent}
 use Rattle.tcl_eval.specs.Results.{ended}
 use Rattle.tcl_eval.specs.Going.{Inner, give}
@@ -10,14 +10,10 @@ use Rattle.tcl_eval.specs.Kept.{kept_value, judged, run_costly}
 use Rattle.tcl_eval.specs.Places.{words_from, words_size}
 use Rattle.tcl_eval.specs.declared.gather.SoFar.TheVariants.{Kept}
 use Rattle.tcl_eval.specs.declared.stack.Ended.{Ended}
-use Rattle.tcl_eval.specs.declared.bracket.Bracketed.{Bracketed}
-use Rattle.tcl_eval.specs.declared.bracket.Bracketed.TheVariants as bracketed
+use Rattle.tcl_eval.specs.declared.stack.Once.{Once}
+use Rattle.tcl_eval.specs.declared.stack.Once.TheVariants as once
 use Rattle.tcl_eval.specs.declared.bracket.Passed.{Passed}
 use Rattle.tcl_eval.specs.declared.bracket.Passed.TheVariants as passed
-
--- a bracket of one command, which has these words
-abbrev pub bracket_of : TreeWords → Part
-bracket_of words = bracket (command words no_commands)
 
 -- what a word comes to that is a bracket which came to this
 abbrev pub bracket_value : ℕ → Bytes → Ended
@@ -39,10 +35,10 @@ LeavesAsSaid passed.Left left before = words_size left ≤ words_size before
 
 module _ {H : Type 0} where
   -- how a word of these parts goes on from what was done of it
-  abbrev pub bracketed_next : Inner H → Parts → Bracketed → Next H → Rest H
-  bracketed_next inner parts (bracketed.Gives value) k = give value k
-  bracketed_next inner parts bracketed.Spent k = λ state budget given. spent state
-  bracketed_next inner parts bracketed.Left k = run_parts inner parts [] (judged k)
+  abbrev pub bracketed_next : Inner H → Parts → Once → Next H → Rest H
+  bracketed_next inner parts (once.Gives value) k = give value k
+  bracketed_next inner parts once.Spent k = λ state budget given. spent state
+  bracketed_next inner parts once.Left k = run_parts inner parts [] (judged k)
 
 module _ {H : Type 0} (names : Names) (table : LeafTable H) where
   -- how a command goes on from where it stands: these words are left, and these values are there

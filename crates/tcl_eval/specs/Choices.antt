@@ -1,23 +1,11 @@
--- An `if` that comes to a value straight away.
-use Rattle.std.specs.Prelude.{◌≡◌, false}
-use Rattle.txt_core.specs.Names.{Words, Names}
-use Rattle.cmd_table.specs.Table.{Table}
-use Rattle.natives.specs.Names.{has_name}
-use Rattle.tcl_varcmd.specs.Commands.{begins_var_command}
+-- What something comes to of which nothing is put on the stack.
+use Rattle.std.specs.Prelude.{◌≡◌}
 use Rattle.tcl_eval.specs.State.{Rest, Next, spent}
-use Rattle.tcl_eval.specs.Words.{arg}
 use Rattle.tcl_eval.specs.Going.{give}
-use Rattle.tcl_eval.specs.Eval.{verb_of}
-use Rattle.tcl_eval.specs.Straight.{Alike, IsOwn}
+use Rattle.tcl_eval.specs.Straight.{Alike}
 use Rattle.tcl_eval.specs.declared.engine.Engine.{Engine}
-use Rattle.tcl_eval.specs.declared.verb.Verb.TheVariants.{If}
-use Rattle.tcl_eval.specs.declared.choice.Once.{Once}
-use Rattle.tcl_eval.specs.declared.choice.Once.TheVariants as once
-
--- these words call `if`
-abbrev pub IsIf : Names → Table → Words → Type 0
-IsIf natives commands words =
-    IsOwn commands words × (has_name natives (arg words 0) ≡ false) × (begins_var_command words ≡ false) × (verb_of (arg words 0) ≡ If)
+use Rattle.tcl_eval.specs.declared.stack.Once.{Once}
+use Rattle.tcl_eval.specs.declared.stack.Once.TheVariants as once
 
 module _ {H : Type 0} where
   -- nothing but the budget changed
@@ -29,3 +17,9 @@ module _ {H : Type 0} where
   CameTo (once.Gives value) new old way = Alike new old (give value) way
   CameTo once.Spent new old way = Alike new old (λ k state budget given. spent state) way
   CameTo once.Left new old way = PaidAlone new old
+
+  -- where it was left, the engine is as it was
+  abbrev pub AsItWas : Once → Engine H → Engine H → Type 0
+  AsItWas (once.Gives value) new old = Unit {0}
+  AsItWas once.Spent new old = Unit {0}
+  AsItWas once.Left new old = new ≡ old

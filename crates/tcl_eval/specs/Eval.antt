@@ -3,6 +3,7 @@
 -- 5, 6 and 7 leave a page.
 use Rattle.std.specs.Prelude.{Bool, true, false, not, ℕ, zero, suc, ◌+◌, ◌-◌, [], ◌∷◌, ◌++◌, length, drop, nat_lt, if◌then◌else◌, bytes_eq, codes, decimal, Option, Some, None}
 use Rattle.txt_core.specs.Names.{Bytes, Words, Names}
+use Rattle.txt_core.specs.Limits.{is_long, most_nested}
 use Rattle.outside.specs.declared.question.Question.{Question}
 use Rattle.outside.specs.declared.question.Service.{Service}
 use Rattle.outside.specs.declared.question.Service.TheVariants.{Page as Pages, Nsv, Schedule, Publish, Save, Inner as Inner_run}
@@ -29,7 +30,7 @@ use Rattle.tcl_eval.specs.declared.outcome.Work.TheVariants.{Script as script_wo
 pub use Rattle.tcl_eval.specs.Words.{arg, joined}
 use Rattle.tcl_eval.specs.Messages.{unknown_command, script_fault, variable_fault, too_long}
 pub use Rattle.tcl_eval.specs.Costs.{bytes_for_one, bytes_cost, words_cost, command_cost, result_cost, answer_cost, turn_cost, evaluation_cost}
-pub use Rattle.tcl_eval.specs.Results.{most_levels, most_bytes, element_name, ended, shortened, error_of, wrong_words_end, return_of, raised_of, break_of, continue_of, returned, result_or_fault, read_as, stored_of, written_or_same, stored}
+pub use Rattle.tcl_eval.specs.Results.{element_name, ended, shortened, error_of, wrong_words_end, return_of, raised_of, break_of, continue_of, returned, result_or_fault, read_as, stored_of, written_or_same, stored}
 pub use Rattle.tcl_eval.specs.Going.{Source, unread, read, Inner, on_ok, pay, give, fails, limited, charged, command_end, word_end, with_host, with_frames, with_made, with_def, read_variable, write_variable, proc_end, write_all, by_truth}
 pub use Rattle.tcl_eval.specs.Pieces.{run_part, run_parts}
 pub use Rattle.tcl_eval.specs.Commands.{rename_of, proc_of, call_bound, call_proc, define_proc, do_proc, renamed_as, do_rename, do_eval, catch_end, do_catch, came_next}
@@ -64,7 +65,7 @@ verb_of name =
 -- a question for a run inside this one has, behind its words, the depth at which that stands
 abbrev pub addressed_to : Service → ℕ → Question → Question
 addressed_to Inner_run levels question =
-    record question { words = question.words ++ decimal (most_levels + 1 - levels) ∷ [] }
+    record question { words = question.words ++ decimal (most_nested + 1 - levels) ∷ [] }
 addressed_to Pages levels question = question
 addressed_to Nsv levels question = question
 addressed_to Schedule levels question = question
@@ -95,7 +96,7 @@ module _ {H : Type 0} where
   -- error, and nothing is listed.
   abbrev pub set_global : Bytes → Bytes → Next H → Rest H
   set_global name value k =
-      if nat_lt most_bytes (length value) then k code_of.error too_long
+      if is_long value then k code_of.error too_long
       else (λ state. set_or_fails (global_fault state.frames name) name value k state)
 
   -- a definition of the host's is listed as made
@@ -224,9 +225,9 @@ module _ {H : Type 0} (natives : Names) (table : LeafTable H) where
   -- What a script, the words of a call or a page comes to that stands at this depth, of which there are 200. A page's blocks stand at
   -- it too, and a call's own scripts one deeper.
   abbrev pub run_work : ℕ → Work → Next H → Rest H
-  run_work depth (script_work bytes) k = run_script (most_levels + 1 - depth) (unread bytes) k
-  run_work depth (Call words) k = command (nested (most_levels - depth)) words k
-  run_work depth (page_work pieces) k = run_page table (nested (most_levels + 1 - depth)) pieces k
+  run_work depth (script_work bytes) k = run_script (most_nested + 1 - depth) (unread bytes) k
+  run_work depth (Call words) k = command (nested (most_nested - depth)) words k
+  run_work depth (page_work pieces) k = run_page table (nested (most_nested + 1 - depth)) pieces k
 
   -- the run of it alone
   abbrev pub eval : ℕ → Work → Rest H

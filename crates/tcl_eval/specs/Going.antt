@@ -1,9 +1,10 @@
 -- What comes next: a run is written by what comes after each part of it.
-use Rattle.std.specs.Prelude.{Bool, true, false, ℕ, zero, suc, ◌-◌, [], ◌∷◌, ◌++◌, length, nat_lt, if◌then◌else◌, Option, Some, None}
+use Rattle.std.specs.Prelude.{Bool, true, false, ℕ, zero, suc, ◌-◌, [], ◌∷◌, ◌++◌, nat_lt, if◌then◌else◌, Option, Some, None}
 use Rattle.txt_core.specs.Names.{Bytes}
 use Rattle.tcl_parse.specs.Tree.{Commands}
 use Rattle.cmd_table.specs.Commands.{defined}
 use Rattle.cmd_table.specs.declared.definition.Def.{Def}
+use Rattle.txt_core.specs.Limits.{is_long}
 use Rattle.txt_core.specs.Truth.{truth}
 use Rattle.tcl_frame.specs.Stack.{Stack}
 use Rattle.tcl_frame.specs.Frames.{popped}
@@ -12,7 +13,7 @@ use Rattle.tcl_eval.specs.declared.stack.Ended.{Ended}
 use Rattle.tcl_eval.specs.Parameters.{Values}
 use Rattle.tcl_eval.specs.Messages.{too_long, no_boolean}
 use Rattle.tcl_eval.specs.Costs.{result_cost}
-use Rattle.tcl_eval.specs.Results.{most_bytes, error_of, returned, read_as, stored_of, stored}
+use Rattle.tcl_eval.specs.Results.{error_of, returned, read_as, stored_of, stored}
 use Rattle.tcl_eval.specs.State.{State, spent, Rest, Next}
 
 -- What is run as a script: a text, or a script that was read within another one.
@@ -48,7 +49,7 @@ module _ {H : Type 0} where
 
   -- a result that is too long is an error instead
   abbrev pub limited : Next H → Next H
-  limited k code result = if nat_lt most_bytes (length result) then k code_of.error too_long else k code result
+  limited k code result = if is_long result then k code_of.error too_long else k code result
 
   -- a result is paid for, whatever its code
   abbrev pub charged : Next H → Next H
@@ -60,7 +61,7 @@ module _ {H : Type 0} where
 
   -- a word that is complete, which may be too long
   abbrev pub word_end : (Bytes → Rest H) → Next H → Next H
-  word_end go k = on_ok (λ value. if nat_lt most_bytes (length value) then k code_of.error too_long else go value) k
+  word_end go k = on_ok (λ value. if is_long value then k code_of.error too_long else go value) k
 
   -- ---- the state
 

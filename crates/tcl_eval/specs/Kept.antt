@@ -1,11 +1,12 @@
 -- What is kept of words under way, and what the rest of them comes to then.
-use Rattle.std.specs.Prelude.{[], ◌++◌, length, nat_lt, if◌then◌else◌}
+use Rattle.std.specs.Prelude.{[], ◌++◌, if◌then◌else◌}
 use Rattle.txt_core.specs.Names.{Bytes}
+use Rattle.txt_core.specs.Limits.{is_long}
 use Rattle.tcl_parse.specs.Tree.{Parts, no_parts, part, Words, no_words, word}
 use Rattle.tcl_host.specs.Codes as code_of
 use Rattle.tcl_eval.specs.State.{spent, Rest, Next}
 use Rattle.tcl_eval.specs.Messages.{too_long}
-use Rattle.tcl_eval.specs.Results.{most_bytes, ended}
+use Rattle.tcl_eval.specs.Results.{ended}
 use Rattle.tcl_eval.specs.Going.{Inner, on_ok, word_end}
 use Rattle.tcl_eval.specs.Pieces.{run_part, run_parts}
 use Rattle.tcl_eval.specs.declared.gather.SoFar.{SoFar}
@@ -14,7 +15,7 @@ use Rattle.tcl_eval.specs.declared.stack.Ended.{Ended}
 
 -- of a word that is too long only this is kept
 abbrev pub kept_word : Bytes → SoFar
-kept_word text = if nat_lt most_bytes (length text) then TooLong else Kept text
+kept_word text = if is_long text then TooLong else Kept text
 
 -- what is kept behind one more piece of this value
 abbrev pub grown : SoFar → Bytes → SoFar
@@ -23,7 +24,7 @@ grown TooLong piece = TooLong
 
 -- the value, or the error, where no piece is left
 abbrev pub kept_value : SoFar → Ended
-kept_value (Kept text) = if nat_lt most_bytes (length text) then ended code_of.error too_long else ended code_of.ok text
+kept_value (Kept text) = if is_long text then ended code_of.error too_long else ended code_of.ok text
 kept_value TooLong = ended code_of.error too_long
 
 module _ {H : Type 0} where

@@ -14,7 +14,7 @@ use Rattle.tcl_eval.specs.declared.parameter.Parameter.{Parameter}
 use Rattle.tcl_eval.specs.declared.outcome.Work.{Work}
 use Rattle.tcl_eval.specs.declared.outcome.Work.TheVariants.{Script, Call, Page}
 use Rattle.tcl_eval.specs.Words.{arg}
-use Rattle.tcl_eval.specs.Results.{most_bytes}
+use Rattle.txt_core.specs.Limits.{most_bytes}
 use Rattle.tcl_eval.specs.Parameters.{parameters}
 use Rattle.tcl_eval.specs.Commands.{proc_of, rename_of}
 use Rattle.tcl_eval.specs.Loops.{turns}

@@ -22,7 +22,6 @@ pub mod Laws
 pub mod ParametersSeen
 pub mod BranchesSeen
 pub mod SwitchSeen
-pub mod LoopsSeen
 pub mod SeenPieces
 pub mod Verbs
 pub mod Places

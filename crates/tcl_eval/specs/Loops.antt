@@ -1,17 +1,19 @@
 -- Loops. Each turn costs 1, before its body. A loop has as many turns as the budget that is left when it begins, and so is never
 -- ended by their number: where no turn is left, no budget is.
-use Rattle.std.specs.Prelude.{ℕ, zero, suc, [], ◌∷◌, length, drop, ◌==◌, if◌then◌else◌, codes, Option, Some, None}
+use Rattle.std.specs.Prelude.{ℕ, zero, suc, [], ◌∷◌, length, drop, ◌==◌, if◌then◌else◌, ◌||◌, codes, Option, Some, None}
 use Rattle.std.specs.Int.{div_ceil}
 use Rattle.txt_core.specs.Names.{Bytes, Words, Names}
 use Rattle.txt_core.specs.Lists.{Listing, elements, bad_at}
 use Rattle.txt_core.specs.Listing.{listing}
 use Rattle.tcl_host.specs.Codes as code_of
 use Rattle.tcl_eval.specs.declared.branch.Turning.{Turning}
+use Rattle.tcl_eval.specs.declared.loops.Flow.{Flow}
+use Rattle.tcl_eval.specs.declared.loops.Flow.TheVariants.{On, Ends}
 use Rattle.tcl_eval.specs.Parameters.{Values}
 use Rattle.tcl_eval.specs.Words.{arg}
 use Rattle.tcl_eval.specs.Messages.{no_list, bad_value}
 use Rattle.tcl_eval.specs.Costs.{turn_cost}
-use Rattle.tcl_eval.specs.Results.{wrong_words_end}
+use Rattle.tcl_eval.specs.Results.{ended, wrong_words_end}
 use Rattle.tcl_eval.specs.Going.{Inner, unread, on_ok, pay, give, fails, write_all}
 use Rattle.tcl_eval.specs.Expressions.{test}
 use Rattle.tcl_eval.specs.State.{spent, Rest, Next}
@@ -22,15 +24,23 @@ assigned [] values = []
 assigned (name ∷ names) [] = (name, []) ∷ assigned names []
 assigned (name ∷ names) (value ∷ values) = (name, value) ∷ assigned names values
 
+-- How a loop goes on where a part of it ended with this code and result: behind a good end and a continue it goes on, a break ends it
+-- well, and any other code is handed on.
+abbrev pub flow_of : ℕ → Bytes → Flow
+flow_of code result =
+    if (code == code_of.ok) || (code == code_of.continue) then On
+    else if code == code_of.break then Ends (ended code_of.ok [])
+    else Ends (ended code result)
+
 module _ {H : Type 0} where
-  -- a part of a loop ended: with 0 or 4 the loop goes on, with 3 it ends, and any other code is handed on
+  -- goes on as a loop does
+  abbrev pub by_flow : Flow → Rest H → Next H → Rest H
+  by_flow On go k = go
+  by_flow (Ends value) go k = give value k
+
+  -- a part of a loop ended, behind which the loop goes on, or ends
   abbrev pub in_loop : Rest H → Next H → Next H
-  in_loop go k zero result = go
-  in_loop go k (suc zero) result = k code_of.error result
-  in_loop go k (suc (suc zero)) result = k code_of.return result
-  in_loop go k (suc (suc (suc zero))) result = k code_of.ok []
-  in_loop go k (suc (suc (suc (suc zero)))) result = go
-  in_loop go k (suc (suc (suc (suc (suc code))))) result = k (suc (suc (suc (suc (suc code))))) result
+  in_loop go k code result = by_flow (flow_of code result) go k
 
   -- the script between two turns, where there is one, whose codes 3 and 4 are the loop's too
   abbrev pub between : Inner H → Option Bytes → Rest H → Next H → Rest H

@@ -1,23 +1,16 @@
--- Limits, and codes with results.
-use Rattle.std.specs.Prelude.{ℕ, zero, suc, [], length, ◌==◌, nat_lt, if◌then◌else◌, ◌||◌, codes, Option, Some, None}
+-- Codes with results.
+use Rattle.std.specs.Prelude.{ℕ, [], length, ◌==◌, if◌then◌else◌, ◌||◌, codes, Option, Some, None}
 use Rattle.txt_core.specs.Names.{Bytes, Words}
 use Rattle.tcl_frame.specs.declared.fault.VarFault.{VarFault}
 use Rattle.tcl_frame.specs.Stack.{Stack}
 use Rattle.tcl_frame.specs.Frames.{read_of, read_fault, write_fault, written}
 use Rattle.tcl_eval.specs.declared.stack.Ended.{Ended}
 use Rattle.tcl_eval.specs.Words.{arg}
-pub use Rattle.txt_core.specs.Limits.{most_bytes}
 pub use Rattle.tcl_frame.specs.Names.{element_name}
-use Rattle.txt_core.specs.Limits.{most_nested}
+use Rattle.txt_core.specs.Limits.{is_long}
 use Rattle.txt_core.specs.ErrorTexts.{wrong_words as wrong_count}
 use Rattle.tcl_host.specs.Codes as code_of
 use Rattle.tcl_eval.specs.Messages.{too_long, outside_loop, variable_fault}
-
--- ---- limits
-
--- how deep scripts may stand in one another
-abbrev pub most_levels : ℕ
-most_levels = most_nested
 
 -- ---- codes with results
 
@@ -27,7 +20,7 @@ ended code result = record { code = code; result = result }
 
 -- the text of an error that is too long is another one
 abbrev pub shortened : Bytes → Bytes
-shortened message = if nat_lt most_bytes (length message) then too_long else message
+shortened message = if is_long message then too_long else message
 
 -- an error with this text
 abbrev pub error_of : Bytes → Ended
@@ -54,12 +47,10 @@ continue_of words = if length words == 1 then ended code_of.continue [] else wro
 
 -- A procedure ends: a return becomes a good end, a break and a continue become errors, and any other code is handed on.
 abbrev pub returned : ℕ → Bytes → Ended
-returned zero result = ended code_of.ok result
-returned (suc zero) result = ended code_of.error result
-returned (suc (suc zero)) result = ended code_of.ok result
-returned (suc (suc (suc zero))) result = error_of (outside_loop (codes "break"))
-returned (suc (suc (suc (suc zero)))) result = error_of (outside_loop (codes "continue"))
-returned (suc (suc (suc (suc (suc code))))) result = ended (suc (suc (suc (suc (suc code))))) result
+returned code result =
+    if code == code_of.break then error_of (outside_loop (codes "break"))
+    else if code == code_of.continue then error_of (outside_loop (codes "continue"))
+    else ended (if code == code_of.return then code_of.ok else code) result
 
 -- ---- variables
 
@@ -74,7 +65,7 @@ read_as frames name = result_or_fault (read_fault frames name) name (read_of fra
 -- A variable is to be written, and then this is the result; a value that is too long, and then a refusal, is an error.
 abbrev pub stored_of : Stack → Bytes → Bytes → Bytes → Ended
 stored_of frames name value result =
-    if nat_lt most_bytes (length value) then ended code_of.error too_long else result_or_fault (write_fault frames name) name result
+    if is_long value then ended code_of.error too_long else result_or_fault (write_fault frames name) name result
 
 abbrev pub written_or_same : Option VarFault → Stack → Bytes → Bytes → Stack
 written_or_same None frames name value = written frames name value
@@ -83,4 +74,4 @@ written_or_same (Some why) frames name value = frames
 -- the variables after that; an error changes nothing
 abbrev pub stored : Stack → Bytes → Bytes → Stack
 stored frames name value =
-    if nat_lt most_bytes (length value) then frames else written_or_same (write_fault frames name) frames name value
+    if is_long value then frames else written_or_same (write_fault frames name) frames name value

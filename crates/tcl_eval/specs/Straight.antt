@@ -16,7 +16,7 @@ use Rattle.tcl_eval.specs.Places.{commands_from, command_at, words_from, words_s
 use Rattle.tcl_eval.specs.Engine.{state_of}
 use Rattle.tcl_eval.specs.declared.engine.Engine.{Engine}
 use Rattle.tcl_eval.specs.declared.stack.Ended.{Ended}
-use Rattle.tcl_eval.specs.declared.verb.Verb.TheVariants.{Expr}
+use Rattle.tcl_eval.specs.declared.verb.Verb.{Verb}
 use Rattle.tcl_eval.specs.declared.straight.Straight.{Straight}
 use Rattle.tcl_eval.specs.declared.straight.Straight.TheVariants as straight
 use Rattle.tcl_eval.specs.declared.straight.Stand.{Stand}
@@ -28,14 +28,14 @@ use Rattle.tcl_eval.specs.declared.straight.Tried.TheVariants as tried
 abbrev pub IsOwn : Table → Words → Type 0
 IsOwn commands words = (command_of commands (arg words 0) ≡ Some (Built (arg words 0))) × (words ≡ arg words 0 ∷ drop 1 words)
 
--- the first of these words is `expr`, which names neither a native nor a command on variables
-abbrev pub IsNamedExpr : Names → Words → Type 0
-IsNamedExpr natives words =
-    (has_name natives (arg words 0) ≡ false) × (begins_var_command words ≡ false) × (verb_of (arg words 0) ≡ Expr)
+-- the first of these words is the name of a built-in of this kind, and names neither a native nor a command on variables
+abbrev pub IsNamed : Verb → Names → Words → Type 0
+IsNamed verb natives words =
+    (has_name natives (arg words 0) ≡ false) × (begins_var_command words ≡ false) × (verb_of (arg words 0) ≡ verb)
 
--- these words call `expr`
-abbrev pub IsExpr : Names → Table → Words → Type 0
-IsExpr natives commands words = IsOwn commands words × IsNamedExpr natives words
+-- these words call a built-in of this kind by its own name
+abbrev pub CallsVerb : Verb → Names → Table → Words → Type 0
+CallsVerb verb natives commands words = IsOwn commands words × IsNamed verb natives words
 
 -- where a command came to a value, this holds of it
 abbrev pub IfGives : Straight → (Ended → Type 0) → Type 0

@@ -36,10 +36,7 @@ use tcl_frame::{VarFault, is_element_name, variable_fault};
 use tcl_host::{Host, HostReply, OK};
 use tcl_varcmd::is_var_command;
 use txt_core::error_text::unknown_command;
-use txt_core::{MOST_BYTES, MOST_NESTED, NoMemory, Pairs, Text, Words, write_natural};
-
-/// How deep scripts may stand in one another.
-pub const MOST_LEVELS: u32 = MOST_NESTED;
+use txt_core::{MOST_NESTED, NoMemory, Pairs, Text, Words, is_too_long, write_natural};
 
 /// A question as it is handed out: one for a run inside this one has, behind its words, the depth at
 /// which that stands.
@@ -48,7 +45,7 @@ fn addressed(alloc: Global, question: Question, levels: u32) -> Result<Question,
 {
     match question.service {
         Service::Inner => {
-            let depth = (MOST_LEVELS + 1).saturating_sub(levels);
+            let depth = (MOST_NESTED + 1).saturating_sub(levels);
             let Question { service, mut words } = question;
             words.add(write_natural(alloc, depth as u64)?)?;
             Ok(Question { service, words })
@@ -97,7 +94,7 @@ impl<H: Host> Engine<H> {
             (self.new ≡ record self.old { frames = stored self.old.frames name.now value }) }
         ensures holds { Holds self.new self.old }
     {
-        if value.len() > MOST_BYTES {
+        if is_too_long(&value) {
             return too_long(self.alloc);
         }
         match self.frames.write(name, value) {
@@ -127,7 +124,7 @@ impl<H: Host> Engine<H> {
         ensures holds { HoldsTable self.new self.old }
         ensures kept { OnErr result (self.new.made ≡ self.old.made) }
     {
-        if value.len() > MOST_BYTES {
+        if is_too_long(&value) {
             return too_long(self.alloc);
         }
         let result = value.copy(self.alloc)?;

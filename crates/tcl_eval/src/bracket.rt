@@ -3,20 +3,19 @@
 ghost use Rattle.std.specs.Prelude.{◌≡◌, ◌+◌, ◌++◌, ◌∷◌, ℕ, suc, [], length, map, IfOk, IfSome, OnOk};
 ghost use Rattle.natives.specs.Names.{names_of};
 ghost use Rattle.txt_core.specs.Names.{Names};
-ghost use Rattle.tcl_parse.specs.Tree.{Parts, Words, no_parts, part, parts, words};
+ghost use Rattle.tcl_parse.specs.Tree.{Parts, Words, bracket, no_parts, part, parts, words};
 ghost use Rattle.tcl_parse.specs.View.{part_of, word_of};
 ghost use Rattle.tcl_eval.specs.Eval.{nested, on_ok, run_parts, run_words};
 ghost use Rattle.tcl_eval.specs.Kept.{judged};
-ghost use Rattle.tcl_eval.specs.Places.{command_at, tree_of, words_from};
+ghost use Rattle.tcl_eval.specs.Places.{tree_of, words_from};
 ghost use Rattle.tcl_eval.specs.Straight.{Alike, Straightly};
-ghost use Rattle.tcl_eval.specs.Brackets.{LeavesAsSaid, IsWordAt, bracket_of, bracket_value, bracketed_next, passed_next};
+ghost use Rattle.tcl_eval.specs.Brackets.{LeavesAsSaid, IsWordAt, bracket_value, bracketed_next, passed_next};
 ghost use Rattle.tcl_eval.specs.Engine.{Holds};
 
 use crate::engine::Engine;
 use crate::gather::Gathered;
-use crate::place::{Seen, has_command, look, pieces_at};
-use crate::stack::Ended;
-use crate::straight::Tried;
+use crate::place::{Seen, look, pieces_at};
+use crate::stack::{Ended, Once};
 use crate::value::judged;
 use natives::Natives;
 use std::alloc::Global;
@@ -24,16 +23,6 @@ use std::rc::Rc;
 use tcl_host::{Host, OK};
 use tcl_parse::{Piece, Script, Word};
 use txt_core::NoMemory;
-
-/// What a word comes to that is one bracket of one command.
-#[derive(Drop)]
-pub enum Bracketed {
-    Gives(Ended),
-    /// The result of its command costs more than is left of the budget.
-    Spent,
-    /// It is another word, or its command doesn't come to a value straight away. Nothing was done.
-    Left,
-}
 
 /// Where a command stands behind some of its words.
 #[derive(Drop)]
@@ -52,35 +41,25 @@ pub enum Passed {
     Left,
 }
 
-/// The script of a piece that is a bracket of one command; `None` for any other piece.
-fn one_command(piece: &Piece) -> Option<&Rc<Script>>
-    ensures { IfSome result (λ script.
-        part_of piece.now ≡ bracket_of (command_at 0 (tree_of script.now.value))) }
+/// The script of a piece that is a bracket; `None` for any other piece.
+fn bracket_script(piece: &Piece) -> Option<&Rc<Script>>
+    ensures { IfSome result (λ script. part_of piece.now ≡ bracket (tree_of script.now.value)) }
 {
     match look(piece) {
         Seen::Bytes(_) => None,
         Seen::Variable(_) => None,
         Seen::Element(_) => None,
-        Seen::Bracket(script) => {
-            if !has_command(script, 0) {
-                return None;
-            }
-            if has_command(script, 1) {
-                return None;
-            }
-            Some(script)
-        }
+        Seen::Bracket(script) => Some(script),
     }
 }
 
-/// The script of a word that is one bracket of one command; `None` for any other word.
+/// The script of a word that is one bracket; `None` for any other word.
 fn only_bracket(pieces: &[Piece]) -> Option<&Rc<Script>>
     ensures { IfSome result (λ script.
-        parts (map part_of pieces.now)
-        ≡ part (bracket_of (command_at 0 (tree_of script.now.value))) no_parts) }
+        parts (map part_of pieces.now) ≡ part (bracket (tree_of script.now.value)) no_parts) }
 {
     match pieces {
-        [piece] => one_command(piece),
+        [piece] => bracket_script(piece),
         _ => None,
     }
 }
@@ -97,35 +76,27 @@ pub(crate) fn bracket_word(alloc: Global, value: Ended) -> Result<Ended, NoMemor
 }
 
 impl<H: Host> Engine<H> {
-    /// Does the one command of a bracket, where it comes to a value straight away. A level is left to it
-    /// at least.
-    fn do_bracket(&mut self, natives: &Natives, script: &Script) -> Result<Bracketed, NoMemory>
-        ensures means { IfOk result (λ bracketed.
+    /// Does the script of a bracket, where it is one command that comes to a value straight away. A level is
+    /// left to it at least.
+    fn do_bracket(&mut self, natives: &Natives, script: &Script) -> Result<Once, NoMemory>
+        ensures means { IfOk result (λ once.
             (levels : ℕ)
             → Alike self.new self.old
             (bracketed_next (nested (names_of natives.now) H.table (suc levels))
-            (part (bracket_of (command_at 0 (tree_of script.now))) no_parts) bracketed)
+            (part (bracket (tree_of script.now)) no_parts) once)
             (λ k.
             run_parts (nested (names_of natives.now) H.table (suc levels))
-            (part (bracket_of (command_at 0 (tree_of script.now))) no_parts) [] (judged k))) }
+            (part (bracket (tree_of script.now)) no_parts) [] (judged k))) }
         ensures straight { OnOk result (Straightly self.new self.old) }
         ensures holds { Holds self.new self.old }
     {
-        match self.try_simple(natives, script, 0)? {
-            Tried::Gives(value) => {
+        match self.run_once(natives, script)? {
+            Once::Gives(value) => {
                 let word = bracket_word(self.alloc, value)?;
-                Ok(Bracketed::Gives(word))
+                Ok(Once::Gives(word))
             }
-            Tried::Spent => Ok(Bracketed::Spent),
-            Tried::Left(values) => {
-                self.spare.put(values);
-                Ok(Bracketed::Left)
-            }
-            Tried::Costly(_) => Ok(Bracketed::Left),
-            Tried::Evaluates(evaluation) => {
-                drop(evaluation);
-                Ok(Bracketed::Left)
-            }
+            Once::Spent => Ok(Once::Spent),
+            Once::Left => Ok(Once::Left),
         }
     }
 
@@ -136,11 +107,11 @@ impl<H: Host> Engine<H> {
         natives: &Natives,
         pieces: &[Piece],
         levels: u32,
-    ) -> Result<Bracketed, NoMemory>
-        ensures means { IfOk result (λ bracketed.
+    ) -> Result<Once, NoMemory>
+        ensures means { IfOk result (λ once.
             Alike self.new self.old
             (bracketed_next (nested (names_of natives.now) H.table levels)
-            (parts (map part_of pieces.now)) bracketed)
+            (parts (map part_of pieces.now)) once)
             (λ k.
             run_parts (nested (names_of natives.now) H.table levels)
             (parts (map part_of pieces.now)) [] (judged k))) }
@@ -148,10 +119,10 @@ impl<H: Host> Engine<H> {
         ensures holds { Holds self.new self.old }
     {
         if levels == 0 {
-            return Ok(Bracketed::Left);
+            return Ok(Once::Left);
         }
         match only_bracket(pieces) {
-            None => Ok(Bracketed::Left),
+            None => Ok(Once::Left),
             Some(script) => {
                 let word = self.do_bracket(natives, script)?;
                 Ok(word)
@@ -180,8 +151,8 @@ impl<H: Host> Engine<H> {
         if value.code != OK {
             return Ok(Passed::Ends(value));
         }
-        values.push(value.result)?;
-        if (self.budget as u128) < values.cost() {
+        let costly = values.join(value.result, self.budget)?;
+        if costly {
             return Ok(Passed::Costly);
         }
         Ok(Passed::On)
@@ -214,12 +185,12 @@ impl<H: Host> Engine<H> {
         ensures holds { Holds self.new self.old }
     {
         match self.try_bracket(natives, pieces, levels)? {
-            Bracketed::Gives(value) => {
+            Once::Gives(value) => {
                 let passed = self.take_word(values, value)?;
                 Ok(passed)
             }
-            Bracketed::Spent => Ok(Passed::Spent),
-            Bracketed::Left => Ok(Passed::Left),
+            Once::Spent => Ok(Passed::Spent),
+            Once::Left => Ok(Passed::Left),
         }
     }
 

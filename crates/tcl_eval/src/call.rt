@@ -16,7 +16,7 @@ ghost use Rattle.tcl_eval.specs.Clauses.{GoneIs, StepIs};
 use crate::cost::command_cost;
 use crate::engine::Engine;
 use crate::loop_turns::Ran;
-use crate::stack::{Ended, Frame, Gone, Ready, Step};
+use crate::stack::{Ended, Frame, Gone, Step};
 use crate::value::{error, returned};
 use crate::words::first_word;
 use cmd_table::Cmd;
@@ -165,14 +165,9 @@ impl<H: Host> Engine<H> {
                 let step = self.end_call(value)?;
                 Ok(step)
             }
-            Ran::TooDeep => Ok(Step::Stop(Ready::TooDeep)),
-            Ran::Stands {
-                script,
-                stand,
-                levels,
-            } => {
+            ran => {
                 self.stack.push(Frame::ProcedureResult)?;
-                let step = self.enter_stand(script, stand, levels)?;
+                let step = self.enter_ran(ran)?;
                 Ok(step)
             }
         }

@@ -1,14 +1,13 @@
 //! An `if` for which nothing is put on the stack.
 
-ghost use Rattle.std.specs.Prelude.{◌≡◌, ◌≤◌, ℕ, suc, [], false, IfOk, IsTrue, OnOk};
+ghost use Rattle.std.specs.Prelude.{◌≡◌, ◌≤◌, ℕ, suc, [], IfOk, IsTrue, OnOk};
 ghost use Rattle.natives.specs.Names.{has_name, names_of};
-ghost use Rattle.tcl_parse.specs.Tree.{Words, command, no_commands};
-ghost use Rattle.tcl_varcmd.specs.Commands.{begins_var_command};
-ghost use Rattle.tcl_eval.specs.Eval.{arg, command_cost, do_if, nested, run_commands, run_script, unread, verb_of};
+ghost use Rattle.tcl_parse.specs.Tree.{Words};
+ghost use Rattle.tcl_eval.specs.Eval.{arg, command_cost, do_if, nested, run_commands, run_script, unread};
 ghost use Rattle.tcl_eval.specs.Branches.{choose};
-ghost use Rattle.tcl_eval.specs.Choices.{CameTo, IsIf};
-ghost use Rattle.tcl_eval.specs.Places.{command_at, tree_of};
-ghost use Rattle.tcl_eval.specs.Straight.{IsOwn, Straightly};
+ghost use Rattle.tcl_eval.specs.Choices.{AsItWas, CameTo};
+ghost use Rattle.tcl_eval.specs.Places.{tree_of};
+ghost use Rattle.tcl_eval.specs.Straight.{CallsVerb, IsNamed, IsOwn, Straightly};
 ghost use Rattle.tcl_eval.specs.Engine.{Holds};
 ghost use Rattle.tcl_eval.specs.Clauses.{IsLeftOf, Tries};
 ghost use Rattle.tcl_eval.specs.declared.verb.Verb.{Verb};
@@ -17,8 +16,8 @@ use crate::branch::{Branches, read_branches};
 use crate::condition::Chosen;
 use crate::engine::Engine;
 use crate::gather::Gathered;
-use crate::place::has_command;
-use crate::stack::Ended;
+use crate::place::is_one_command;
+use crate::stack::Once;
 use crate::straight::Tried;
 use crate::value::wrong_words;
 use crate::verb::{Verb, find_verb};
@@ -31,32 +30,6 @@ use tcl_parse::Script;
 use tcl_varcmd::is_var_command;
 use txt_core::{NoMemory, Text, Words};
 
-/// What something comes to of which nothing is put on the stack.
-#[derive(Drop)]
-pub enum Once {
-    /// This.
-    Gives(Ended),
-    /// A cost is more than is left of the budget.
-    Spent,
-    /// It doesn't come to a value straight away. But for what was paid, nothing was done.
-    Left,
-}
-
-/// Whether a script has one command.
-#[tactic(auto, using(crate::proofs::Choices::one_only))]
-fn is_one_command(script: &Script) -> bool
-    ensures { IsTrue result
-        → tree_of script.now ≡ command (command_at 0 (tree_of script.now)) no_commands }
-{
-    if !has_command(script, 0) {
-        return false;
-    }
-    if has_command(script, 1) {
-        return false;
-    }
-    true
-}
-
 /// Whether words begin with the name of a native.
 fn is_native(alloc: Global, natives: &Natives, words: &Words) -> bool
     ensures { result ≡ has_name (names_of natives.now) (arg words.now 0) }
@@ -67,12 +40,15 @@ fn is_native(alloc: Global, natives: &Natives, words: &Words) -> bool
 
 #[tactic(auto, using(crate::proofs::Stacks::frees_push))]
 impl<H: Host> Engine<H> {
-    /// Whether words call a built-in of the language by its own name: no native, and no command on variables.
-    fn is_language(&self, natives: &Natives, words: &Words) -> bool
+    /// Whether words call `if`.
+    fn is_if(&self, natives: &Natives, words: &Words) -> bool
         ensures own { IsTrue result → IsOwn self.now.table.table words.now }
-        ensures native { IsTrue result → has_name (names_of natives.now) (arg words.now 0) ≡ false }
-        ensures variable { IsTrue result → begins_var_command words.now ≡ false }
+        ensures named { IsTrue result → IsNamed Verb.If (names_of natives.now) words.now }
     {
+        let verb = find_verb(words.bytes_at(0));
+        if verb != Verb::If {
+            return false;
+        }
         if is_native(self.alloc, natives, words) {
             return false;
         }
@@ -82,27 +58,14 @@ impl<H: Host> Engine<H> {
         self.is_own(words)
     }
 
-    /// Whether words call `if`.
-    fn is_if(&self, natives: &Natives, words: &Words) -> bool
-        ensures own { IsTrue result → IsOwn self.now.table.table words.now }
-        ensures native { IsTrue result → has_name (names_of natives.now) (arg words.now 0) ≡ false }
-        ensures variable { IsTrue result → begins_var_command words.now ≡ false }
-        ensures verb { IsTrue result → verb_of (arg words.now 0) ≡ Verb.If }
-    {
-        let verb = find_verb(words.bytes_at(0));
-        if verb == Verb::If {
-            return self.is_language(natives, words);
-        }
-        false
-    }
-
     /// Runs a script, where it is one command that comes to a value straight away.
-    fn run_once(&mut self, natives: &Natives, script: &Script) -> Result<Once, NoMemory>
+    pub(crate) fn run_once(&mut self, natives: &Natives, script: &Script) -> Result<Once, NoMemory>
         ensures means { IfOk result (λ once.
             (levels : ℕ)
             → CameTo once self.new self.old
             (run_commands (names_of natives.now) H.table
             (nested (names_of natives.now) H.table levels) (tree_of script.now) [])) }
+        ensures left { IfOk result (λ once. AsItWas once self.new self.old) }
         ensures straight { OnOk result (Straightly self.new self.old) }
         ensures holds { Holds self.new self.old }
     {
@@ -191,7 +154,7 @@ impl<H: Host> Engine<H> {
         requires enough { cost ≤ self.old.budget }
         ensures means { IfOk result (λ tried.
             (levels : ℕ) (words : Words)
-            → IsIf (names_of natives.now) self.old.table.table values
+            → CallsVerb Verb.If (names_of natives.now) self.old.table.table values
             → Tries (names_of natives.now) H.table (suc levels) words values tried self.new
             self.old) }
         ensures size { IfOk result (λ tried. IsLeftOf values tried) }

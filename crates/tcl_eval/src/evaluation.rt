@@ -26,10 +26,10 @@ use crate::expr_reading::ExprReading;
 use crate::expression::{MOST_AT_ONCE, value_ended};
 use crate::place::{Seen, has_command, look};
 use crate::read_expr::ReadExpr;
-use crate::simple_value::{simple_value, untrue};
+use crate::simple_value::simple_value;
 use crate::stack::{Ended, Evaluation, Frame, Gone, Ready, Step};
 use crate::straight::Tried;
-use crate::value::done;
+use crate::value::{done, no_truth};
 use crate::words::{behind_name, joined};
 use natives::Natives;
 use std::rc::Rc;
@@ -118,7 +118,7 @@ impl<H: Host> Engine<H> {
     {
         match read_truth(value) {
             None => {
-                let ended = untrue(self.alloc, value)?;
+                let ended = no_truth(self.alloc, value)?;
                 Ok(Begun::Gives(ended))
             }
             Some(true) => {

@@ -5,11 +5,10 @@ ghost use Rattle.txt_core.specs.Names.{Names};
 ghost use Rattle.tcl_expr.specs.Trees.{binary, choice};
 ghost use Rattle.tcl_expr.specs.View.{tree_of};
 ghost use Rattle.tcl_host.specs.Codes as code_of;
-ghost use Rattle.tcl_eval.specs.Messages.{no_boolean};
-ghost use Rattle.tcl_eval.specs.Eval.{nested, ended, error_of, give};
+ghost use Rattle.tcl_eval.specs.Eval.{nested, ended, give};
 ghost use Rattle.tcl_eval.specs.Expressions.{behind_left, run_expression, evaluate, do_expr, whole_value};
 ghost use Rattle.tcl_eval.specs.Places.{tree_size};
-ghost use Rattle.tcl_eval.specs.Stack.{frame_next, step_next, frame_weight, step_weight, frame_free, step_free};
+ghost use Rattle.tcl_eval.specs.Stack.{frame_next, frame_weight, step_weight, frame_free, step_free};
 ghost use Rattle.tcl_eval.specs.Engine.{Holds, Same, Stays, Keeps, Opens, Enters, Lower, credit};
 ghost use Rattle.tcl_eval.specs.Clauses.{ActsAs, GivesFrame, IsLighter, IsNoHeavier, StepIs};
 ghost use Rattle.tcl_eval.specs.declared.stack.Frame.{Frame};
@@ -20,13 +19,13 @@ use crate::engine::Engine;
 use crate::evaluation::shared_bracket;
 use crate::expr_reading::ExprReading;
 use crate::gather::SoFar;
-use crate::message::{bad_expression, no_boolean};
-use crate::operation::{Way, way_of, with_one, with_two};
+use crate::message::bad_expression;
+use crate::operation::{Way, behind_left, way_of, with_one, with_two};
 use crate::place::{first_piece, only_pieces};
 use crate::read_expr::ReadExpr;
 use crate::simple_value::{leaf, simple_value};
 use crate::stack::{Acted, Ended, Frame, Step};
-use crate::value::{done, error, wrong_words};
+use crate::value::{done, error, no_truth, wrong_words};
 use crate::words::{behind_name, joined};
 use std::alloc::Global;
 use std::rc::Rc;
@@ -263,22 +262,6 @@ impl<H: Host> Engine<H> {
         Ok(step)
     }
 
-    /// Ends an expression at a value that has no truth.
-    fn no_truth(&self, value: &Text) -> Result<Step, NoMemory>
-        ensures { IfOk result (λ step. step ≡ Step.Value (error_of (no_boolean value.now))) }
-    {
-        let message = no_boolean(self.alloc, value.bytes())?;
-        Ok(Step::Value(error(self.alloc, message)?))
-    }
-
-    /// Ends an expression at this value.
-    fn value_step(&self, text: &[u8]) -> Result<Step, NoMemory>
-        ensures { IfOk result (λ step. step ≡ Step.Value (ended code_of.ok text.now)) }
-    {
-        let result = Text::new(self.alloc, text)?;
-        Ok(Step::Value(Ended { code: OK, result }))
-    }
-
     /// Goes on with the right operand of an operator, where the left one asks for it.
     fn enter_behind(
         &mut self,
@@ -299,39 +282,12 @@ impl<H: Host> Engine<H> {
         ensures keeps { IfOk result (λ step. Stays step self.new self.old) }
         ensures holds { Holds self.new self.old }
     {
-        match way {
-            Way::Both => {
+        match behind_left(self.alloc, way, &left)? {
+            None => {
                 let step = self.enter_right(op, left, right, levels)?;
                 Ok(step)
             }
-            Way::IfTrue => match read_truth(&left) {
-                None => {
-                    let step = self.no_truth(&left)?;
-                    Ok(step)
-                }
-                Some(true) => {
-                    let step = self.enter_right(op, left, right, levels)?;
-                    Ok(step)
-                }
-                Some(false) => {
-                    let step = self.value_step(b"0")?;
-                    Ok(step)
-                }
-            },
-            Way::IfFalse => match read_truth(&left) {
-                None => {
-                    let step = self.no_truth(&left)?;
-                    Ok(step)
-                }
-                Some(true) => {
-                    let step = self.value_step(b"1")?;
-                    Ok(step)
-                }
-                Some(false) => {
-                    let step = self.enter_right(op, left, right, levels)?;
-                    Ok(step)
-                }
-            },
+            Some(value) => Ok(Step::Value(value)),
         }
     }
 
@@ -411,8 +367,8 @@ impl<H: Host> Engine<H> {
         }
         match read_truth(&value.result) {
             None => {
-                let step = self.no_truth(&value.result)?;
-                Ok(step)
+                let ended = no_truth(self.alloc, &value.result)?;
+                Ok(Step::Value(ended))
             }
             Some(true) => {
                 let step = self.enter_chosen(first, levels)?;

@@ -1,6 +1,6 @@
 //! What is kept of words under way.
 
-ghost use Rattle.std.specs.Prelude.{◌≡◌, ◌++◌, ◌∷◌, [], IfOk, OnOk, length};
+ghost use Rattle.std.specs.Prelude.{◌≡◌, ◌++◌, ◌∷◌, [], IfOk, OnOk, length, nat_lt};
 ghost use Rattle.tcl_eval.specs.Eval.{command_cost};
 ghost use Rattle.tcl_eval.specs.Kept.{grown};
 ghost use Rattle.tcl_eval.specs.declared.gather.SoFar.{SoFar};
@@ -90,21 +90,9 @@ impl Gathered {
         self.words.len()
     }
 
-    /// Puts a copy of a value at the end. Its only error is want of memory.
-    #[inline(always)]
-    pub fn push_copy(&mut self, alloc: Global, word: &Text) -> Result<(), NoMemory>
-        ensures { OnOk result (self.new ≡ self.old ++ word.now ∷ []) }
-    {
-        let Some(bytes) = self.bytes.checked_add(word.len() as u64) else {
-            return Err(NoMemory);
-        };
-        self.words.add(word.copy(alloc)?)?;
-        self.bytes = bytes;
-        Ok(())
-    }
-
     /// Puts a value at the end. Its only error is want of memory.
-    pub fn push(&mut self, word: Text) -> Result<(), NoMemory>
+    #[inline(always)]
+    fn push(&mut self, word: Text) -> Result<(), NoMemory>
         ensures { OnOk result (self.new ≡ self.old ++ word ∷ []) }
     {
         let Some(bytes) = self.bytes.checked_add(word.len() as u64) else {
@@ -113,6 +101,17 @@ impl Gathered {
         self.words.add(word)?;
         self.bytes = bytes;
         Ok(())
+    }
+
+    /// Puts the value of a command's next word at the end; whether a command of these words then costs more
+    /// than is left of this budget. Its only error is want of memory.
+    #[inline(always)]
+    pub fn join(&mut self, word: Text, budget: u64) -> Result<bool, NoMemory>
+        ensures words { OnOk result (self.new ≡ self.old ++ word ∷ []) }
+        ensures over { IfOk result (λ costly. costly ≡ nat_lt budget (command_cost self.new)) }
+    {
+        self.push(word)?;
+        Ok((budget as u128) < self.cost())
     }
 
     /// Lets all values go. It takes no memory, and keeps their room for the next ones.

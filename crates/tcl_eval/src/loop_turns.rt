@@ -23,12 +23,12 @@ use crate::engine::Engine;
 use crate::expr_reading::ExprReading;
 use crate::expression::MOST_AT_ONCE;
 use crate::loops::{Flow, flow_from};
-use crate::message::{no_boolean, script_fault};
+use crate::message::script_fault;
 use crate::read_expr::ReadExpr;
 use crate::simple_value::{simple_truth, simple_value};
 use crate::stack::{Ended, Ready, Step};
 use crate::straight::Stand;
-use crate::value::{done, error};
+use crate::value::{done, error, no_truth};
 use crate::walk_turns::Each;
 use natives::Natives;
 use parse_cache::Reading;
@@ -173,8 +173,8 @@ impl<H: Host> Engine<H> {
         }
         match read_truth(&value.result) {
             None => {
-                let message = no_boolean(self.alloc, value.result.bytes())?;
-                Ok(Tested::Ends(error(self.alloc, message)?))
+                let ended = no_truth(self.alloc, &value.result)?;
+                Ok(Tested::Ends(ended))
             }
             Some(true) => Ok(Tested::Holds),
             Some(false) => Ok(Tested::Fails),

@@ -1,7 +1,7 @@
 //! Places in scripts.
 
 ghost use Rattle.std.specs.Prelude.{◌≡◌, ◌<◌, ◌+◌, ◌^◌, MatchOption, IfOk, IsSome, IsTrue, map, slice_get};
-ghost use Rattle.tcl_parse.specs.Tree.{parts, no_parts, word, words, no_words};
+ghost use Rattle.tcl_parse.specs.Tree.{command, no_commands, parts, no_parts, word, words, no_words};
 ghost use Rattle.tcl_parse.specs.View.{part_of, script_of, word_of};
 ghost use Rattle.tcl_expr.specs.View.{only_word};
 ghost use Rattle.std.specs.Option.{option_copied};
@@ -37,6 +37,21 @@ pub fn has_command(script: &Script, at: usize) -> bool
     ensures small { IsTrue result → at < 2 ^ 63 }
 {
     at < script.commands.as_slice().len()
+}
+
+/// Whether a script has one command.
+#[tactic(auto, using(crate::proofs::OneBracket::one_only))]
+pub fn is_one_command(script: &Script) -> bool
+    ensures { IsTrue result
+        → tree_of script.now ≡ command (command_at 0 (tree_of script.now)) no_commands }
+{
+    if !has_command(script, 0) {
+        return false;
+    }
+    if has_command(script, 1) {
+        return false;
+    }
+    true
 }
 
 /// The words of a command; none where there is no such command.

@@ -13,7 +13,6 @@ ghost use Rattle.tcl_eval.specs.State.{Given};
 ghost use Rattle.tcl_eval.specs.Clauses.{ActedIs};
 ghost use Rattle.tcl_eval.specs.declared.outcome.Outcome.TheVariants.{Asks};
 
-use crate::act::MOST_LEVELS;
 use crate::cost::{answer_cost, command_cost};
 use crate::engine::Engine;
 use crate::outcome::{Outcome, Work};
@@ -23,7 +22,7 @@ use natives::Natives;
 use outside::Answer;
 use std::sync::ledger::Ledger;
 use tcl_host::Host;
-use txt_core::{NoMemory, Words};
+use txt_core::{MOST_NESTED, NoMemory, Words};
 
 #[tactic(auto, using(crate::proofs::Stacks::frees_push))]
 impl<H: Host> Engine<H> {
@@ -173,15 +172,15 @@ impl<H: Host> Engine<H> {
         self.readings.begin(self.alloc)?;
         match work {
             Work::Script(text) => {
-                let acted = self.enter_text(&text, MOST_LEVELS + 1 - depth)?;
+                let acted = self.enter_text(&text, MOST_NESTED + 1 - depth)?;
                 Ok(acted)
             }
             Work::Call(words) => {
-                let acted = self.do_command(natives, words, MOST_LEVELS - depth, steps)?;
+                let acted = self.do_command(natives, words, MOST_NESTED - depth, steps)?;
                 Ok(acted)
             }
             Work::Page(pieces) => {
-                let acted = self.enter_page(pieces, MOST_LEVELS + 1 - depth)?;
+                let acted = self.enter_page(pieces, MOST_NESTED + 1 - depth)?;
                 Ok(acted)
             }
         }

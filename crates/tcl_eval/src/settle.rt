@@ -333,8 +333,8 @@ impl<H: Host> Engine<H> {
         if value.code != OK {
             return Ok(Step::Value(value));
         }
-        values.push(value.result)?;
-        if (self.budget as u128) < values.cost() {
+        let costly = values.join(value.result, self.budget)?;
+        if costly {
             let step = self.next_costly(script, at, values.len(), levels)?;
             return Ok(step);
         }

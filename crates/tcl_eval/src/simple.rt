@@ -1,7 +1,7 @@
 //! Words that are made of bytes and of scalar variables, for which nothing is run.
 
-ghost use Rattle.std.specs.Prelude.{◌≡◌, ◌≤◌, ℕ, length, map, IfOk, IfSome, Some};
-ghost use Rattle.txt_core.specs.Limits.{most_bytes};
+ghost use Rattle.std.specs.Prelude.{◌≡◌, ℕ, false, length, map, IfOk, IfSome, Some};
+ghost use Rattle.txt_core.specs.Limits.{is_long};
 ghost use Rattle.txt_core.specs.Names.{Names};
 ghost use Rattle.tcl_parse.specs.Tree.{Words, parts, words};
 ghost use Rattle.tcl_parse.specs.View.{part_of, word_of};
@@ -22,7 +22,7 @@ use std::alloc::Global;
 use tcl_frame::{Frames, VarFault, variable_fault};
 use tcl_host::{Host, OK};
 use tcl_parse::{Piece, Word};
-use txt_core::{MOST_BYTES, NoMemory, Text};
+use txt_core::{NoMemory, Text, is_too_long};
 
 /// The value of a variable, or the error of reading it.
 pub fn variable_value(alloc: Global, frames: &Frames, name: &Text) -> Result<Ended, NoMemory>
@@ -39,9 +39,9 @@ pub fn variable_value(alloc: Global, frames: &Frames, name: &Text) -> Result<End
 #[inline(always)]
 fn within_limit(text: &Text) -> Option<&Text>
     ensures same { IfSome result (λ same. same.now ≡ text.now) }
-    ensures short { IfSome result (λ same. length same.now ≤ most_bytes) }
+    ensures short { IfSome result (λ same. is_long same.now ≡ false) }
 {
-    if text.len() > MOST_BYTES {
+    if is_too_long(text) {
         return None;
     }
     Some(text)
@@ -52,7 +52,7 @@ fn within_limit(text: &Text) -> Option<&Text>
 fn ready_variable<'a>(frames: &'a Frames, name: &Text) -> Option<&'a Text>
     ensures value { IfSome result (λ text.
         read_as frames.now name.now ≡ ended code_of.ok text.now) }
-    ensures short { IfSome result (λ text. length text.now ≤ most_bytes) }
+    ensures short { IfSome result (λ text. is_long text.now ≡ false) }
 {
     match frames.value(name) {
         Err(_) => None,
@@ -200,8 +200,9 @@ impl<H: Host> Engine<H> {
         'words: while let Some(pieces) = pieces_at(all, values.len()) {
             match ready_text(&self.frames, pieces) {
                 Some(text) => {
-                    values.push_copy(self.alloc, text)?;
-                    if (self.budget as u128) < values.cost() {
+                    let word = text.copy(self.alloc)?;
+                    let costly = values.join(word, self.budget)?;
+                    if costly {
                         return Ok(Passed::Costly);
                     }
                 }

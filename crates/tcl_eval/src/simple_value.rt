@@ -5,17 +5,15 @@ ghost use Rattle.txt_core.specs.Truth.{truth};
 ghost use Rattle.tcl_expr.specs.View.{tree_of};
 ghost use Rattle.tcl_expr.specs.Trees.{unary, binary, choice};
 ghost use Rattle.tcl_host.specs.Codes as code_of;
-ghost use Rattle.tcl_eval.specs.Results.{ended, error_of};
-ghost use Rattle.tcl_eval.specs.Messages.{no_boolean};
+ghost use Rattle.tcl_eval.specs.Results.{ended};
 ghost use Rattle.tcl_eval.specs.Expressions.{way_of};
 ghost use Rattle.tcl_eval.specs.AtOnce.{HasTruth, on_truth, right_at_once, left_at_once, at_once};
 
-use crate::message::no_boolean;
-use crate::operation::{Way, way_of, with_one, with_two};
+use crate::operation::{behind_left, way_of, with_one, with_two};
 use crate::place::only_pieces;
 use crate::simple::{ready_text, simple_word};
 use crate::stack::Ended;
-use crate::value::error;
+use crate::value::no_truth;
 use std::alloc::Global;
 use tcl_expr::{Expr, Op, comparison_holds};
 use tcl_frame::Frames;
@@ -64,21 +62,6 @@ pub(crate) fn simple_truth(frames: &Frames, expr: &Expr) -> Option<bool>
             read_truth(value)
         }
     }
-}
-
-/// The error of a value that has no truth.
-pub(crate) fn untrue(alloc: Global, value: &Text) -> Result<Ended, NoMemory>
-    ensures { IfOk result (λ ended. ended ≡ error_of (no_boolean value.now)) }
-{
-    error(alloc, no_boolean(alloc, value.bytes())?)
-}
-
-/// This text as a value.
-fn value_of(alloc: Global, text: &[u8]) -> Result<Ended, NoMemory>
-    ensures { IfOk result (λ value. value ≡ ended code_of.ok text.now) }
-{
-    let result = Text::new(alloc, text)?;
-    Ok(Ended { code: OK, result })
 }
 
 /// What an expression comes to that has neither a bracket nor an element, and whose parts don't stand
@@ -197,27 +180,12 @@ fn simple_left(
         left_at_once (way_of op) op left.now (at_once frames.now (tree_of right.now))
         ≡ Some value)) }
 {
-    match way_of(op) {
-        Way::Both => {
+    match behind_left(alloc, way_of(op), left)? {
+        Some(value) => Ok(Some(value)),
+        None => {
             let found = simple_right(alloc, frames, op, left, right, room)?;
             Ok(found)
         }
-        Way::IfTrue => match read_truth(left) {
-            None => Ok(Some(untrue(alloc, left)?)),
-            Some(true) => {
-                let found = simple_right(alloc, frames, op, left, right, room)?;
-                Ok(found)
-            }
-            Some(false) => Ok(Some(value_of(alloc, b"0")?)),
-        },
-        Way::IfFalse => match read_truth(left) {
-            None => Ok(Some(untrue(alloc, left)?)),
-            Some(true) => Ok(Some(value_of(alloc, b"1")?)),
-            Some(false) => {
-                let found = simple_right(alloc, frames, op, left, right, room)?;
-                Ok(found)
-            }
-        },
     }
 }
 
@@ -330,7 +298,7 @@ fn simple_chosen(
         ≡ Some ended)) }
 {
     match read_truth(value) {
-        None => Ok(Some(untrue(alloc, value)?)),
+        None => Ok(Some(no_truth(alloc, value)?)),
         Some(true) => {
             let found = simple_value(alloc, frames, first, room)?;
             Ok(found)

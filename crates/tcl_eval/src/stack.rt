@@ -19,6 +19,17 @@ pub struct Ended {
     pub result: Text,
 }
 
+/// What something comes to of which nothing is put on the stack.
+#[derive(Drop)]
+pub enum Once {
+    /// This.
+    Gives(Ended),
+    /// A cost is more than is left of the budget.
+    Spent,
+    /// It doesn't come to a value straight away. But for what was paid, nothing was done.
+    Left,
+}
+
 /// An `expr` whose words are all there: what its command costs, and the expression that it comes to, by the
 /// tests of choices that are known. Nothing was paid for.
 #[derive(Drop)]

@@ -9,7 +9,7 @@ ghost use Rattle.txt_core.specs.Names.{Names};
 ghost use Rattle.tcl_eval.specs.State.{Given, Next};
 ghost use Rattle.tcl_eval.specs.Eval.{Inner, act, arg, built, built_in, came_next, command_end, give, nested, on_ok, run_commands, verb_of};
 ghost use Rattle.tcl_eval.specs.Places.{tree_of, command_at, commands_from, commands_size, words_size};
-ghost use Rattle.tcl_eval.specs.Straight.{Alike, Does, IfExpr, IfGives, IfLeft, IsDone, IsExpr, IsNamedExpr, IsOwn, IsWithin, LeftAlone, Straightly, paid_next, tried_next, tried_size, stand_next, stand_size};
+ghost use Rattle.tcl_eval.specs.Straight.{Alike, CallsVerb, Does, IfExpr, IfGives, IfLeft, IsDone, IsNamed, IsOwn, IsWithin, LeftAlone, Straightly, paid_next, tried_next, tried_size, stand_next, stand_size};
 ghost use Rattle.tcl_eval.specs.Engine.{Holds, state_of};
 ghost use Rattle.tcl_eval.specs.Clauses.{IsLeftOf, Tries, TriesCommand};
 
@@ -27,7 +27,7 @@ use natives::{Fault, Natives};
 use tcl_host::{Host, OK};
 use tcl_parse::Script;
 use tcl_varcmd::{is_var_command, var_command};
-use txt_core::{MOST_BYTES, NoMemory, Text, Words};
+use txt_core::{NoMemory, Text, Words, is_too_long};
 
 /// What a command comes to whose words were evaluated as far as nothing is run for them.
 #[derive(Drop)]
@@ -141,7 +141,7 @@ impl<H: Host> Engine<H> {
             → Does self.new self.old ended
             (built (names_of natives.now) H.table inner words.now))) }
         ensures expr { IfOk result (λ straight.
-            IfExpr straight (IsNamedExpr (names_of natives.now) words.now)) }
+            IfExpr straight (IsNamed Verb.Expr (names_of natives.now) words.now)) }
         ensures left { IfOk result (λ straight. IfLeft straight (self.new ≡ self.old)) }
         ensures rest { OnOk result (self.new ≡ record self.old { frames = self.new.frames }) }
         ensures holds { Holds self.new self.old }
@@ -179,7 +179,7 @@ impl<H: Host> Engine<H> {
             (act (names_of natives.now) H.table inner words.now))) }
         ensures expr { IfOk result (λ straight.
             IfExpr straight
-            (IsExpr (names_of natives.now) self.old.table.table words.now)) }
+            (CallsVerb Verb.Expr (names_of natives.now) self.old.table.table words.now)) }
         ensures left { IfOk result (λ straight. IfLeft straight (self.new ≡ self.old)) }
         ensures rest { OnOk result (self.new ≡ record self.old { frames = self.new.frames }) }
         ensures holds { Holds self.new self.old }
@@ -200,7 +200,7 @@ impl<H: Host> Engine<H> {
         ensures straight { OnOk result (Straightly self.new self.old) }
         ensures holds { Holds self.new self.old }
     {
-        if value.result.len() > MOST_BYTES {
+        if is_too_long(&value.result) {
             return Ok(Some(too_long(self.alloc)?));
         }
         if !self.pay(result_cost(&value.result)) {
@@ -251,7 +251,7 @@ impl<H: Host> Engine<H> {
     fn try_expr(&mut self, values: Gathered) -> Result<Tried, NoMemory>
         ensures means { IfOk result (λ tried.
             (names : Names) (levels : ℕ) (words : Words)
-            → IsExpr names self.old.table.table values
+            → CallsVerb Verb.Expr names self.old.table.table values
             → Tries names H.table levels words values tried self.new self.old) }
         ensures size { IfOk result (λ tried. IsLeftOf values tried) }
         ensures alone { IfOk result (λ tried. LeftAlone tried self.new self.old) }

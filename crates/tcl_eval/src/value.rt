@@ -2,17 +2,18 @@
 
 ghost use Rattle.std.specs.Prelude.{◌≡◌, [], IfOk};
 ghost use Rattle.tcl_host.specs.Codes as code_of;
-ghost use Rattle.tcl_eval.specs.Messages.{too_long};
+ghost use Rattle.tcl_eval.specs.Messages.{no_boolean, too_long};
 ghost use Rattle.tcl_eval.specs.Kept.{kept_value};
 ghost use Rattle.tcl_eval.specs.declared.gather.SoFar.{SoFar};
 ghost use Rattle.tcl_eval.specs.Eval.{ended, error_of, wrong_words_end, return_of, raised_of, break_of, continue_of, returned};
 
 use crate::gather::SoFar;
+use crate::message::no_boolean;
 use crate::stack::Ended;
 use crate::words::copy_word;
 use std::alloc::Global;
 use tcl_host::{BREAK, CONTINUE, ERROR, OK, RETURN};
-use txt_core::{MOST_BYTES, NoMemory, Text, Words, error_text};
+use txt_core::{NoMemory, Text, Words, error_text, is_too_long};
 
 /// A good end with the empty result.
 pub fn done(alloc: Global) -> Ended
@@ -51,7 +52,7 @@ pub fn kept_value(alloc: Global, so_far: SoFar) -> Result<Ended, NoMemory>
 pub fn judged(alloc: Global, text: Text) -> Result<Ended, NoMemory>
     ensures { IfOk result (λ value. value ≡ kept_value (SoFar.Kept text)) }
 {
-    if text.len() > MOST_BYTES {
+    if is_too_long(&text) {
         return too_long(alloc);
     }
     Ok(Ended {
@@ -76,13 +77,22 @@ pub fn failed(message: Text) -> Ended
 pub fn error(alloc: Global, message: Text) -> Result<Ended, NoMemory>
     ensures { IfOk result (λ value. value ≡ error_of message) }
 {
-    if message.len() > MOST_BYTES {
+    if is_too_long(&message) {
         return too_long(alloc);
     }
     Ok(Ended {
         code: ERROR,
         result: message,
     })
+}
+
+/// The error of a value that has no truth.
+#[cold]
+#[inline(never)]
+pub fn no_truth(alloc: Global, value: &Text) -> Result<Ended, NoMemory>
+    ensures { IfOk result (λ ended. ended ≡ error_of (no_boolean value.now)) }
+{
+    error(alloc, no_boolean(alloc, value.bytes())?)
 }
 
 /// A built-in has the wrong number of words.

@@ -39,3 +39,12 @@ pub returns-in-Evaluates-clause-means : goal.returns-in-Evaluates-clause-means
 returns-in-Evaluates-clause-means g c = λ levels.
     let alone = rw c.in-Evaluates.is at c.in_ok-value.ensures.alone in
     paid_none c.try_simple.new.self c.args.self.now alone
+
+pub returns-in-Left-clause-left : goal.returns-in-Left-clause-left
+returns-in-Left-clause-left g c = rw c.in-Left.is at c.in_ok-value.ensures.alone
+
+pub returns-in-Costly-clause-left : goal.returns-in-Costly-clause-left
+returns-in-Costly-clause-left g c = rw c.in-Costly.is at c.in_ok-value.ensures.alone
+
+pub returns-in-Evaluates-clause-left : goal.returns-in-Evaluates-clause-left
+returns-in-Evaluates-clause-left g c = rw c.in-Evaluates.is at c.in_ok-value.ensures.alone

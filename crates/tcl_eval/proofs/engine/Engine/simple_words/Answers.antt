@@ -1,4 +1,5 @@
-use Rattle.std.proofs.Common.{length, map, arith, ◌∙◌}
+use Rattle.std.proofs.Common.{length, map, arith, sym, ◌∙◌}
+use Rattle.std.proofs.lemmas.Bool.{ltb-true}
 use Rattle.tcl_parse.specs.Tree.{words}
 use Rattle.tcl_parse.specs.View.{word_of}
 use Rattle.tcl_eval.specs.Eval.{nested}
@@ -10,27 +11,29 @@ use Rattle.tcl_eval.proofs.OneBracket.{less_more}
 use Rattle.tcl_eval.proofs.Plain.{word_shorter, word_taken}
 use Rattle.tcl_eval.proofs.engine.Engine.simple_words.Goals as goal
 
-pub returns-then-self-cost-clause-means : goal.returns-then-self-cost-clause-means
-returns-then-self-cost-clause-means g c = λ ns levels k gv.
+pub returns-then-costly-clause-means : goal.returns-then-costly-clause-means
+returns-then-costly-clause-means g c = λ ns levels k gv.
     let t = g.H.Host.table in
     let e = c.args.self.now in
     let all = words (map word_of c.args.all.now) in
     let here = rw c.len.ensures at c.in-Some.ensures in
-    let values = c.push_copy.new.self in
-    costly_same ns t (nested ns t levels) (run_script_alike ns t levels) (words_from (length values) all) values k (state_of e) e.budget gv (rw c.cost.ensures at c.if-self-cost.true)
-    ∙ word_taken ns t levels all _ c.words.values values c.in-Some-ready_text.text.now k (state_of e) e.budget gv here c.in-Some-ready_text.ensures c.in_ok-push_copy-in-Some-ready_text.ensures
+    let values = c.join.new.self in
+    let joined = rw c.in_ok-word-in-Some-ready_text.ensures at c.in_ok-costly-in-Some-ready_text.ensures.words in
+    costly_same ns t (nested ns t levels) (run_script_alike ns t levels) (words_from (length values) all) values k (state_of e) e.budget gv (ltb-true c.args.self.now.budget _ (sym c.in_ok-costly-in-Some-ready_text.ensures.over ∙ c.if-costly.true))
+    ∙ word_taken ns t levels all _ c.words.values values c.in-Some-ready_text.text.now k (state_of e) e.budget gv here c.in-Some-ready_text.ensures joined
     ∙ c.words.invariant.means ns levels k gv
 
-pub words-preserved-else-self-cost : goal.words-preserved-else-self-cost
-words-preserved-else-self-cost g c =
+pub words-preserved-else-costly : goal.words-preserved-else-costly
+words-preserved-else-costly g c =
     let t = g.H.Host.table in
     let e = c.args.self.now in
     let all = words (map word_of c.args.all.now) in
     let here = rw c.len.ensures at c.in-Some.ensures in
-    let values = c.push_copy.new.self in
+    let values = c.join.new.self in
+    let joined = rw c.in_ok-word-in-Some-ready_text.ensures at c.in_ok-costly-in-Some-ready_text.ensures.words in
     record {
-      means = λ ns levels k gv. word_taken ns t levels all _ c.words.values values c.in-Some-ready_text.text.now k (state_of e) e.budget gv here c.in-Some-ready_text.ensures c.in_ok-push_copy-in-Some-ready_text.ensures ∙ c.words.invariant.means ns levels k gv;
-      shorter = omega (arith, word_shorter all _ c.words.values values c.in-Some-ready_text.text.now here c.in_ok-push_copy-in-Some-ready_text.ensures, c.words.invariant.shorter);
+      means = λ ns levels k gv. word_taken ns t levels all _ c.words.values values c.in-Some-ready_text.text.now k (state_of e) e.budget gv here c.in-Some-ready_text.ensures joined ∙ c.words.invariant.means ns levels k gv;
+      shorter = omega (arith, word_shorter all _ c.words.values values c.in-Some-ready_text.text.now here joined, c.words.invariant.shorter);
     }
 
 pub words-preserved : goal.words-preserved

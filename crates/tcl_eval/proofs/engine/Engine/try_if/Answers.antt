@@ -11,7 +11,5 @@ returns-clause-means g c = λ ws none.
     let values = c.args.values in
     let l : c.args.levels ≡ suc (c.args.levels - 1) = omega arith in
     let own = rw c.words.ensures at (c.is_if.ensures.own c.if-not-is_if.false) in
-    let native = rw c.words.ensures at (c.is_if.ensures.native c.if-not-is_if.false) in
-    let variable = rw c.words.ensures at (c.is_if.ensures.variable c.if-not-is_if.false) in
-    let verb = rw c.words.ensures at (c.is_if.ensures.verb c.if-not-is_if.false) in
-    if_levels ns t c.pay_if.new.self c.args.self.now c.in_ok-tried.tried ws (words_from (length values) ws) values c.args.levels (c.args.levels - 1) l (c.in_ok-tried.ensures.means (c.args.levels - 1) ws (own, native, variable, verb) none)
+    let named = rw c.words.ensures at (c.is_if.ensures.named c.if-not-is_if.false) in
+    if_levels ns t c.pay_if.new.self c.args.self.now c.in_ok-tried.tried ws (words_from (length values) ws) values c.args.levels (c.args.levels - 1) l (c.in_ok-tried.ensures.means (c.args.levels - 1) ws (own, named) none)
