@@ -64,11 +64,33 @@ fn order(numbers: bool, falls: bool, one: &Text, other: &Text) -> Ordering
     }
 }
 
+/// The list once more, each element with the number that it is where it is one: each comparison then
+/// reads no digits.
+fn numbered(alloc: Global, list: &[Text]) -> Result<Words, NoMemory>
+    ensures { IfOk result (λ copies. copies ≡ list.now) }
+{
+    let mut copies = Words::new(alloc);
+    'elements: for element in list {
+        copies.add(element.copy(alloc)?.noting_number())?;
+    }
+    Ok(copies)
+}
+
+/// The list once more, for sorting by number or by bytes.
+fn copies_of(alloc: Global, numbers: bool, list: &[Text]) -> Result<Words, NoMemory>
+    ensures { IfOk result (λ copies. copies ≡ list.now) }
+{
+    if numbers {
+        return numbered(alloc, list);
+    }
+    Words::of_copies(alloc, list)
+}
+
 /// The elements in order. Those that tie stay in their order.
 fn in_order(alloc: Global, numbers: bool, falls: bool, list: &Words) -> Result<Words, NoMemory>
     ensures { IfOk result (λ sorted. sorted ≡ in_order (sorts_before numbers falls) list.now) }
 {
-    let copies = Words::of_copies(alloc, list.as_slice())?;
+    let copies = copies_of(alloc, numbers, list.as_slice())?;
     let mut elements = copies.into_vec();
     elements.sort_by(|one, other| order(numbers, falls, one, other))?;
     Ok(Words::from_vec(elements))
