@@ -9,12 +9,13 @@ use crate::including::{ns_adp_include, page_answered};
 use crate::leaving::leaves_with;
 use crate::output::{ns_adp_append, ns_adp_puts};
 use crate::verb::{Verb, find_verb};
+use natives::Fault;
 use outside::Answer;
-use tcl_host::{HostReply, PAGE_ABORT, PAGE_BREAK, PAGE_RETURN, Refusal, ended};
+use tcl_host::{HostReply, PAGE_ABORT, PAGE_BREAK, PAGE_RETURN, ended};
 use txt_core::Words;
 
 /// Does a command.
-pub fn dispatch(host: &mut AdpHost, words: &Words) -> Result<HostReply, Refusal>
+pub fn dispatch(host: &mut AdpHost, words: &Words) -> Result<HostReply, Fault>
     ensures { Comes result host.new (page_call words.now host.old) }
 {
     let Some(verb) = find_verb(words.bytes_at(0)) else {
@@ -33,7 +34,7 @@ pub fn dispatch(host: &mut AdpHost, words: &Words) -> Result<HostReply, Refusal>
 }
 
 /// Goes on with the answer to a question that a command asked.
-pub fn answer(host: &mut AdpHost, words: &Words, given: &Answer) -> Result<HostReply, Refusal>
+pub fn answer(host: &mut AdpHost, words: &Words, given: &Answer) -> Result<HostReply, Fault>
     ensures { ComesTo result host.new (page_onward words.now given.now host.old) }
 {
     if words.bytes_at(0) != b"ns_adp_include".as_slice() {

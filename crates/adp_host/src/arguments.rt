@@ -7,13 +7,14 @@ ghost use Rattle.adp_host.specs.Arguments.{argument, argument_text, ns_adp_argc,
 
 use crate::checks::page_arguments;
 use crate::host::AdpHost;
+use natives::Fault;
 use std::alloc::Global;
-use tcl_host::{Refusal, integer, is_counted, require_words};
+use tcl_host::{integer, is_counted, require_words};
 use tcl_list::quote;
 use txt_core::{Text, Words, write_natural};
 
 /// `ns_adp_argc` gives how many arguments the page has.
-pub fn ns_adp_argc(host: &AdpHost, words: &Words) -> Result<Text, Refusal>
+pub fn ns_adp_argc(host: &AdpHost, words: &Words) -> Result<Text, Fault>
     ensures { EndsWith result host.now (ns_adp_argc words.now host.now) }
 {
     let alloc = host.alloc;
@@ -33,7 +34,7 @@ fn argument(args: &Words, place: i64) -> &[u8]
 }
 
 /// All arguments as a list, or the one at the place that the second word is.
-fn argument_text(alloc: Global, args: &Words, words: &Words) -> Result<Text, Refusal>
+fn argument_text(alloc: Global, args: &Words, words: &Words) -> Result<Text, Fault>
     ensures { (host : PageState) → args.now ≡ arguments host
         → EndsWith result host (argument_text words.now host) }
 {
@@ -45,7 +46,7 @@ fn argument_text(alloc: Global, args: &Words, words: &Words) -> Result<Text, Ref
 }
 
 /// `ns_adp_argv ?PLACE?` gives the list of the page's arguments, or the one at a place.
-pub fn ns_adp_argv(host: &AdpHost, words: &Words) -> Result<Text, Refusal>
+pub fn ns_adp_argv(host: &AdpHost, words: &Words) -> Result<Text, Fault>
     ensures { EndsWith result host.now (ns_adp_argv words.now host.now) }
 {
     let alloc = host.alloc;

@@ -6,7 +6,7 @@ ghost use Rattle.adp_host.specs.States.{arguments, has_page};
 ghost use Rattle.adp_host.specs.Answers.{Passes, Refused};
 
 use crate::host::AdpHost;
-use tcl_host::{Refusal, refuse};
+use natives::Fault;
 use txt_core::{Text, Words, error_text};
 
 /// The words behind the command's name.
@@ -20,23 +20,23 @@ pub fn behind_name(words: &Words) -> &[Text]
 }
 
 /// Goes on where a page is open.
-pub fn require_page(host: &AdpHost) -> Result<(), Refusal>
+pub fn require_page(host: &AdpHost) -> Result<(), Fault>
     ensures { Passes result (has_page host.now) not_in_page }
 {
     if !host.has_page() {
-        return Err(refuse(error_text::not_in_page(host.alloc)));
+        return Err(Fault::saying(error_text::not_in_page(host.alloc)));
     }
     Ok(())
 }
 
 /// The arguments of the innermost open page, where one is open.
-pub fn page_arguments(host: &AdpHost) -> Result<&Words, Refusal>
+pub fn page_arguments(host: &AdpHost) -> Result<&Words, Fault>
     ensures ok { IfOk result (λ args.
         (has_page host.now ≡ true) × (args.now ≡ arguments host.now)) }
     ensures err { IfErr result (λ refusal. Refused refusal (has_page host.now) not_in_page) }
 {
     match host.pages.as_slice().last() {
         Some(args) => Ok(args),
-        None => Err(refuse(error_text::not_in_page(host.alloc))),
+        None => Err(Fault::saying(error_text::not_in_page(host.alloc))),
     }
 }

@@ -8,15 +8,15 @@ ghost use Rattle.adp_host.specs.Includes.{ns_adp_include, enters_page, page_answ
 use crate::checks::{behind_name, require_page};
 use crate::host::AdpHost;
 use adp_parse::pieces;
+use natives::Fault;
 use outside::Answer;
 use tcl_host::{
-    HostReply, Refusal, is_page_path, page_path, page_question, page_told, require_fit,
-    require_words,
+    HostReply, is_page_path, page_path, page_question, page_told, require_fit, require_words,
 };
 use txt_core::{NoMemory, Text, Words};
 
 /// `ns_adp_include FILE WORD..` asks for the page.
-pub fn ns_adp_include(host: &mut AdpHost, words: &Words) -> Result<HostReply, Refusal>
+pub fn ns_adp_include(host: &mut AdpHost, words: &Words) -> Result<HostReply, Fault>
     ensures { Comes result host.new (ns_adp_include words.now host.old) }
 {
     let alloc = host.alloc;
@@ -41,11 +41,7 @@ fn enter(host: &mut AdpHost, words: &Words, page: &Text) -> Result<HostReply, No
 }
 
 /// Goes on with an `ns_adp_include` whose page was asked for.
-pub fn page_answered(
-    host: &mut AdpHost,
-    words: &Words,
-    answer: &Answer,
-) -> Result<HostReply, Refusal>
+pub fn page_answered(host: &mut AdpHost, words: &Words, answer: &Answer) -> Result<HostReply, Fault>
     ensures { ComesTo result host.new (page_answered words.now answer.now host.old) }
 {
     let alloc = host.alloc;

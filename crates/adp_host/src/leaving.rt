@@ -6,14 +6,15 @@ ghost use Rattle.adp_host.specs.Leaving.{is_end, is_error, leaves_with, page_lef
 
 use crate::checks::require_page;
 use crate::host::AdpHost;
+use natives::Fault;
 use tcl_host::{
-    BREAK, CONTINUE, ERROR, HostReply, OK, PAGE_ABORT, PAGE_BREAK, PAGE_RETURN, RETURN, Refusal,
-    is_counted, require_words,
+    BREAK, CONTINUE, ERROR, HostReply, OK, PAGE_ABORT, PAGE_BREAK, PAGE_RETURN, RETURN, is_counted,
+    require_words,
 };
 use txt_core::{Text, Words};
 
 /// Does a command that ends with a code.
-pub fn leaves_with(host: &AdpHost, code: u8, words: &Words) -> Result<HostReply, Refusal>
+pub fn leaves_with(host: &AdpHost, code: u8, words: &Words) -> Result<HostReply, Fault>
     ensures { Comes result host.now (leaves_with code words.now host.now) }
 {
     require_words(host.alloc, is_counted(words, 1, 1), words)?;

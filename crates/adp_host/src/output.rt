@@ -7,8 +7,9 @@ ghost use Rattle.adp_host.specs.Output.{output_too_long, overfills, put_out, put
 
 use crate::checks::{behind_name, require_page};
 use crate::host::AdpHost;
+use natives::Fault;
 use std::alloc::Global;
-use tcl_host::{Refusal, is_counted, refuse, require_fit, require_words};
+use tcl_host::{is_counted, require_fit, require_words};
 use txt_core::{NoMemory, Text, Words};
 
 /// How many bytes the output may have.
@@ -29,18 +30,18 @@ fn overfills(host: &AdpHost, text: &[u8]) -> bool
 }
 
 /// Puts a text at the end of the output, where that doesn't get too long.
-pub fn put_out(host: &mut AdpHost, text: &[u8]) -> Result<(), Refusal>
+pub fn put_out(host: &mut AdpHost, text: &[u8]) -> Result<(), Fault>
     ensures { PutsOut result host.new (put_out text.now host.old) }
 {
     if overfills(host, text) {
-        return Err(refuse(output_too_long(host.alloc)));
+        return Err(Fault::saying(output_too_long(host.alloc)));
     }
     host.output.append(text)?;
     Ok(())
 }
 
 /// Does a command that puts out a text.
-fn puts_out(host: &mut AdpHost, text: &[u8]) -> Result<Text, Refusal>
+fn puts_out(host: &mut AdpHost, text: &[u8]) -> Result<Text, Fault>
     ensures { EndsWith result host.new (puts_out text.now host.old) }
 {
     put_out(host, text)?;
@@ -48,7 +49,7 @@ fn puts_out(host: &mut AdpHost, text: &[u8]) -> Result<Text, Refusal>
 }
 
 /// `ns_adp_append WORD..`.
-pub fn ns_adp_append(host: &mut AdpHost, words: &Words) -> Result<Text, Refusal>
+pub fn ns_adp_append(host: &mut AdpHost, words: &Words) -> Result<Text, Fault>
     ensures { EndsWith result host.new (ns_adp_append words.now host.old) }
 {
     require_page(host)?;
@@ -76,7 +77,7 @@ fn line(alloc: Global, words: &Words) -> Result<Text, NoMemory>
 }
 
 /// `ns_adp_puts ?-nonewline? TEXT`.
-pub fn ns_adp_puts(host: &mut AdpHost, words: &Words) -> Result<Text, Refusal>
+pub fn ns_adp_puts(host: &mut AdpHost, words: &Words) -> Result<Text, Fault>
     ensures { EndsWith result host.new (ns_adp_puts words.now host.old) }
 {
     let alloc = host.alloc;

@@ -8,26 +8,26 @@ use Rattle.conn_host.proofs.Exits.{not_fit_there}
 use Rattle.conn_host.specs.Responding.{status_of}
 use Rattle.conn_host.specs.RequestCommands.{bytes_from}
 use Rattle.conn_host.specs.TextCommands.{up_to_last}
-use Rattle.tcl_host.specs.declared.refusal.Refusal.{Refusal}
-use Rattle.tcl_host.specs.declared.refusal.Refusal.TheVariants.{Error, NoMemory}
+use Rattle.natives.specs.declared.fault.Fault.{Fault}
+use Rattle.natives.specs.declared.fault.Fault.TheVariants.{Error, NoMemory}
 
-pub no_status : (e : Refusal) (checked : Checked ℤ) (words : List (List ℕ)) → Finds {A = ℤ} (Err e) checked → Finds {A = ℕ} (Err e) (status_of checked words)
+pub no_status : (e : Fault) (checked : Checked ℤ) (words : List (List ℕ)) → Finds {A = ℤ} (Err e) checked → Finds {A = ℕ} (Err e) (status_of checked words)
 no_status (Error text) (Ok n) words failed = absurd (cc)
 no_status (Error text) (Err message) words failed = cc
 no_status NoMemory checked words failed = tt
 
-pub no_moment : (e : Refusal) (checked : Checked ℕ) (words : List (List ℕ)) → Finds {A = ℕ} (Err e) checked → Finds {A = ℕ} (Err e) (up_to_last checked words)
+pub no_moment : (e : Fault) (checked : Checked ℕ) (words : List (List ℕ)) → Finds {A = ℕ} (Err e) checked → Finds {A = ℕ} (Err e) (up_to_last checked words)
 no_moment (Error text) (Ok n) words failed = absurd (cc)
 no_moment (Error text) (Err message) words failed = cc
 no_moment NoMemory checked words failed = tt
 
-pub no_first : (e : Refusal) (first most : Checked ℕ) (text : List ℕ) → Finds {A = ℕ} (Err e) first → Finds {A = List ℕ} (Err e) (bytes_from first most text)
+pub no_first : (e : Fault) (first most : Checked ℕ) (text : List ℕ) → Finds {A = ℕ} (Err e) first → Finds {A = List ℕ} (Err e) (bytes_from first most text)
 no_first (Error t) (Ok n) most text failed = absurd (cc)
 no_first (Error t) (Err message) (Ok m) text failed = cc
 no_first (Error t) (Err message) (Err other) text failed = cc
 no_first NoMemory first most text failed = tt
 
-pub no_most : (e : Refusal) (n : ℕ) (most : Checked ℕ) (text : List ℕ) → Finds {A = ℕ} (Err e) most → Finds {A = List ℕ} (Err e) (bytes_from (Ok n) most text)
+pub no_most : (e : Fault) (n : ℕ) (most : Checked ℕ) (text : List ℕ) → Finds {A = ℕ} (Err e) most → Finds {A = List ℕ} (Err e) (bytes_from (Ok n) most text)
 no_most (Error t) n (Ok m) text failed = absurd (cc)
 no_most (Error t) n (Err message) text failed = cc
 no_most NoMemory n most text failed = tt

@@ -7,8 +7,8 @@ use Rattle.tcl_host.specs.Answers.{Replies}
 use Rattle.tcl_host.specs.Leaf.{Leaf, says, wants, defines, stores, not_mine}
 use Rattle.tcl_host.specs.Outcomes.{EndsWith}
 use Rattle.tcl_host.specs.declared.host.HostReply.{HostReply}
-use Rattle.tcl_host.specs.declared.refusal.Refusal.{Refusal}
-use Rattle.tcl_host.specs.declared.refusal.Refusal.TheVariants.{Error, NoMemory}
+use Rattle.natives.specs.declared.fault.Fault.{Fault}
+use Rattle.natives.specs.declared.fault.Fault.TheVariants.{Error, NoMemory}
 use Rattle.conn_host.specs.Conns.{ConnState, output_set, output_fields}
 use Rattle.conn_host.specs.Responding.{respond, respond_where}
 use Rattle.conn_host.specs.Waiting.{first_sets, seen}
@@ -40,7 +40,7 @@ in_host whole (defines def conn) = defines def (whole conn)
 in_host whole (stores name value result conn) = stores name value result (whole conn)
 in_host whole (not_mine conn) = not_mine (whole conn)
 
-ends_in_host : (whole : ConnState → ConnState) (result : Result (List ℕ) Refusal) (conn : ConnState) (leaf : Leaf ConnState) → EndsWith result conn leaf → EndsWith result (whole conn) (in_host whole leaf)
+ends_in_host : (whole : ConnState → ConnState) (result : Result (List ℕ) Fault) (conn : ConnState) (leaf : Leaf ConnState) → EndsWith result conn leaf → EndsWith result (whole conn) (in_host whole leaf)
 ends_in_host whole (Ok text) conn leaf e = ap (λ (l : Leaf ConnState). in_host whole l) e
 ends_in_host whole (Err (Error message)) conn leaf e = ap (λ (l : Leaf ConnState). in_host whole l) e
 ends_in_host whole (Err NoMemory) conn leaf e = tt
@@ -50,7 +50,7 @@ same_respond waits None response conn = refl
 same_respond waits (Some given) response conn = refl
 
 -- a response is given alike, whether the sets wait or not
-pub respond_seen : (waits : Bool) (result : Result (List ℕ) Refusal) (response : Response) (before after : ConnState) → EndsWith result after (respond response before) → EndsWith result (seen waits after) (respond response (seen waits before))
+pub respond_seen : (waits : Bool) (result : Result (List ℕ) Fault) (response : Response) (before after : ConnState) → EndsWith result after (respond response before) → EndsWith result (seen waits after) (respond response (seen waits before))
 respond_seen waits result response before after e =
     subst (λ (l : Leaf ConnState). EndsWith result (seen waits after) l) (same_respond waits before.response response before)
     (ends_in_host (seen waits) result after (respond response before) e)

@@ -15,12 +15,13 @@ use crate::requested::{ns_conn, ns_queryget};
 use crate::responding::{ns_return, ns_returnnotfound, ns_returnredirect};
 use crate::setting::ns_set;
 use crate::verb::{Verb, find_verb};
+use natives::Fault;
 use outside::Answer;
-use tcl_host::{HostReply, Refusal, done, ended, reply_of};
+use tcl_host::{HostReply, done, ended, reply_of};
 use txt_core::{Text, Words};
 
 /// The reply to a command that ends with a result unless it is refused.
-fn end_of(came: Result<Text, Refusal>) -> HostReply
+fn end_of(came: Result<Text, Fault>) -> HostReply
     ensures { (host : ConnState) (leaf : Leaf ConnState) → EndsWith came host leaf
         → Replies result host leaf }
 {
@@ -31,7 +32,7 @@ fn end_of(came: Result<Text, Refusal>) -> HostReply
 }
 
 /// Does a command that never does more than end with a result.
-fn do_command(conn: &mut Conn, verb: Verb, words: &Words) -> Result<Text, Refusal>
+fn do_command(conn: &mut Conn, verb: Verb, words: &Words) -> Result<Text, Fault>
     requires not_open { verb ≢ Verb.Open }
     requires not_gets { verb ≢ Verb.Gets }
     requires not_return { verb ≢ Verb.NsReturn }
@@ -80,7 +81,7 @@ pub fn dispatch(host: &mut ConnHost, words: &Words) -> HostReply
 }
 
 /// Goes on with the answer to a question that a command asked, or is refused.
-fn answer(conn: &mut Conn, words: &Words, answer: &Answer) -> Result<HostReply, Refusal>
+fn answer(conn: &mut Conn, words: &Words, answer: &Answer) -> Result<HostReply, Fault>
     ensures { Comes result conn.new (conn_answer words.now answer.now conn.old) }
 {
     if words.bytes_at(0) != b"open".as_slice() {

@@ -10,11 +10,9 @@ use crate::conn::Conn;
 use crate::error::too_many_channels;
 use crate::id::{channel_at, channel_id};
 use chan_core::{ChanFault, Chans};
-use natives::word_at;
+use natives::{Fault, word_at};
 use outside::Answer;
-use tcl_host::{
-    HostReply, Refusal, done, is_page_path, page_question, page_told, refuse, require_fit,
-};
+use tcl_host::{HostReply, done, is_page_path, page_question, page_told, require_fit};
 use txt_core::{NoMemory, Text, Words, truth_text, write_int};
 
 /// The length of the line where there is none.
@@ -34,7 +32,7 @@ fn kept<T>(came: Result<T, ChanFault>) -> Result<T, NoMemory>
 }
 
 /// `open PATH` asks for the page.
-pub fn open(host: &mut Conn, words: &Words) -> Result<HostReply, Refusal>
+pub fn open(host: &mut Conn, words: &Words) -> Result<HostReply, Fault>
     ensures { Comes result host.new (open_page words.now host.old) }
 {
     let alloc = host.alloc;
@@ -45,19 +43,19 @@ pub fn open(host: &mut Conn, words: &Words) -> Result<HostReply, Refusal>
 }
 
 /// Opens a channel on a page, where one more may be.
-fn opens(host: &mut Conn, page: &Text) -> Result<Text, Refusal>
+fn opens(host: &mut Conn, page: &Text) -> Result<Text, Fault>
     ensures { EndsWith result host.new (opens page.now host.old) }
 {
     let alloc = host.alloc;
     match host.channels.open(page.copy(alloc)?) {
         Ok(number) => Ok(channel_id(alloc, number)?),
-        Err(ChanFault::Full) => Err(refuse(too_many_channels(alloc))),
-        Err(_) => Err(Refusal::NoMemory),
+        Err(ChanFault::Full) => Err(Fault::saying(too_many_channels(alloc))),
+        Err(_) => Err(Fault::NoMemory),
     }
 }
 
 /// Goes on with an `open` whose page was asked for.
-pub fn page_answered(host: &mut Conn, words: &Words, answer: &Answer) -> Result<Text, Refusal>
+pub fn page_answered(host: &mut Conn, words: &Words, answer: &Answer) -> Result<Text, Fault>
     ensures { EndsWith result host.new (page_answered words.now answer.now host.old) }
 {
     let page = page_told(host.alloc, words.bytes_at(1), answer)?;
@@ -75,7 +73,7 @@ fn line_length(line: &Option<Text>) -> i64
 }
 
 /// `gets ID ?NAME?` takes a line.
-pub fn gets(host: &mut Conn, words: &Words) -> Result<HostReply, Refusal>
+pub fn gets(host: &mut Conn, words: &Words) -> Result<HostReply, Fault>
     ensures { Comes result host.new (gets words.now host.old) }
 {
     let alloc = host.alloc;
@@ -106,7 +104,7 @@ fn read_all(channels: &mut Chans, number: u64) -> Result<Text, NoMemory>
 }
 
 /// `read ID ?N?` takes the bytes that are left, at most so many.
-pub fn read(host: &mut Conn, words: &Words) -> Result<Text, Refusal>
+pub fn read(host: &mut Conn, words: &Words) -> Result<Text, Fault>
     ensures { EndsWith result host.new (read words.now host.old) }
 {
     let alloc = host.alloc;
@@ -120,7 +118,7 @@ pub fn read(host: &mut Conn, words: &Words) -> Result<Text, Refusal>
 }
 
 /// `eof ID` tells whether no byte is left.
-pub fn eof(host: &mut Conn, words: &Words) -> Result<Text, Refusal>
+pub fn eof(host: &mut Conn, words: &Words) -> Result<Text, Fault>
     ensures { EndsWith result host.new (eof words.now host.old) }
 {
     let alloc = host.alloc;
@@ -131,7 +129,7 @@ pub fn eof(host: &mut Conn, words: &Words) -> Result<Text, Refusal>
 }
 
 /// `close ID` closes the channel.
-pub fn close(host: &mut Conn, words: &Words) -> Result<Text, Refusal>
+pub fn close(host: &mut Conn, words: &Words) -> Result<Text, Fault>
     ensures { EndsWith result host.new (close words.now host.old) }
 {
     let alloc = host.alloc;

@@ -9,9 +9,10 @@ ghost use Rattle.form_urlencoded.specs.Form.{decode, plus_to_space};
 use crate::checks::{count, require_count};
 use crate::conn::Conn;
 use http_resp::fixdate;
+use natives::Fault;
 use percent_encoding::{AsciiSet, NON_ALPHANUMERIC, ascii_set, percent_decode, percent_encode};
 use std::alloc::Global;
-use tcl_host::{Refusal, require_fit};
+use tcl_host::require_fit;
 use txt_core::{LAST_MOMENT, NoMemory, Text, Words, write_natural};
 
 /// The bytes that are escaped: all but letters, digits and `-_.~`.
@@ -55,7 +56,7 @@ fn decoded(alloc: Global, bytes: &[u8]) -> Result<Text, NoMemory>
 
 /// `ns_urlencode TEXT`.
 #[tactic(auto, using(crate::proofs::Exits::exits))]
-pub fn ns_urlencode(host: &mut Conn, words: &Words) -> Result<Text, Refusal>
+pub fn ns_urlencode(host: &mut Conn, words: &Words) -> Result<Text, Fault>
     ensures { EndsWith result host.new (ns_urlencode words.now host.old) }
 {
     require_count(host.alloc, 2, 2, words)?;
@@ -64,7 +65,7 @@ pub fn ns_urlencode(host: &mut Conn, words: &Words) -> Result<Text, Refusal>
 
 /// `ns_urldecode TEXT`.
 #[tactic(auto, using(crate::proofs::Exits::exits))]
-pub fn ns_urldecode(host: &mut Conn, words: &Words) -> Result<Text, Refusal>
+pub fn ns_urldecode(host: &mut Conn, words: &Words) -> Result<Text, Fault>
     ensures { EndsWith result host.new (ns_urldecode words.now host.old) }
 {
     require_count(host.alloc, 2, 2, words)?;
@@ -73,7 +74,7 @@ pub fn ns_urldecode(host: &mut Conn, words: &Words) -> Result<Text, Refusal>
 
 /// `ns_time` gives the moment of the run.
 #[tactic(auto, using(crate::proofs::Exits::exits))]
-pub fn ns_time(host: &mut Conn, words: &Words) -> Result<Text, Refusal>
+pub fn ns_time(host: &mut Conn, words: &Words) -> Result<Text, Fault>
     ensures { EndsWith result host.new (ns_time words.now host.old) }
 {
     require_count(host.alloc, 1, 1, words)?;
@@ -82,7 +83,7 @@ pub fn ns_time(host: &mut Conn, words: &Words) -> Result<Text, Refusal>
 
 /// The moment that the second word is.
 #[tactic(auto, using(crate::proofs::Finding::missing))]
-fn moment(alloc: Global, words: &Words) -> Result<u64, Refusal>
+fn moment(alloc: Global, words: &Words) -> Result<u64, Fault>
     ensures { Finds result (moment words.now) }
 {
     let moment = count(alloc, words, 1)?;
@@ -92,7 +93,7 @@ fn moment(alloc: Global, words: &Words) -> Result<u64, Refusal>
 
 /// `ns_httptime MOMENT` gives the moment as a date of HTTP.
 #[tactic(auto, using(crate::proofs::Exits::exits))]
-pub fn ns_httptime(host: &mut Conn, words: &Words) -> Result<Text, Refusal>
+pub fn ns_httptime(host: &mut Conn, words: &Words) -> Result<Text, Fault>
     ensures { EndsWith result host.new (ns_httptime words.now host.old) }
 {
     require_count(host.alloc, 2, 2, words)?;

@@ -10,10 +10,11 @@ use crate::responding::{require_connection, respond};
 use crate::verb::Verb;
 use http_req::BoxedRequest;
 use http_resp::{Response, SharedResponse};
+use natives::Fault;
 use outside::Answer;
 use std::alloc::Global;
 use std::marker::Model;
-use tcl_host::{HostReply, Refusal};
+use tcl_host::HostReply;
 use txt_core::{NoMemory, Pairs, Text, Words};
 
 /// What does the commands on a connection, on sets and on channels. Contracts see its state.
@@ -140,14 +141,14 @@ impl ConnHost {
     }
 
     /// Goes on where the run has a connection.
-    pub(crate) fn require_connection(&self) -> Result<(), Refusal>
+    pub(crate) fn require_connection(&self) -> Result<(), Fault>
         ensures { Passes result (is_some self.now.request) no_connection }
     {
         require_connection(&self.conn)
     }
 
     /// Gives a response, where none was given. No set is looked at.
-    pub(crate) fn respond(&mut self, response: Response) -> Result<Text, Refusal>
+    pub(crate) fn respond(&mut self, response: Response) -> Result<Text, Fault>
         ensures { EndsWith result self.new (respond response self.old) }
     {
         respond(&mut self.conn, response)

@@ -9,8 +9,8 @@ ghost use Rattle.conn_host.specs.Ids.{id_of, set_id, channel_id, written_so, num
 
 use crate::conn::Conn;
 use crate::error::{no_channel, no_set};
+use natives::Fault;
 use std::alloc::Global;
-use tcl_host::{Refusal, refuse};
 use txt_core::{NoMemory, Text, Words, read_int_bytes, write_int, write_natural};
 
 const SET: u8 = b's';
@@ -64,7 +64,7 @@ fn number_of(alloc: Global, letter: u8, word: &[u8]) -> Result<Option<u64>, NoMe
 }
 
 /// The number of the set whose id the word at a place is.
-pub fn set_at(host: &Conn, words: &Words, place: usize) -> Result<u64, Refusal>
+pub fn set_at(host: &Conn, words: &Words, place: usize) -> Result<u64, Fault>
     ensures finds { Finds result (set_at words.now place host.now) }
     ensures stands { IfOk result (λ number. set_of host.now.sets number ≢ None) }
 {
@@ -74,11 +74,11 @@ pub fn set_at(host: &Conn, words: &Words, place: usize) -> Result<u64, Refusal>
             return Ok(number);
         }
     }
-    Err(refuse(no_set(host.alloc, id)))
+    Err(Fault::saying(no_set(host.alloc, id)))
 }
 
 /// The number of the channel whose id the word at a place is.
-pub fn channel_at(host: &Conn, words: &Words, place: usize) -> Result<u64, Refusal>
+pub fn channel_at(host: &Conn, words: &Words, place: usize) -> Result<u64, Fault>
     ensures finds { Finds result (channel_at words.now place host.now) }
     ensures open { IfOk result (λ number. channel host.now.channels number ≢ None) }
 {
@@ -88,5 +88,5 @@ pub fn channel_at(host: &Conn, words: &Words, place: usize) -> Result<u64, Refus
             return Ok(number);
         }
     }
-    Err(refuse(no_channel(host.alloc, id)))
+    Err(Fault::saying(no_channel(host.alloc, id)))
 }

@@ -17,9 +17,9 @@ use crate::conn_verb::{ConnVerb, find_conn_verb};
 use crate::id::set_id;
 use crate::responding::require_connection;
 use http_req::Request;
-use natives::word_at;
+use natives::{Fault, word_at};
 use std::alloc::Global;
-use tcl_host::{Refusal, refuse, require_words};
+use tcl_host::require_words;
 use tcl_list::quote;
 use txt_core::{NoMemory, Text, Words, error_text, is_over_limit, write_natural};
 
@@ -79,18 +79,18 @@ fn part(bytes: &[u8], first: u64, most: u64) -> &[u8]
 }
 
 /// A copy of a part of the body, where it isn't over the limit of a value.
-fn not_long(alloc: Global, bytes: &[u8]) -> Result<Text, Refusal>
+fn not_long(alloc: Global, bytes: &[u8]) -> Result<Text, Fault>
     ensures { Finds result (not_long bytes.now) }
 {
     if is_over_limit(bytes.len()) {
-        return Err(refuse(error_text::too_long(alloc)));
+        return Err(Fault::saying(error_text::too_long(alloc)));
     }
     Ok(Text::new(alloc, bytes)?)
 }
 
 /// The body, or the part of it that the words say.
 #[tactic(auto, using(crate::proofs::Finding::missing))]
-fn content(alloc: Global, words: &Words, request: &Request) -> Result<Text, Refusal>
+fn content(alloc: Global, words: &Words, request: &Request) -> Result<Text, Fault>
     ensures { Finds result (content words.now request.now) }
 {
     if words.len() == 2 {
@@ -102,7 +102,7 @@ fn content(alloc: Global, words: &Words, request: &Request) -> Result<Text, Refu
 }
 
 /// What a subcommand tells of the request.
-fn tells(alloc: Global, verb: ConnVerb, words: &Words, request: &Request) -> Result<Text, Refusal>
+fn tells(alloc: Global, verb: ConnVerb, words: &Words, request: &Request) -> Result<Text, Fault>
     ensures { Finds result (tells verb words.now request.now) }
 {
     match verb {
@@ -126,7 +126,7 @@ fn tells(alloc: Global, verb: ConnVerb, words: &Words, request: &Request) -> Res
 
 /// `ns_conn SUBCOMMAND`, and `ns_conn content ?FIRST COUNT?`.
 #[tactic(auto, using(crate::proofs::Exits::exits))]
-pub fn ns_conn(host: &mut Conn, words: &Words) -> Result<Text, Refusal>
+pub fn ns_conn(host: &mut Conn, words: &Words) -> Result<Text, Fault>
     ensures { EndsWith result host.new (ns_conn words.now host.old) }
 {
     let alloc = host.alloc;
@@ -136,7 +136,7 @@ pub fn ns_conn(host: &mut Conn, words: &Words) -> Result<Text, Refusal>
     };
     require_words(alloc, verb.takes(words.len()), words)?;
     let Some(request) = &host.request else {
-        return Err(refuse(error_text::no_connection(alloc)));
+        return Err(Fault::saying(error_text::no_connection(alloc)));
     };
     tells(alloc, verb, words, request.get())
 }
@@ -168,7 +168,7 @@ fn query_value(host: &Conn, words: &Words) -> Result<Text, NoMemory>
 
 /// `ns_queryget KEY ?DEFAULT?`.
 #[tactic(auto, using(crate::proofs::Exits::exits))]
-pub fn ns_queryget(host: &mut Conn, words: &Words) -> Result<Text, Refusal>
+pub fn ns_queryget(host: &mut Conn, words: &Words) -> Result<Text, Fault>
     ensures { EndsWith result host.new (ns_queryget words.now host.old) }
 {
     require_count(host.alloc, 2, 3, words)?;

@@ -14,9 +14,9 @@ use crate::conn::Conn;
 use crate::host::ConnHost;
 use http_resp::status::{FOUND, NOT_FOUND};
 use http_resp::{Response, SharedResponse, plain};
-use natives::word_at;
+use natives::{Fault, word_at};
 use std::alloc::Global;
-use tcl_host::{Refusal, integer, refuse, require_fit};
+use tcl_host::{integer, require_fit};
 use txt_core::{NoMemory, Pairs, Text, Words, error_text};
 
 /// The statuses of responses.
@@ -68,7 +68,7 @@ fn is_url(text: &[u8]) -> bool
 
 /// The status that the second word is.
 #[tactic(auto, using(crate::proofs::Finding::missing))]
-fn status(alloc: Global, words: &Words) -> Result<u16, Refusal>
+fn status(alloc: Global, words: &Words) -> Result<u16, Fault>
     ensures { Finds result (status words.now) }
 {
     let number = integer(alloc, words, 1)?;
@@ -78,22 +78,22 @@ fn status(alloc: Global, words: &Words) -> Result<u16, Refusal>
 }
 
 /// Goes on where the run has a connection.
-pub fn require_connection(host: &Conn) -> Result<(), Refusal>
+pub fn require_connection(host: &Conn) -> Result<(), Fault>
     ensures { Passes result (is_some host.now.request) no_connection }
 {
     if host.request.is_none() {
-        return Err(refuse(error_text::no_connection(host.alloc)));
+        return Err(Fault::saying(error_text::no_connection(host.alloc)));
     }
     Ok(())
 }
 
 /// Gives a response, where none was given.
 #[tactic(auto, using(crate::proofs::Exits::exits))]
-pub fn respond(host: &mut Conn, response: Response) -> Result<Text, Refusal>
+pub fn respond(host: &mut Conn, response: Response) -> Result<Text, Fault>
     ensures { EndsWith result host.new (respond response host.old) }
 {
     if host.response.is_some() {
-        return Err(refuse(error_text::response_given(host.alloc)));
+        return Err(Fault::saying(error_text::response_given(host.alloc)));
     }
     let shared = SharedResponse::new(host.alloc, response)?;
     host.response = Some(shared);
@@ -116,7 +116,7 @@ fn typed(host: &ConnHost, status: u16, words: &Words) -> Result<Response, NoMemo
 
 /// `ns_return STATUS TYPE TEXT`.
 #[tactic(auto, using(crate::proofs::Exits::exits))]
-pub fn ns_return(host: &mut ConnHost, words: &Words) -> Result<Text, Refusal>
+pub fn ns_return(host: &mut ConnHost, words: &Words) -> Result<Text, Fault>
     ensures { EndsWith result host.new (ns_return words.now host.old) }
 {
     let alloc = host.alloc;
@@ -153,7 +153,7 @@ fn redirection(host: &Conn, url: &[u8]) -> Result<Response, NoMemory>
 
 /// `ns_returnredirect URL`.
 #[tactic(auto, using(crate::proofs::Exits::exits))]
-pub fn ns_returnredirect(host: &mut Conn, words: &Words) -> Result<Text, Refusal>
+pub fn ns_returnredirect(host: &mut Conn, words: &Words) -> Result<Text, Fault>
     ensures { EndsWith result host.new (ns_returnredirect words.now host.old) }
 {
     let alloc = host.alloc;
@@ -176,7 +176,7 @@ fn not_found(host: &Conn) -> Result<Response, NoMemory>
 
 /// `ns_returnnotfound`.
 #[tactic(auto, using(crate::proofs::Exits::exits))]
-pub fn ns_returnnotfound(host: &mut Conn, words: &Words) -> Result<Text, Refusal>
+pub fn ns_returnnotfound(host: &mut Conn, words: &Words) -> Result<Text, Fault>
     ensures { EndsWith result host.new (ns_returnnotfound words.now host.old) }
 {
     require_count(host.alloc, 1, 1, words)?;

@@ -10,12 +10,12 @@ use crate::conn::{Conn, kept};
 use crate::id::{set_at, set_id};
 use crate::set_field::{set_delete, set_key, set_value};
 use crate::set_verb::{SetVerb, find_set_verb};
-use natives::word_at;
-use tcl_host::{Refusal, require_words};
+use natives::{Fault, word_at};
+use tcl_host::require_words;
 use txt_core::{Text, Words, write_int, write_natural};
 
 /// `create ?NAME?`.
-fn set_create(host: &mut Conn, words: &Words) -> Result<Text, Refusal>
+fn set_create(host: &mut Conn, words: &Words) -> Result<Text, Fault>
     ensures { EndsWith result host.new (set_create words.now host.old) }
 {
     let name = Text::new(host.alloc, words.bytes_at(2))?;
@@ -25,7 +25,7 @@ fn set_create(host: &mut Conn, words: &Words) -> Result<Text, Refusal>
 }
 
 /// `put ID KEY VALUE`.
-fn set_put(host: &mut Conn, words: &Words) -> Result<Text, Refusal>
+fn set_put(host: &mut Conn, words: &Words) -> Result<Text, Fault>
     requires { length words.now ≡ 5 }
     ensures { EndsWith result host.new (on_set words.now (set_put words.now) host.old) }
 {
@@ -35,7 +35,7 @@ fn set_put(host: &mut Conn, words: &Words) -> Result<Text, Refusal>
 }
 
 /// `cput ID KEY VALUE`.
-fn set_cput(host: &mut Conn, words: &Words) -> Result<Text, Refusal>
+fn set_cput(host: &mut Conn, words: &Words) -> Result<Text, Fault>
     requires { length words.now ≡ 5 }
     ensures { EndsWith result host.new (on_set words.now (set_cput exact words.now) host.old) }
 {
@@ -45,7 +45,7 @@ fn set_cput(host: &mut Conn, words: &Words) -> Result<Text, Refusal>
 }
 
 /// `icput ID KEY VALUE`.
-fn set_icput(host: &mut Conn, words: &Words) -> Result<Text, Refusal>
+fn set_icput(host: &mut Conn, words: &Words) -> Result<Text, Fault>
     requires { length words.now ≡ 5 }
     ensures { EndsWith result host.new
         (on_set words.now (set_cput ignoring_case words.now) host.old) }
@@ -56,7 +56,7 @@ fn set_icput(host: &mut Conn, words: &Words) -> Result<Text, Refusal>
 }
 
 /// `update ID KEY VALUE`.
-fn set_update(host: &mut Conn, words: &Words) -> Result<Text, Refusal>
+fn set_update(host: &mut Conn, words: &Words) -> Result<Text, Fault>
     requires { length words.now ≡ 5 }
     ensures { EndsWith result host.new (on_set words.now (set_update words.now) host.old) }
 {
@@ -66,7 +66,7 @@ fn set_update(host: &mut Conn, words: &Words) -> Result<Text, Refusal>
 }
 
 /// `get ID KEY`.
-fn set_get(host: &mut Conn, words: &Words) -> Result<Text, Refusal>
+fn set_get(host: &mut Conn, words: &Words) -> Result<Text, Fault>
     requires { length words.now ≡ 4 }
     ensures { EndsWith result host.new (on_set words.now (set_get exact words.now) host.old) }
 {
@@ -75,7 +75,7 @@ fn set_get(host: &mut Conn, words: &Words) -> Result<Text, Refusal>
 }
 
 /// `iget ID KEY`.
-fn set_iget(host: &mut Conn, words: &Words) -> Result<Text, Refusal>
+fn set_iget(host: &mut Conn, words: &Words) -> Result<Text, Fault>
     requires { length words.now ≡ 4 }
     ensures { EndsWith result host.new
         (on_set words.now (set_get ignoring_case words.now) host.old) }
@@ -85,7 +85,7 @@ fn set_iget(host: &mut Conn, words: &Words) -> Result<Text, Refusal>
 }
 
 /// `find ID KEY`.
-fn set_find(host: &mut Conn, words: &Words) -> Result<Text, Refusal>
+fn set_find(host: &mut Conn, words: &Words) -> Result<Text, Fault>
     requires { length words.now ≡ 4 }
     ensures { EndsWith result host.new (on_set words.now (set_find exact words.now) host.old) }
 {
@@ -95,7 +95,7 @@ fn set_find(host: &mut Conn, words: &Words) -> Result<Text, Refusal>
 }
 
 /// `ifind ID KEY`.
-fn set_ifind(host: &mut Conn, words: &Words) -> Result<Text, Refusal>
+fn set_ifind(host: &mut Conn, words: &Words) -> Result<Text, Fault>
     requires { length words.now ≡ 4 }
     ensures { EndsWith result host.new
         (on_set words.now (set_find ignoring_case words.now) host.old) }
@@ -106,7 +106,7 @@ fn set_ifind(host: &mut Conn, words: &Words) -> Result<Text, Refusal>
 }
 
 /// `delkey ID KEY`.
-fn set_delkey(host: &mut Conn, words: &Words) -> Result<Text, Refusal>
+fn set_delkey(host: &mut Conn, words: &Words) -> Result<Text, Fault>
     requires { length words.now ≡ 4 }
     ensures { EndsWith result host.new (on_set words.now (set_delkey exact words.now) host.old) }
 {
@@ -116,7 +116,7 @@ fn set_delkey(host: &mut Conn, words: &Words) -> Result<Text, Refusal>
 }
 
 /// `idelkey ID KEY`.
-fn set_idelkey(host: &mut Conn, words: &Words) -> Result<Text, Refusal>
+fn set_idelkey(host: &mut Conn, words: &Words) -> Result<Text, Fault>
     requires { length words.now ≡ 4 }
     ensures { EndsWith result host.new
         (on_set words.now (set_delkey ignoring_case words.now) host.old) }
@@ -127,7 +127,7 @@ fn set_idelkey(host: &mut Conn, words: &Words) -> Result<Text, Refusal>
 }
 
 /// `truncate ID N`.
-fn set_truncate(host: &mut Conn, words: &Words) -> Result<Text, Refusal>
+fn set_truncate(host: &mut Conn, words: &Words) -> Result<Text, Fault>
     requires { length words.now ≡ 4 }
     ensures { EndsWith result host.new (on_set words.now (set_truncate words.now) host.old) }
 {
@@ -138,7 +138,7 @@ fn set_truncate(host: &mut Conn, words: &Words) -> Result<Text, Refusal>
 }
 
 /// `merge HIGH LOW`.
-fn set_merge(host: &mut Conn, words: &Words) -> Result<Text, Refusal>
+fn set_merge(host: &mut Conn, words: &Words) -> Result<Text, Fault>
     requires { length words.now ≡ 4 }
     ensures { EndsWith result host.new (on_set words.now (set_merge words.now) host.old) }
 {
@@ -149,7 +149,7 @@ fn set_merge(host: &mut Conn, words: &Words) -> Result<Text, Refusal>
 }
 
 /// `copy ID`.
-fn set_copy(host: &mut Conn, words: &Words) -> Result<Text, Refusal>
+fn set_copy(host: &mut Conn, words: &Words) -> Result<Text, Fault>
     ensures { EndsWith result host.new (on_set words.now set_copy host.old) }
 {
     let set = set_at(host, words, 2)?;
@@ -159,7 +159,7 @@ fn set_copy(host: &mut Conn, words: &Words) -> Result<Text, Refusal>
 }
 
 /// `free ID`.
-fn set_free(host: &mut Conn, words: &Words) -> Result<Text, Refusal>
+fn set_free(host: &mut Conn, words: &Words) -> Result<Text, Fault>
     ensures { EndsWith result host.new (on_set words.now set_free host.old) }
 {
     let set = set_at(host, words, 2)?;
@@ -168,7 +168,7 @@ fn set_free(host: &mut Conn, words: &Words) -> Result<Text, Refusal>
 }
 
 /// `size ID`.
-fn set_size(host: &mut Conn, words: &Words) -> Result<Text, Refusal>
+fn set_size(host: &mut Conn, words: &Words) -> Result<Text, Fault>
     ensures { EndsWith result host.new (on_set words.now set_size host.old) }
 {
     let set = set_at(host, words, 2)?;
@@ -177,7 +177,7 @@ fn set_size(host: &mut Conn, words: &Words) -> Result<Text, Refusal>
 }
 
 /// `name ID`.
-fn set_name(host: &mut Conn, words: &Words) -> Result<Text, Refusal>
+fn set_name(host: &mut Conn, words: &Words) -> Result<Text, Fault>
     ensures { EndsWith result host.new (on_set words.now set_name host.old) }
 {
     let set = set_at(host, words, 2)?;
@@ -185,7 +185,7 @@ fn set_name(host: &mut Conn, words: &Words) -> Result<Text, Refusal>
 }
 
 /// Does a subcommand that has its number of words.
-fn do_set(host: &mut Conn, verb: SetVerb, words: &Words) -> Result<Text, Refusal>
+fn do_set(host: &mut Conn, verb: SetVerb, words: &Words) -> Result<Text, Fault>
     requires { set_takes verb (length words.now) ≡ true }
     ensures { EndsWith result host.new (does_set verb words.now host.old) }
 {
@@ -214,7 +214,7 @@ fn do_set(host: &mut Conn, verb: SetVerb, words: &Words) -> Result<Text, Refusal
 }
 
 /// `ns_set SUBCOMMAND ..`.
-pub fn ns_set(host: &mut Conn, words: &Words) -> Result<Text, Refusal>
+pub fn ns_set(host: &mut Conn, words: &Words) -> Result<Text, Fault>
     ensures { EndsWith result host.new (ns_set words.now host.old) }
 {
     require_count(host.alloc, 2, 5, words)?;

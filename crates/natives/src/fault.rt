@@ -1,14 +1,15 @@
 //! Why a command has no result.
 
-ghost use Rattle.std.specs.Prelude.{◌≡◌, IfOk};
+ghost use Rattle.std.specs.Prelude.{◌≡◌, IfOk, MatchResult};
 ghost use Rattle.txt_core.specs.Names.{Bytes};
 ghost use Rattle.natives.specs.Answers.{Says};
+ghost use Rattle.natives.specs.declared.fault.Fault.TheVariants as why;
 ghost use Rattle.txt_core.specs.ErrorTexts.{wrong_words, unknown_subcommand, bad_value, no_integer, no_list, too_long, overflow};
 
 use std::alloc::{AllocError, Global};
 use txt_core::{NoMemory, Text, error_text};
 
-/// Why a command has no result.
+/// Why a command has no result: one of the natives, or one of a host.
 #[derive(Debug, Drop)]
 pub enum Fault {
     /// An error, with its text.
@@ -40,7 +41,8 @@ impl From<AllocError> for Fault {
 impl Fault {
     /// The error of this text, or want of memory where there is no text for want of it.
     pub fn saying(text: Result<Text, NoMemory>) -> Fault
-        ensures { (said : Bytes) → IfOk text (λ t. t ≡ said) → Says said result }
+        ensures gives { MatchResult text (λ t. result ≡ why.Error t) (λ _. result ≡ why.NoMemory) }
+        ensures says { (said : Bytes) → IfOk text (λ t. t ≡ said) → Says said result }
     {
         match text {
             Ok(text) => Fault::Error(text),

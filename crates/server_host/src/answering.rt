@@ -12,12 +12,13 @@ use crate::reply::reply_of;
 use crate::scheduling::{ns_schedule_proc, ns_unschedule_proc};
 use crate::sharing::nsv;
 use crate::verb::{Verb, find_verb};
+use natives::Fault;
 use outside::Answer;
-use tcl_host::{HostReply, Refusal, done, refuse};
+use tcl_host::{HostReply, done};
 use txt_core::{Text, Words};
 
 /// Does a command that is neither of the connection nor of pages.
-fn dispatch(host: &mut RunHost, verb: Verb, words: &Words) -> Result<HostReply, Refusal>
+fn dispatch(host: &mut RunHost, verb: Verb, words: &Words) -> Result<HostReply, Fault>
     ensures { Comes result host.new (does verb words.now host.old) }
 {
     match verb {
@@ -67,14 +68,14 @@ pub fn call(host: &mut RunHost, words: &Words) -> HostReply
 }
 
 /// Goes on with the answer to a question that a command asks once and that wants no page.
-fn said(host: &RunHost, answer: &Answer) -> Result<HostReply, Refusal>
+fn said(host: &RunHost, answer: &Answer) -> Result<HostReply, Fault>
     ensures { Comes result host.now (said answer.now host.now) }
 {
     match answer {
         Answer::Said(text) => Ok(done(text.copy(host.alloc)?)),
-        Answer::Failed(why) => Err(refuse(why.copy(host.alloc))),
+        Answer::Failed(why) => Err(Fault::saying(why.copy(host.alloc))),
         Answer::Page(_) | Answer::NoPage | Answer::PageFault => {
-            Err(Refusal::Error(Text::empty(host.alloc)))
+            Err(Fault::Error(Text::empty(host.alloc)))
         }
     }
 }

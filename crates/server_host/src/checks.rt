@@ -7,7 +7,7 @@ ghost use Rattle.server_host.specs.Checks.{is_defining};
 
 use crate::host::RunHost;
 use crate::kind::is_defining;
-use tcl_host::{Refusal, refuse};
+use natives::Fault;
 use txt_core::{Text, Words, error_text};
 
 /// The words from a place on.
@@ -22,11 +22,11 @@ pub fn words_from(words: &Words, place: usize) -> &[Text]
 }
 
 /// Goes on in a definition run.
-pub fn require_definition_run(host: &RunHost) -> Result<(), Refusal>
+pub fn require_definition_run(host: &RunHost) -> Result<(), Fault>
     ensures { Passes result (is_defining host.now.kind) only_in_definition_run }
 {
     if !is_defining(host.kind) {
-        return Err(refuse(error_text::only_in_definition_run(host.alloc)));
+        return Err(Fault::saying(error_text::only_in_definition_run(host.alloc)));
     }
     Ok(())
 }

@@ -9,9 +9,10 @@ ghost use Rattle.server_host.specs.Sharing.{names_question, asks_names, nsv_name
 
 use crate::checks::words_from;
 use crate::host::RunHost;
+use natives::Fault;
 use outside::{Answer, Question, Service};
 use std::alloc::Global;
-use tcl_host::{HostReply, Refusal, done, is_counted, refuse, require_words};
+use tcl_host::{HostReply, done, is_counted, require_words};
 use tcl_list::{ListFault, quote, split};
 use txt_core::{BUCKET_COUNT, NoMemory, Text, Words, error_text, write_natural};
 
@@ -38,7 +39,7 @@ fn ask_names(host: &mut RunHost, words: &Words) -> Result<HostReply, NoMemory>
 }
 
 /// `nsv_names ?GLOB?`.
-pub fn nsv_names(host: &mut RunHost, words: &Words) -> Result<HostReply, Refusal>
+pub fn nsv_names(host: &mut RunHost, words: &Words) -> Result<HostReply, Fault>
     ensures { Comes result host.new (nsv_names words.now host.old) }
 {
     require_words(host.alloc, is_counted(words, 1, 2), words)?;
@@ -79,7 +80,7 @@ fn in_order(alloc: Global, names: &Words) -> Result<Words, NoMemory>
 }
 
 /// All buckets have answered, and no answer is kept.
-fn names_end(host: &mut RunHost) -> Result<HostReply, Refusal>
+fn names_end(host: &mut RunHost) -> Result<HostReply, Fault>
     ensures { Comes result host.new
         (names_end (all_names host.old.gathered) (ungathered host.old)) }
 {
@@ -88,13 +89,13 @@ fn names_end(host: &mut RunHost) -> Result<HostReply, Refusal>
     host.gathered.clear();
     match names {
         Ok(names) => Ok(done(quote(alloc, &in_order(alloc, &names)?)?)),
-        Err(ListFault::Bad { at }) => Err(refuse(error_text::no_list(alloc, at))),
-        Err(ListFault::NoMemory) => Err(Refusal::NoMemory),
+        Err(ListFault::Bad { at }) => Err(Fault::saying(error_text::no_list(alloc, at))),
+        Err(ListFault::NoMemory) => Err(Fault::NoMemory),
     }
 }
 
 /// Asks the next bucket, or ends where all have answered.
-fn names_next(host: &mut RunHost, words: &Words) -> Result<HostReply, Refusal>
+fn names_next(host: &mut RunHost, words: &Words) -> Result<HostReply, Fault>
     ensures { Comes result host.new (names_next words.now host.old.gathered host.old) }
 {
     let bucket = host.gathered.len();
@@ -106,11 +107,11 @@ fn names_next(host: &mut RunHost, words: &Words) -> Result<HostReply, Refusal>
 }
 
 /// Ends `nsv_names` with an error of this text, and no answer is kept.
-fn refuse_names(host: &mut RunHost, why: Text) -> Result<HostReply, Refusal>
+fn refuse_names(host: &mut RunHost, why: Text) -> Result<HostReply, Fault>
     ensures { Comes result host.new (fails why (ungathered host.old)) }
 {
     host.gathered.clear();
-    Err(Refusal::Error(why))
+    Err(Fault::Error(why))
 }
 
 /// A bucket answers `nsv_names`.
@@ -118,7 +119,7 @@ pub fn names_answered(
     host: &mut RunHost,
     words: &Words,
     answer: &Answer,
-) -> Result<HostReply, Refusal>
+) -> Result<HostReply, Fault>
     ensures { Comes result host.new (names_answered words.now answer.now host.old) }
 {
     match answer {

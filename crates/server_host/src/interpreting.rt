@@ -14,12 +14,11 @@ use crate::kind::is_defining;
 use crate::reply::done_without_result;
 use blueprint::script_of;
 use cmd_table::Def;
+use natives::Fault;
 use outside::{Question, Service};
 use std::alloc::Global;
 use tcl_frame::is_element_name;
-use tcl_host::{
-    HostReply, Refusal, done, is_counted, no_subcommand, refuse, require_fit, require_words,
-};
+use tcl_host::{HostReply, done, is_counted, no_subcommand, require_fit, require_words};
 use txt_core::{NoMemory, Text, Words, write_natural};
 
 /// A question of one word.
@@ -33,7 +32,7 @@ fn question(alloc: Global, service: Service, word: &[u8]) -> Result<Question, No
 }
 
 /// `ns_ictl oncleanup SCRIPT`, whose number of words is right.
-fn clean_up(host: &RunHost, words: &Words) -> Result<HostReply, Refusal>
+fn clean_up(host: &RunHost, words: &Words) -> Result<HostReply, Fault>
     ensures { Comes result host.now (cleans_up words.now host.now) }
 {
     require_definition_run(host)?;
@@ -52,7 +51,7 @@ fn is_element(words: &Words, place: usize) -> bool
 }
 
 /// `ns_ictl global NAME VALUE`, whose number of words is right.
-fn set_global(host: &RunHost, words: &Words) -> Result<HostReply, Refusal>
+fn set_global(host: &RunHost, words: &Words) -> Result<HostReply, Fault>
     ensures { Comes result host.now (sets_global words.now host.now) }
 {
     require_definition_run(host)?;
@@ -63,21 +62,21 @@ fn set_global(host: &RunHost, words: &Words) -> Result<HostReply, Refusal>
 }
 
 /// `ns_ictl get`, whose number of words is right.
-fn get(host: &RunHost) -> Result<HostReply, Refusal>
+fn get(host: &RunHost) -> Result<HostReply, Fault>
     ensures { Comes result host.now (gives_script host.now) }
 {
     Ok(done(script_of(host.alloc, &host.blueprint.defs)?))
 }
 
 /// `ns_ictl epoch`, whose number of words is right.
-fn epoch(host: &RunHost) -> Result<HostReply, Refusal>
+fn epoch(host: &RunHost) -> Result<HostReply, Fault>
     ensures { Comes result host.now (gives_epoch host.now) }
 {
     Ok(done(write_natural(host.alloc, host.blueprint.epoch)?))
 }
 
 /// `ns_ictl save SCRIPT`, whose number of words is right.
-fn save(host: &RunHost, words: &Words) -> Result<HostReply, Refusal>
+fn save(host: &RunHost, words: &Words) -> Result<HostReply, Fault>
     ensures { Comes result host.now (saves words.now host.now) }
 {
     let asked = question(host.alloc, Service::Save, words.bytes_at(2))?;
@@ -85,7 +84,7 @@ fn save(host: &RunHost, words: &Words) -> Result<HostReply, Refusal>
 }
 
 /// Does a subcommand of `ns_ictl`, whose number of words is right.
-fn ictl_does(host: &mut RunHost, verb: IctlVerb, words: &Words) -> Result<HostReply, Refusal>
+fn ictl_does(host: &mut RunHost, verb: IctlVerb, words: &Words) -> Result<HostReply, Fault>
     ensures { Comes result host.new (ictl_does verb words.now host.old) }
 {
     match verb {
@@ -102,7 +101,7 @@ fn ictl_does(host: &mut RunHost, verb: IctlVerb, words: &Words) -> Result<HostRe
 }
 
 /// Does a subcommand of `ns_ictl`, where its number of words is right.
-fn ictl_by_verb(host: &mut RunHost, verb: IctlVerb, words: &Words) -> Result<HostReply, Refusal>
+fn ictl_by_verb(host: &mut RunHost, verb: IctlVerb, words: &Words) -> Result<HostReply, Fault>
     ensures { Comes result host.new (ictl_by_verb (Some verb) words.now host.old) }
 {
     require_words(host.alloc, words.len() == verb.count(), words)?;
@@ -110,28 +109,28 @@ fn ictl_by_verb(host: &mut RunHost, verb: IctlVerb, words: &Words) -> Result<Hos
 }
 
 /// `ns_ictl` with its subcommands.
-pub fn ns_ictl(host: &mut RunHost, words: &Words) -> Result<HostReply, Refusal>
+pub fn ns_ictl(host: &mut RunHost, words: &Words) -> Result<HostReply, Fault>
     ensures { Comes result host.new (ns_ictl words.now host.old) }
 {
     require_words(host.alloc, is_counted(words, 2, 4), words)?;
     match find_ictl_verb(words.bytes_at(1)) {
-        None => Err(refuse(no_subcommand(host.alloc, words))),
+        None => Err(Fault::saying(no_subcommand(host.alloc, words))),
         Some(verb) => ictl_by_verb(host, verb, words),
     }
 }
 
 /// Goes on in a run that makes no definitions of the blueprint.
-fn require_no_definition_run(host: &RunHost) -> Result<(), Refusal>
+fn require_no_definition_run(host: &RunHost) -> Result<(), Fault>
     ensures { Passes result (not (is_defining host.now.kind)) inside_itself }
 {
     if is_defining(host.kind) {
-        return Err(refuse(Text::new(host.alloc, b"ns_eval inside ns_eval")));
+        return Err(Fault::saying(Text::new(host.alloc, b"ns_eval inside ns_eval")));
     }
     Ok(())
 }
 
 /// `ns_eval SCRIPT`.
-pub fn ns_eval(host: &RunHost, words: &Words) -> Result<HostReply, Refusal>
+pub fn ns_eval(host: &RunHost, words: &Words) -> Result<HostReply, Fault>
     ensures { Comes result host.now (ns_eval words.now host.now) }
 {
     require_words(host.alloc, is_counted(words, 2, 2), words)?;

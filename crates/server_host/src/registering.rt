@@ -9,8 +9,9 @@ use crate::checks::{require_definition_run, words_from};
 use crate::host::RunHost;
 use blueprint::{is_filter_method, is_method, stage_named};
 use cmd_table::{Def, When};
+use natives::Fault;
 use std::alloc::Global;
-use tcl_host::{HostReply, Refusal, refuse, require_fit, require_words, unfit};
+use tcl_host::{HostReply, require_fit, require_words, unfit};
 use txt_core::{NoMemory, Text, Words, begins_with_slash};
 
 /// Whether the second word is the option by which the paths below the URL aren't served.
@@ -45,12 +46,7 @@ fn route(alloc: Global, inherit: bool, place: usize, words: &Words) -> Result<De
 }
 
 /// Registers a procedure by the words from a place on.
-fn register(
-    host: &RunHost,
-    inherit: bool,
-    place: usize,
-    words: &Words,
-) -> Result<HostReply, Refusal>
+fn register(host: &RunHost, inherit: bool, place: usize, words: &Words) -> Result<HostReply, Fault>
     requires { place ≤ 2 }
     ensures { Comes result host.now (registers inherit place words.now host.now) }
 {
@@ -62,7 +58,7 @@ fn register(
 }
 
 /// `ns_register_proc ?-noinherit? METHOD URL PROC WORD*`.
-pub fn ns_register_proc(host: &RunHost, words: &Words) -> Result<HostReply, Refusal>
+pub fn ns_register_proc(host: &RunHost, words: &Words) -> Result<HostReply, Fault>
     ensures { Comes result host.now (ns_register_proc words.now host.now) }
 {
     let place = method_place(words);
@@ -85,7 +81,7 @@ fn filter(alloc: Global, when: When, words: &Words) -> Result<Def, NoMemory>
 }
 
 /// Registers a filter for a stage.
-fn register_filter(host: &RunHost, when: When, words: &Words) -> Result<HostReply, Refusal>
+fn register_filter(host: &RunHost, when: When, words: &Words) -> Result<HostReply, Fault>
     ensures { Comes result host.now (registers_filter (Some when) words.now host.now) }
 {
     require_fit(host.alloc, is_filter_method(words.bytes_at(2)), words, 2)?;
@@ -93,13 +89,13 @@ fn register_filter(host: &RunHost, when: When, words: &Words) -> Result<HostRepl
 }
 
 /// `ns_register_filter WHEN METHOD GLOB PROC WORD*`.
-pub fn ns_register_filter(host: &RunHost, words: &Words) -> Result<HostReply, Refusal>
+pub fn ns_register_filter(host: &RunHost, words: &Words) -> Result<HostReply, Fault>
     ensures { Comes result host.now (ns_register_filter words.now host.now) }
 {
     require_words(host.alloc, words.len() >= 5, words)?;
     require_definition_run(host)?;
     match stage_named(words.bytes_at(1)) {
-        None => Err(refuse(unfit(host.alloc, words, 1))),
+        None => Err(Fault::saying(unfit(host.alloc, words, 1))),
         Some(when) => register_filter(host, when, words),
     }
 }

@@ -7,8 +7,9 @@ ghost use Rattle.tcl_host.specs.Leaf.{Leaf, goes};
 ghost use Rattle.server_host.specs.Hosts.{HostState};
 ghost use Rattle.server_host.specs.Answers.{Comes};
 
+use natives::Fault;
 use std::alloc::Global;
-use tcl_host::{ERROR, HostReply, Refusal, done};
+use tcl_host::{ERROR, HostReply, done};
 use txt_core::Text;
 
 /// A good end without a result.
@@ -19,7 +20,7 @@ pub fn done_without_result(alloc: Global) -> HostReply
 }
 
 /// What a command came to, as the reply of the host.
-pub fn reply_of(came: Result<HostReply, Refusal>) -> HostReply
+pub fn reply_of(came: Result<HostReply, Fault>) -> HostReply
     ensures call { (host : HostState) (leaf : Leaf HostState) → Comes came host leaf
         → Replies result host leaf }
     ensures answer { (host : HostState) (leaf : Leaf HostState) → Comes came host leaf
@@ -27,10 +28,10 @@ pub fn reply_of(came: Result<HostReply, Refusal>) -> HostReply
 {
     match came {
         Ok(reply) => reply,
-        Err(Refusal::Error(message)) => HostReply::Done {
+        Err(Fault::Error(message)) => HostReply::Done {
             code: ERROR,
             result: message,
         },
-        Err(Refusal::NoMemory) => HostReply::NoMemory,
+        Err(Fault::NoMemory) => HostReply::NoMemory,
     }
 }

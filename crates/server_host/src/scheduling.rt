@@ -6,13 +6,14 @@ ghost use Rattle.server_host.specs.Answers.{Comes};
 ghost use Rattle.server_host.specs.Scheduling.{asks_schedule, is_once, is_schedule, schedules, by_option, ns_schedule_proc, is_id, unschedules, ns_unschedule_proc};
 
 use crate::host::RunHost;
+use natives::Fault;
 use outside::{Question, Service};
 use sched_core::{is_once_option, is_period};
-use tcl_host::{HostReply, Refusal, integer, is_counted, refuse, require_fit, require_words};
+use tcl_host::{HostReply, integer, is_counted, require_fit, require_words};
 use txt_core::{Words, error_text, read_int_bytes};
 
 /// Asks the schedule these words.
-fn ask(host: &RunHost, words: &Words) -> Result<HostReply, Refusal>
+fn ask(host: &RunHost, words: &Words) -> Result<HostReply, Fault>
     ensures { Comes result host.now (asks_schedule words.now host.now) }
 {
     Ok(HostReply::Ask(Question {
@@ -40,7 +41,7 @@ fn is_schedule(words: &Words) -> bool
 }
 
 /// Asks the schedule, where the word at a place is a number of seconds that may be.
-fn schedule(host: &RunHost, place: usize, words: &Words) -> Result<HostReply, Refusal>
+fn schedule(host: &RunHost, place: usize, words: &Words) -> Result<HostReply, Fault>
     ensures { Comes result host.now (schedules place words.now host.now) }
 {
     let seconds = integer(host.alloc, words, place)?;
@@ -49,7 +50,7 @@ fn schedule(host: &RunHost, place: usize, words: &Words) -> Result<HostReply, Re
 }
 
 /// Asks the schedule, where the words are three, or the option stands in its place.
-fn by_option(host: &RunHost, words: &Words) -> Result<HostReply, Refusal>
+fn by_option(host: &RunHost, words: &Words) -> Result<HostReply, Fault>
     ensures { Comes result host.now (by_option words.now host.now) }
 {
     if words.len() == 3 {
@@ -60,7 +61,7 @@ fn by_option(host: &RunHost, words: &Words) -> Result<HostReply, Refusal>
 }
 
 /// `ns_schedule_proc ?-once? SECONDS SCRIPT`.
-pub fn ns_schedule_proc(host: &RunHost, words: &Words) -> Result<HostReply, Refusal>
+pub fn ns_schedule_proc(host: &RunHost, words: &Words) -> Result<HostReply, Fault>
     ensures { Comes result host.now (ns_schedule_proc words.now host.now) }
 {
     require_words(host.alloc, is_schedule(words), words)?;
@@ -78,18 +79,18 @@ fn is_id(word: &[u8]) -> bool
 }
 
 /// Asks the schedule, where the word is an id.
-fn unschedule(host: &RunHost, words: &Words) -> Result<HostReply, Refusal>
+fn unschedule(host: &RunHost, words: &Words) -> Result<HostReply, Fault>
     ensures { Comes result host.now (unschedules words.now host.now) }
 {
     let id = words.bytes_at(1);
     if !is_id(id) {
-        return Err(refuse(error_text::no_schedule(host.alloc, id)));
+        return Err(Fault::saying(error_text::no_schedule(host.alloc, id)));
     }
     ask(host, words)
 }
 
 /// `ns_unschedule_proc ID`.
-pub fn ns_unschedule_proc(host: &RunHost, words: &Words) -> Result<HostReply, Refusal>
+pub fn ns_unschedule_proc(host: &RunHost, words: &Words) -> Result<HostReply, Fault>
     ensures { Comes result host.now (ns_unschedule_proc words.now host.now) }
 {
     require_words(host.alloc, is_counted(words, 2, 2), words)?;

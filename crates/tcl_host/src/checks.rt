@@ -6,7 +6,7 @@ ghost use Rattle.natives.specs.Words.{arg};
 ghost use Rattle.tcl_host.specs.Checks.{is_counted, unfit, integer};
 ghost use Rattle.tcl_host.specs.Outcomes.{Passes, Finds};
 
-use crate::refusal::{Refusal, refuse};
+use natives::Fault;
 use std::alloc::Global;
 use txt_core::{NoMemory, Text, Words, error_text, read_int_bytes};
 
@@ -23,11 +23,11 @@ pub fn is_counted(words: &Words, least: usize, most: usize) -> bool
 ///
 /// `Error` exactly where it isn't, with the text `wrong number of words for "NAME"`; `NoMemory` for
 /// want of memory alone.
-pub fn require_words(alloc: Global, right: bool, words: &Words) -> Result<(), Refusal>
+pub fn require_words(alloc: Global, right: bool, words: &Words) -> Result<(), Fault>
     ensures { Passes result right (wrong_words (arg words.now 0)) }
 {
     if !right {
-        return Err(refuse(error_text::wrong_words(alloc, words.bytes_at(0))));
+        return Err(Fault::saying(error_text::wrong_words(alloc, words.bytes_at(0))));
     }
     Ok(())
 }
@@ -54,11 +54,11 @@ pub fn unfit(alloc: Global, words: &Words, place: usize) -> Result<Text, NoMemor
 ///
 /// `Error` exactly where it can't, with the text `bad value "WORD" for "NAME"`; `NoMemory` for want
 /// of memory alone.
-pub fn require_fit(alloc: Global, fit: bool, words: &Words, place: usize) -> Result<(), Refusal>
+pub fn require_fit(alloc: Global, fit: bool, words: &Words, place: usize) -> Result<(), Fault>
     ensures { Passes result fit (unfit words.now place) }
 {
     if !fit {
-        return Err(refuse(unfit(alloc, words, place)));
+        return Err(Fault::saying(unfit(alloc, words, place)));
     }
     Ok(())
 }
@@ -69,12 +69,12 @@ pub fn require_fit(alloc: Global, fit: bool, words: &Words, place: usize) -> Res
 ///
 /// `Error` exactly where it is none, with the text `expected integer but got "WORD"`; `NoMemory` for
 /// want of memory alone.
-pub fn integer(alloc: Global, words: &Words, place: usize) -> Result<i64, Refusal>
+pub fn integer(alloc: Global, words: &Words, place: usize) -> Result<i64, Fault>
     ensures { Finds result (integer words.now place) }
 {
     let word = words.bytes_at(place);
     match read_int_bytes(word) {
         Some(number) => Ok(number),
-        None => Err(refuse(error_text::no_integer(alloc, word))),
+        None => Err(Fault::saying(error_text::no_integer(alloc, word))),
     }
 }

@@ -10,7 +10,6 @@ mod code;
 mod host;
 mod pages;
 mod paths;
-mod refusal;
 mod reply;
 
 pub use checks::{integer, is_counted, no_subcommand, require_fit, require_words, unfit};
@@ -20,5 +19,4 @@ pub use code::{
 pub use host::{Host, HostReply};
 pub use pages::{page_question, page_told};
 pub use paths::{is_page_path, page_path};
-pub use refusal::{Refusal, refuse};
 pub use reply::{done, ended, reply_of, reply_to_text};

@@ -6,7 +6,7 @@ ghost use Rattle.tcl_host.specs.Outcomes.{refused};
 
 use crate::code::{ERROR, OK};
 use crate::host::HostReply;
-use crate::refusal::Refusal;
+use natives::Fault;
 use std::alloc::Global;
 use txt_core::Text;
 
@@ -21,20 +21,20 @@ pub fn done(result_text: Text) -> HostReply
 }
 
 /// The reply to what is refused: an error with the refusal's text, or that memory ran out.
-fn refused(refusal: Refusal) -> HostReply
+fn refused(refusal: Fault) -> HostReply
     ensures { result ≡ refused refusal }
 {
     match refusal {
-        Refusal::Error(message) => HostReply::Done {
+        Fault::Error(message) => HostReply::Done {
             code: ERROR,
             result: message,
         },
-        Refusal::NoMemory => HostReply::NoMemory,
+        Fault::NoMemory => HostReply::NoMemory,
     }
 }
 
 /// What a command came to that ends with a result, unless it was refused.
-pub fn ended(came: Result<Text, Refusal>) -> Result<HostReply, Refusal>
+pub fn ended(came: Result<Text, Fault>) -> Result<HostReply, Fault>
     ensures { MatchResult came (λ text. result ≡ Ok (HostReply.Done code_of.ok text)) (λ refusal.
         result ≡ Err refusal) }
 {
@@ -42,7 +42,7 @@ pub fn ended(came: Result<Text, Refusal>) -> Result<HostReply, Refusal>
 }
 
 /// The reply to a command, by what it came to.
-pub fn reply_of(came: Result<HostReply, Refusal>) -> HostReply
+pub fn reply_of(came: Result<HostReply, Fault>) -> HostReply
     ensures { MatchResult came (λ reply. result ≡ reply) (λ refusal. result ≡ refused refusal) }
 {
     match came {
@@ -52,7 +52,7 @@ pub fn reply_of(came: Result<HostReply, Refusal>) -> HostReply
 }
 
 /// The reply to a text of a page, by what it came to: a good end has no result.
-pub fn reply_to_text(alloc: Global, came: Result<(), Refusal>) -> HostReply
+pub fn reply_to_text(alloc: Global, came: Result<(), Fault>) -> HostReply
     ensures { MatchResult came (λ _. result ≡ HostReply.Done code_of.ok []) (λ refusal.
         result ≡ refused refusal) }
 {

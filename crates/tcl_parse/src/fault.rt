@@ -1,5 +1,7 @@
 //! Why a text is no script.
 
+ghost use Rattle.std.specs.Prelude.{◌≡◌, ◌+◌, length};
+
 /// What is wrong with a text.
 #[derive(Clone, Copy, Debug, PartialEq, Eq)]
 pub enum Kind {
@@ -34,4 +36,16 @@ pub struct Fault {
     pub kind: Kind,
     /// How many bytes are left from the byte on where it stands.
     pub left: usize,
+}
+
+impl Fault {
+    /// The fault at the byte in front of these.
+    pub(crate) fn before(kind: Kind, rest: &[u8]) -> Fault
+        ensures { result ≡ record { kind = kind; left = length rest.now + 1 } }
+    {
+        Fault {
+            kind,
+            left: rest.len() + 1,
+        }
+    }
 }

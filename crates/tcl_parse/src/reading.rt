@@ -35,10 +35,7 @@ fn braced_word(alloc: Global, bytes: &[u8]) -> Result<(Word, &[u8]), Stop<Fault>
     ensures goes { IfOk result (λ x. length x.1.now ≤ length bytes.now) }
 {
     match in_braces(alloc, bytes)? {
-        None => Err(Stop::Fault(Fault {
-            kind: Kind::Brace,
-            left: bytes.len() + 1,
-        })),
+        None => Err(Stop::Fault(Fault::before(Kind::Brace, bytes))),
         Some((text, rest)) => {
             let word = word_of_pieces(alloc, Vec::new(alloc), text)?;
             Ok((word, rest))
@@ -54,17 +51,11 @@ fn bracket(alloc: Global, room: u32, bytes: &[u8]) -> Result<(Piece, &[u8]), Sto
     ensures goes { IfOk result (λ x. length x.1.now ≤ length bytes.now) }
 {
     if room == 0 {
-        return Err(Stop::Fault(Fault {
-            kind: Kind::Deep,
-            left: bytes.len() + 1,
-        }));
+        return Err(Stop::Fault(Fault::before(Kind::Deep, bytes)));
     }
     let (script, rest) = script(alloc, room - 1, true, bytes)?;
     match rest.split_first() {
-        None => Err(Stop::Fault(Fault {
-            kind: Kind::Bracket,
-            left: bytes.len() + 1,
-        })),
+        None => Err(Stop::Fault(Fault::before(Kind::Bracket, bytes))),
         Some((_, rest)) => {
             let piece = bracket_piece(alloc, script)?;
             Ok((piece, rest))
@@ -86,10 +77,7 @@ fn index<'a>(
     ensures goes { IfOk result (λ x. length x.1.now ≤ length bytes.now) }
 {
     if room == 0 {
-        return Err(Stop::Fault(Fault {
-            kind: Kind::Deep,
-            left: bytes.len() + 1,
-        }));
+        return Err(Stop::Fault(Fault::before(Kind::Deep, bytes)));
     }
     let (index, rest) = parts(alloc, room - 1, Mode::Index, bytes)?;
     match rest.split_first() {
@@ -173,10 +161,7 @@ fn quoted_word(alloc: Global, room: u32, bytes: &[u8]) -> Result<(Word, &[u8]), 
 {
     let (word, rest) = parts(alloc, room, Mode::Quotes, bytes)?;
     match rest.split_first() {
-        None => Err(Stop::Fault(Fault {
-            kind: Kind::Quote,
-            left: bytes.len() + 1,
-        })),
+        None => Err(Stop::Fault(Fault::before(Kind::Quote, bytes))),
         Some((_, rest)) => Ok((word, rest)),
     }
 }

@@ -1,6 +1,7 @@
-use Rattle.std.proofs.Common.{length, ◌-◌, ◌≡◌, [], ◌∷◌, sym, rules, false, true, map, append-nil}
+use Rattle.std.proofs.Common.{subst, length, ◌-◌, ◌≡◌, [], ◌∷◌, sym, rules, false, true, map, append-nil}
 use Rattle.std.proofs.lemmas.Result.{err_from_is_err_and}
 use Rattle.std.proofs.lemmas.List.{map_push}
+use Rattle.tcl_parse.specs.declared.fault.Fault.{Fault}
 use Rattle.tcl_parse.specs.Gaps.{at_end, skip, between}
 use Rattle.tcl_parse.specs.View.{part_of, word_of, command_of}
 use Rattle.tcl_parse.specs.Outcome.{done, fault, put, put_text}
@@ -15,7 +16,8 @@ use Rattle.tcl_parse.specs.Laws.Some.{none_enclosed}
 use Rattle.tcl_parse.proofs.reading.+reader.Goals as goal
 
 pub bracket-returns-then-room-eq0-clause-same : goal.bracket-returns-then-room-eq0-clause-same
-bracket-returns-then-room-eq0-clause-same t c = deep_bracket c.args.room c.args.bytes.now c.if-room-eq0.true
+bracket-returns-then-room-eq0-clause-same t c =
+    subst (λ (f : Fault). BracketGives c.args.room c.args.bytes.now (fault f.kind f.left)) (sym c.before-then-room-eq0.ensures) (deep_bracket c.args.room c.args.bytes.now c.if-room-eq0.true)
 
 pub bracket-returns-in_err-script-clause-same : goal.bracket-returns-in_err-script-clause-same
 bracket-returns-in_err-script-clause-same t c =
@@ -25,14 +27,17 @@ bracket-returns-in_err-script-clause-same t c =
 
 pub bracket-returns-in-None-clause-same : goal.bracket-returns-in-None-clause-same
 bracket-returns-in-None-clause-same t c =
-    bracket_open c.args.room c.args.bytes.now c.in_ok-script.rest.now _ c.if-room-eq0.false c.in-None.ensures.cases c.in_ok-script.ensures.same
+    subst (λ (f : Fault). BracketGives c.args.room c.args.bytes.now (fault f.kind f.left)) (sym c.before-in-None.ensures)
+    (bracket_open c.args.room c.args.bytes.now c.in_ok-script.rest.now _ c.if-room-eq0.false c.in-None.ensures.cases c.in_ok-script.ensures.same)
 
 pub bracket-returns-in_ok-piece-in-Some-clause-same : goal.bracket-returns-in_ok-piece-in-Some-clause-same
 bracket-returns-in_ok-piece-in-Some-clause-same t c =
     bracket_closed c.args.room _ c.args.bytes.now c.in_ok-script.rest.now c.in-Some.rest.now _ (part_of c.in_ok-piece-in-Some.piece) c.if-room-eq0.false c.in-Some.ensures.cases.0 c.in_ok-piece-in-Some.ensures c.in_ok-script.ensures.same
 
 pub index-returns-then-room-eq0-clause-same : goal.index-returns-then-room-eq0-clause-same
-index-returns-then-room-eq0-clause-same t c = deep_index c.args.room c.args.left c.args.name.now c.args.bytes.now c.if-room-eq0.true
+index-returns-then-room-eq0-clause-same t c =
+    subst (λ (f : Fault). IndexGives c.args.room c.args.left c.args.name.now c.args.bytes.now (fault f.kind f.left)) (sym c.before.ensures)
+    (deep_index c.args.room c.args.left c.args.name.now c.args.bytes.now c.if-room-eq0.true)
 
 pub index-returns-in_err-index-clause-same : goal.index-returns-in_err-index-clause-same
 index-returns-in_err-index-clause-same t c =
