@@ -115,6 +115,14 @@ StaysNew new old = (names : Names) → IsNew names old → IsNew names new
 abbrev pub StaysSound : Interp → Interp → Type 0
 StaysSound new old = (names : Names) → IsSound names old → IsSound names new
 
+-- where it was sound, it is as newly made now
+abbrev pub IsReset : Interp → Interp → Type 0
+IsReset new old = (names : Names) → IsSound names old → IsNew names new
+
+-- where it was sound, the steps that were counted are the entries that its run's own definitions wrote
+abbrev pub CountsReset : ℕ → ℕ → Interp → Type 0
+CountsReset after before old = (names : Names) → IsSound names old → after ≡ before + Writes old.settling.run.engine.made
+
 -- ---- later epochs
 
 -- these definitions apply one after the other behind those that stand

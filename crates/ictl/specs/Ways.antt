@@ -52,6 +52,10 @@ CountsScript names blueprint after before new old = ScriptCounts names blueprint
 abbrev pub ScriptWithin : ℕ → ℕ → Settling → ℕ → ScriptWay → Type 0
 ScriptWithin after before new had way = (inside : ℕ) → SettledWithin (inside + had) before after new (way inside [])
 
+-- the same of a call that begins with what the script had written
+abbrev pub WithinFrom : Names → Edition → ℕ → ℕ → Settling → Settling → ScriptWay → Type 0
+WithinFrom names blueprint after before new old way = ScriptWithin after before new (written names blueprint old) way
+
 module _ (names : Names) (blueprint : Edition) (moment : Moment) where
   -- the way of a run that may ask so many questions
   abbrev pub settle_way : ℕ → Run → ScriptWay
@@ -78,11 +82,19 @@ module _ (names : Names) (blueprint : Edition) (moment : Moment) where
       (inside : ℕ) (further : List Answer)
       → settling_gives names blueprint moment stop new (inside + script_taken names blueprint after before new had) further ≡ way inside further
 
-  -- the same where it may go on
+  -- the same of a call that begins with what the script had written
+  abbrev pub StopsFrom : Stop → ℕ → ℕ → Settling → Settling → ScriptWay → Type 0
+  StopsFrom stop after before new old way = StopsAlong stop after before new (written names blueprint old) way
+
+  -- where a script may go on behind a call, what it comes to is what its way comes to from before the call
   abbrev pub StepsAlong : Step → ℕ → ℕ → Settling → ℕ → ScriptWay → Type 0
   StepsAlong step after before new had way =
       (inside : ℕ) (further : List Answer)
       → step_gives names blueprint moment step new (inside + script_taken names blueprint after before new had) further ≡ way inside further
+
+  -- the same of a call that begins with what the script had written
+  abbrev pub StepsFrom : Step → ℕ → ℕ → Settling → Settling → ScriptWay → Type 0
+  StepsFrom step after before new old way = StepsAlong step after before new (written names blueprint old) way
 
 -- ---- runs
 

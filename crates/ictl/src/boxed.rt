@@ -1,11 +1,10 @@
 //! Interpreters at a place of their own in memory.
 
 ghost use Rattle.std.specs.Prelude.{◌≡◌, ◌≤◌, ◌+◌, IfOk, OnOk, OnErr, false};
-ghost use Rattle.txt_core.specs.Names.{Names};
 ghost use Rattle.cmd_table.specs.Commands.{Writes};
 ghost use Rattle.natives.specs.Names.{names_of};
 ghost use Rattle.ictl.specs.Fresh.{build_steps};
-ghost use Rattle.ictl.specs.Interps.{IsSound, IsNew, IsNewOnSome, StaysNew, AllApply, IsUpdated, update_steps, KeepsMarked};
+ghost use Rattle.ictl.specs.Interps.{IsNew, IsNewOnSome, StaysNew, IsReset, CountsReset, AllApply, IsUpdated, update_steps, KeepsMarked};
 
 use crate::interp::Interp;
 use cmd_table::{Defs, Steps};
@@ -88,9 +87,8 @@ impl BoxedInterp {
     ///
     /// The steps are the entries that the run's own definitions wrote: each is taken back.
     pub fn reset<L: Ledger>(&mut self, steps: &mut Steps<L>)
-        ensures is_new { (names : Names) → IsSound names self.old → IsNew names self.new }
-        ensures steps { (names : Names) → IsSound names self.old
-            → steps.new ≡ steps.old + Writes self.old.settling.run.engine.made }
+        ensures is_new { IsReset self.new self.old }
+        ensures steps { CountsReset steps.new steps.old self.old }
         ensures blueprint { self.new.blueprint.value ≡ self.old.blueprint.value }
         ensures marked { KeepsMarked self.new self.old }
     {

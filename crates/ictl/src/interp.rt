@@ -14,7 +14,7 @@ ghost use Rattle.ictl.specs.Visits.{cleanups_of};
 ghost use Rattle.ictl.specs.Standing.{CountsMade};
 ghost use Rattle.ictl.specs.Steps.{cut_stop, cut_reply};
 ghost use Rattle.ictl.specs.Main.{Main, Script, Define, both, answered};
-ghost use Rattle.ictl.specs.Interps.{IsSound, IsNew, Holds, IsSameRun, ending_of, interp_state, spare_of, restored, taken, Counts, goes_to, gives, move_gives, UnlessNoMemory, Stands, GoesOn, StandsOn, IsNewOnSome, StaysNew, StaysSound, AllApply, IsUpdated, update_steps, KeepsMarked, Begins, BeginsWithin, GoesBehind, BehindWithin, IsVisitOf, Continues, AnswerWithin};
+ghost use Rattle.ictl.specs.Interps.{IsNew, Holds, IsSameRun, ending_of, interp_state, spare_of, restored, taken, Counts, goes_to, gives, move_gives, UnlessNoMemory, Stands, GoesOn, StandsOn, IsNewOnSome, StaysNew, StaysSound, IsReset, CountsReset, AllApply, IsUpdated, update_steps, KeepsMarked, Begins, BeginsWithin, GoesBehind, BehindWithin, IsVisitOf, Continues, AnswerWithin};
 ghost use Rattle.ictl.specs.Steps.{Lowers, LowersIn};
 ghost use Rattle.ictl.specs.Falls.{IsAsking, IsWriting, StandsAt, GoesOut, MoveStandsAt, IsScriptTask, SettlingAt, number_of, first_number, Falls, MoveFalls, StopFalls, EndFalls};
 ghost use Rattle.ictl.specs.Ways.{ChangesTask, stop_way, move_way, MovesAlong, AnswersAlong, WayWithin};
@@ -328,9 +328,8 @@ impl Interp {
     ///
     /// The steps are the entries that the run's own definitions wrote: each is taken back.
     pub(crate) fn reset<L: Ledger>(&mut self, steps: &mut Steps<L>)
-        ensures is_new { (names : Names) → IsSound names self.old → IsNew names self.new }
-        ensures steps { (names : Names) → IsSound names self.old
-            → steps.new ≡ steps.old + Writes self.old.settling.run.engine.made }
+        ensures is_new { IsReset self.new self.old }
+        ensures steps { CountsReset steps.new steps.old self.old }
         ensures blueprint { self.new.blueprint.value ≡ self.old.blueprint.value }
         ensures marked { KeepsMarked self.new self.old }
     {

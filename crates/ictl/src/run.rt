@@ -129,7 +129,8 @@ impl Run {
         ensures stands { let names = names_of natives.now in
             Stands names (Define names interp.blueprint.value script.now moment) result.next 0
             result.interp [] }
-        ensures steps { CountsMade steps.new steps.old result.interp.settling.run interp.settling.run }
+        ensures steps { CountsMade steps.new steps.old result.interp.settling.run
+            interp.settling.run }
         ensures most { let names = names_of natives.now in
             BeginsWithin (Define names interp.blueprint.value script.now moment) steps.new
             steps.old result.interp }

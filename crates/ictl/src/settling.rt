@@ -10,10 +10,10 @@ ghost use Rattle.tcl_eval.specs.Eval.{eval};
 ghost use Rattle.tcl_eval.specs.Engine.{at_global, IsOpenTo, Lasts};
 ghost use Rattle.ictl.specs.Defines.{inner_run};
 ghost use Rattle.ictl.specs.Main.{first_depth};
-ghost use Rattle.ictl.specs.Standing.{state_of, define_gives, written};
+ghost use Rattle.ictl.specs.Standing.{state_of, define_gives};
 ghost use Rattle.ictl.specs.Steps.{Stays, GoesLower};
 ghost use Rattle.ictl.specs.Falls.{IsReady, Suffices, StopAsks, DefineStopAsks, DefineFalls, askable, SettlingAsks, SettlingAt, StepAt, per_question, settling_number, SettlingFalls, StepFalls, ScriptFalls};
-ghost use Rattle.ictl.specs.Ways.{written_with, settle_way, stopped_way, answer_way, inner_way, ScriptCounts, CountsScript, ScriptWithin, StopsAlong, StepsAlong};
+ghost use Rattle.ictl.specs.Ways.{written_with, settle_way, stopped_way, answer_way, inner_way, ScriptCounts, CountsScript, ScriptWithin, WithinFrom, StopsFrom, StepsAlong, StepsFrom};
 
 use crate::defining::DefineStop;
 use crate::inner::InnerRun;
@@ -87,8 +87,7 @@ impl Settling {
         ensures gives { let names = names_of natives.now in
             let published = blueprint.now.value in
             IfOk result (λ stop.
-            StopsAlong names published moment stop steps.new steps.old self.new
-            (written names published self.old)
+            StopsFrom names published moment stop steps.new steps.old self.new self.old
             (settle_way names published moment self.old.questions
             (eval names host_table first_depth work (at_global (state_of self.old.run)) budget))) }
         ensures counts { CountsScript (names_of natives.now) blueprint.now.value steps.new steps.old
@@ -96,7 +95,7 @@ impl Settling {
         ensures most { let names = names_of natives.now in
             let published = blueprint.now.value in
             OnErr result
-            (ScriptWithin steps.new steps.old self.new (written names published self.old)
+            (WithinFrom names published steps.new steps.old self.new self.old
             (settle_way names published moment self.old.questions
             (eval names host_table first_depth work (at_global (state_of self.old.run)) budget))) }
         ensures lasts { Lasts self.new.run.engine self.old.run.engine }
@@ -123,8 +122,7 @@ impl Settling {
             let published = blueprint.now.value in
             IfOk result (λ stop.
             (question : Question)
-            → StopsAlong names published moment stop steps.new steps.old self.new
-            (written names published self.old)
+            → StopsFrom names published moment stop steps.new steps.old self.new self.old
             (answer_way names published moment question self.old answer)) }
         ensures counts { CountsScript (names_of natives.now) blueprint.now.value steps.new steps.old
             self.new self.old }
@@ -132,7 +130,7 @@ impl Settling {
             let published = blueprint.now.value in
             OnErr result
             ((question : Question)
-            → ScriptWithin steps.new steps.old self.new (written names published self.old)
+            → WithinFrom names published steps.new steps.old self.new self.old
             (answer_way names published moment question self.old answer)) }
         ensures lasts { Lasts self.new.run.engine self.old.run.engine }
         ensures at { IfOk result (λ stop. SettlingAt stop self.new) }
@@ -181,15 +179,14 @@ impl Settling {
         ensures gives { let names = names_of natives.now in
             let published = blueprint.now.value in
             IfOk result (λ last.
-            StopsAlong names published moment last steps.new steps.old self.new
-            (written names published self.old)
+            StopsFrom names published moment last steps.new steps.old self.new self.old
             (stopped_way names published moment stop self.old)) }
         ensures counts { CountsScript (names_of natives.now) blueprint.now.value steps.new steps.old
             self.new self.old }
         ensures most { let names = names_of natives.now in
             let published = blueprint.now.value in
             OnErr result
-            (ScriptWithin steps.new steps.old self.new (written names published self.old)
+            (WithinFrom names published steps.new steps.old self.new self.old
             (stopped_way names published moment stop self.old)) }
         ensures lasts { Lasts self.new.run.engine self.old.run.engine }
         ensures at { IfOk result (λ last. SettlingAt last self.new) }
@@ -220,15 +217,14 @@ impl Settling {
         ensures gives { let names = names_of natives.now in
             let published = blueprint.now.value in
             IfOk result (λ step.
-            StepsAlong names published moment step steps.new steps.old self.new
-            (written names published self.old)
+            StepsFrom names published moment step steps.new steps.old self.new self.old
             (stopped_way names published moment stop self.old)) }
         ensures counts { CountsScript (names_of natives.now) blueprint.now.value steps.new steps.old
             self.new self.old }
         ensures most { let names = names_of natives.now in
             let published = blueprint.now.value in
             OnErr result
-            (ScriptWithin steps.new steps.old self.new (written names published self.old)
+            (WithinFrom names published steps.new steps.old self.new self.old
             (stopped_way names published moment stop self.old)) }
         ensures goes { IfOk result (λ step. GoesLower step self.new self.old) }
         ensures lower { self.new.questions ≤ self.old.questions }
@@ -273,8 +269,7 @@ impl Settling {
             let published = blueprint.now.value in
             IfOk result (λ step.
             (asked : Question)
-            → StepsAlong names published moment step steps.new steps.old self.new
-            (written names published self.old)
+            → StepsFrom names published moment step steps.new steps.old self.new self.old
             (inner_way names published moment asked self.old
             (inner_run names published moment question.words self.old.run.engine.budget
             self.old.questions))) }
@@ -284,7 +279,7 @@ impl Settling {
             let published = blueprint.now.value in
             OnErr result
             ((asked : Question)
-            → ScriptWithin steps.new steps.old self.new (written names published self.old)
+            → WithinFrom names published steps.new steps.old self.new self.old
             (inner_way names published moment asked self.old
             (inner_run names published moment question.words self.old.run.engine.budget
             self.old.questions))) }

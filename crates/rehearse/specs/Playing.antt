@@ -258,6 +258,10 @@ IsTaskReady natives now (tasks.Serving connection serving) =
 abbrev pub IsReady : Names → State → code_worker.Worker → Type 0
 IsReady natives now worker = KeepsOn natives now worker.keeper × IsTaskReady natives now worker.task
 
+-- The worker is ready, as it is at this.
+abbrev pub IsReadyAt : Names → State → code_worker.Worker → Task → Type 0
+IsReadyAt natives now worker task = IsReady natives now (with_task worker task)
+
 -- One goes with each step of a worker that isn't idle: how many requests its connection may have still, and then how many steps the
 -- one under way may take.
 abbrev pub requests_left : Task → ℕ
@@ -301,6 +305,11 @@ abbrev pub Stepped : Setting → code_worker.Worker → Objects → Listing → 
 Stepped setting worker objects listing worker_after objects_after listed =
     Moved Step setting worker objects listing worker_after objects_after listed × StepsDown worker worker_after
 
+-- one step of the worker, as it is at this
+abbrev pub SteppedAt : Setting → code_worker.Worker → Task → Objects → Listing → code_worker.Worker → Objects → Listing → Type 0
+SteppedAt setting worker task objects listing worker_after objects_after listed =
+    Stepped setting (with_task worker task) objects listing worker_after objects_after listed
+
 -- ---- the scheduler
 
 abbrev pub IsResting : code_scheduler.Scheduler → Type 0
@@ -337,6 +346,10 @@ IsSchedulerReady natives now scheduler =
 abbrev pub with_running : code_scheduler.Scheduler → Option Running → code_scheduler.Scheduler
 with_running scheduler running = record scheduler { running = running }
 
+-- The scheduler is ready, as this run of a script is under way.
+abbrev pub IsReadyWith : Names → State → code_scheduler.Scheduler → Running → Type 0
+IsReadyWith natives now scheduler running = IsSchedulerReady natives now (with_running scheduler (Some running))
+
 abbrev pub running_steps : Option Running → ℕ
 running_steps None = 0
 running_steps (Some running) = last_steps running.run.next running.run.interp
@@ -363,6 +376,11 @@ pub record Turned (Goes : Setting → Agenda → List Line → Agenda → Type 0
 abbrev pub ScheduleStepped : Setting → code_scheduler.Scheduler → Objects → Listing → code_scheduler.Scheduler → Objects → Listing → Type 0
 ScheduleStepped setting code objects listing code_after objects_after listed =
     Turned ScheduleStep setting code objects listing code_after objects_after listed × SchedulerDown code code_after
+
+-- one step of the scheduler, as this run of a script is under way
+abbrev pub SteppedWith : Setting → code_scheduler.Scheduler → Running → Objects → Listing → code_scheduler.Scheduler → Objects → Listing → Type 0
+SteppedWith setting code running objects listing code_after objects_after listed =
+    ScheduleStepped setting (with_running code (Some running)) objects listing code_after objects_after listed
 
 -- ---- definition runs
 

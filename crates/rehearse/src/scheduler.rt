@@ -8,7 +8,7 @@ ghost use Rattle.ictl.specs.declared.next.Next.TheVariants as nexts;
 ghost use Rattle.tcl_eval.specs.declared.outcome.Outcome.{Outcome};
 ghost use Rattle.rehearse.specs.Objects.{Setting as SeenSetting};
 ghost use Rattle.rehearse.specs.Schedules.{due_scripts};
-ghost use Rattle.rehearse.specs.Playing.{setting_of, IsResting, IsSchedulerReady, with_running, ScheduleStepped};
+ghost use Rattle.rehearse.specs.Playing.{setting_of, IsResting, IsSchedulerReady, with_running, IsReadyWith, ScheduleStepped, SteppedWith};
 ghost use Rattle.rehearse.specs.declared.listing.Listing.{Listing as Told};
 ghost use Rattle.rehearse.specs.declared.objects.Objects.{Objects as SeenObjects};
 
@@ -152,13 +152,11 @@ impl Scheduler {
         steps: &mut Steps<L>,
     ) -> Result<(), NoMemory>
         requires asks { IsAtQuestion running.run }
-        requires ready { IsSchedulerReady (names_of natives.now) objects.old.blueprint
-            (with_running self.old (Some running)) }
+        requires ready { IsReadyWith (names_of natives.now) objects.old.blueprint self.old running }
         ensures { (listing : Told)
             → OnOk result
-            (ScheduleStepped (setting_of (names_of natives.now) setting.now)
-            (with_running self.old (Some running)) objects.old listing self.new objects.new
-            listing) }
+            (SteppedWith (setting_of (names_of natives.now) setting.now) self.old running
+            objects.old listing self.new objects.new listing) }
     {
         let Some(question) = running.run.take_question() else {
             unreachable!()
@@ -180,10 +178,9 @@ impl Scheduler {
         requires none { self.old.running ≡ None }
         requires ended { (outcome : Outcome) × (running.run.next ≡ nexts.Ended outcome) }
         ensures { (setting : SeenSetting) (objects : SeenObjects)
-            → IsSchedulerReady setting.natives objects.blueprint
-            (with_running self.old (Some running))
+            → IsReadyWith setting.natives objects.blueprint self.old running
             → OnOk result
-            (ScheduleStepped setting (with_running self.old (Some running)) objects listing.old
+            (SteppedWith setting self.old running objects listing.old
             self.new objects listing.new) }
     {
         let Running { id, run, .. } = running;
@@ -207,12 +204,10 @@ impl Scheduler {
         steps: &mut Steps<L>,
     ) -> Result<(), NoMemory>
         requires none { self.old.running ≡ None }
-        requires ready { IsSchedulerReady (names_of natives.now) objects.old.blueprint
-            (with_running self.old (Some running)) }
+        requires ready { IsReadyWith (names_of natives.now) objects.old.blueprint self.old running }
         ensures { OnOk result
-            (ScheduleStepped (setting_of (names_of natives.now) setting.now)
-            (with_running self.old (Some running)) objects.old listing.old self.new objects.new
-            listing.new) }
+            (SteppedWith (setting_of (names_of natives.now) setting.now) self.old running
+            objects.old listing.old self.new objects.new listing.new) }
     {
         match running.run.next() {
             Next::Asks(_) => self.answer(natives, setting, objects, running, steps),

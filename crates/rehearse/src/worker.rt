@@ -10,7 +10,7 @@ ghost use Rattle.tcl_eval.specs.declared.outcome.Outcome.{Outcome};
 ghost use Rattle.rehearse.specs.Lines.{response, closed, refused};
 ghost use Rattle.rehearse.specs.Objects.{Setting as SeenSetting};
 ghost use Rattle.rehearse.specs.Steps.{refusal_bytes};
-ghost use Rattle.rehearse.specs.Playing.{setting_of, with_task, HasNew, HasBegun, IsReady, Stepped, Tells};
+ghost use Rattle.rehearse.specs.Playing.{setting_of, with_task, HasNew, HasBegun, IsReady, IsReadyAt, Stepped, SteppedAt, Tells};
 ghost use Rattle.rehearse.specs.declared.listing.Listing.{Listing as Told};
 ghost use Rattle.rehearse.specs.declared.objects.Objects.{Objects as SeenObjects};
 ghost use Rattle.rehearse.specs.declared.worker.Task.TheVariants as tasks;
@@ -142,8 +142,8 @@ impl Worker {
         request: BoxedRequest,
         steps: &mut Steps<L>,
     ) -> Result<(), NoMemory>
-        requires ready { IsReady (names_of natives.now) objects.now.blueprint
-            (with_task self.old (tasks.Between connection)) }
+        requires ready { IsReadyAt (names_of natives.now) objects.now.blueprint self.old
+            (tasks.Between connection) }
         ensures begun { OnOk result
             (HasBegun (names_of natives.now) (setting_of (names_of natives.now) setting.now)
             objects.now connection request self.new) }
@@ -182,12 +182,11 @@ impl Worker {
         steps: &mut Steps<L>,
     ) -> Result<(), NoMemory>
         requires idle { self.old.task ≡ tasks.Idle }
-        requires ready { IsReady (names_of natives.now) objects.now.blueprint
-            (with_task self.old (tasks.Between connection)) }
+        requires ready { IsReadyAt (names_of natives.now) objects.now.blueprint self.old
+            (tasks.Between connection) }
         ensures { OnOk result
-            (Stepped (setting_of (names_of natives.now) setting.now)
-            (with_task self.old (tasks.Between connection)) objects.now listing.old self.new
-            objects.now listing.new) }
+            (SteppedAt (setting_of (names_of natives.now) setting.now) self.old
+            (tasks.Between connection) objects.now listing.old self.new objects.now listing.new) }
     {
         let peer = Text::new(self.alloc, PEER)?;
         let source = &mut connection.source;
@@ -227,13 +226,12 @@ impl Worker {
         steps: &mut Steps<L>,
     ) -> Result<(), NoMemory>
         requires asks { IsAtQuestion serving.run }
-        requires ready { IsReady (names_of natives.now) objects.old.blueprint
-            (with_task self.old (tasks.Serving connection serving)) }
+        requires ready { IsReadyAt (names_of natives.now) objects.old.blueprint self.old
+            (tasks.Serving connection serving) }
         ensures { (listing : Told)
             → OnOk result
-            (Stepped (setting_of (names_of natives.now) setting.now)
-            (with_task self.old (tasks.Serving connection serving)) objects.old listing self.new
-            objects.new listing) }
+            (SteppedAt (setting_of (names_of natives.now) setting.now) self.old
+            (tasks.Serving connection serving) objects.old listing self.new objects.new listing) }
     {
         let Some(question) = serving.run.take_question() else {
             unreachable!()
@@ -283,10 +281,10 @@ impl Worker {
         requires writing { IsAtResponse serving.run }
         ensures { (setting : SeenSetting) (objects : SeenObjects)
             → setting.natives ≡ names_of natives.now
-            → IsReady setting.natives objects.blueprint
-            (with_task self.old (tasks.Serving connection serving))
+            → IsReadyAt setting.natives objects.blueprint self.old
+            (tasks.Serving connection serving)
             → OnOk result
-            (Stepped setting (with_task self.old (tasks.Serving connection serving)) objects
+            (SteppedAt setting self.old (tasks.Serving connection serving) objects
             listing.old self.new objects listing.new) }
     {
         one_response();
@@ -311,10 +309,10 @@ impl Worker {
         requires { self.old.task ≡ tasks.Idle }
         ensures { (setting : SeenSetting) (objects : SeenObjects) (outcome : Outcome)
             → serving.run.next ≡ nexts.Ended outcome
-            → IsReady setting.natives objects.blueprint
-            (with_task self.old (tasks.Serving connection serving))
+            → IsReadyAt setting.natives objects.blueprint self.old
+            (tasks.Serving connection serving)
             → OnOk result
-            (Stepped setting (with_task self.old (tasks.Serving connection serving)) objects
+            (SteppedAt setting self.old (tasks.Serving connection serving) objects
             listing.old self.new objects listing.new) }
     {
         let UnderWay {
@@ -348,12 +346,12 @@ impl Worker {
         steps: &mut Steps<L>,
     ) -> Result<(), NoMemory>
         requires idle { self.old.task ≡ tasks.Idle }
-        requires ready { IsReady (names_of natives.now) objects.old.blueprint
-            (with_task self.old (tasks.Serving connection serving)) }
+        requires ready { IsReadyAt (names_of natives.now) objects.old.blueprint self.old
+            (tasks.Serving connection serving) }
         ensures { OnOk result
-            (Stepped (setting_of (names_of natives.now) setting.now)
-            (with_task self.old (tasks.Serving connection serving)) objects.old listing.old self.new
-            objects.new listing.new) }
+            (SteppedAt (setting_of (names_of natives.now) setting.now) self.old
+            (tasks.Serving connection serving) objects.old listing.old self.new objects.new
+            listing.new) }
     {
         match serving.run.next() {
             Next::Asks(_) => self.answer(natives, setting, objects, connection, serving, steps),

@@ -1,12 +1,11 @@
 //! What comes of a run behind its response.
 
 ghost use Rattle.std.specs.Prelude.{◌≡◌};
-ghost use Rattle.txt_core.specs.Names.{Names};
 ghost use Rattle.natives.specs.Names.{names_of};
 ghost use Rattle.shared_state.specs.Cells.{AreOf};
 ghost use Rattle.ictl.specs.Came.{IsAtResponse};
 ghost use Rattle.ictl.specs.Falls.{StandsAt};
-ghost use Rattle.ictl.specs.Interps.{IsSound};
+ghost use Rattle.ictl.specs.Interps.{StaysSound};
 ghost use Rattle.worker.specs.Behind.{GoesBehind, RunsBehind, EndsCut};
 ghost use Rattle.worker.specs.Clean.{edition_in};
 ghost use Rattle.worker.specs.Working.{way_of};
@@ -62,7 +61,7 @@ pub(crate) fn end_whole<R: Wait, P: Pages, L: Ledger>(
         heard.new.published heard.old.answers heard.new.answers steps.old steps.new }
     ensures outcome { result ≡ way_of run.new.next }
     ensures blueprint { edition_in run.new.interp ≡ edition_in run.old.interp }
-    ensures sound { (names : Names) → IsSound names run.old.interp → IsSound names run.new.interp }
+    ensures sound { StaysSound run.new.interp run.old.interp }
     ensures held { P.held pages.new ≡ P.held pages.old }
 {
     tell_whole(natives, run, steps);
@@ -82,7 +81,7 @@ pub(crate) fn end_cut<L: Ledger>(
     ensures cut { EndsCut (names_of natives.now) run.old run.new steps.old steps.new }
     ensures outcome { result ≡ way_of run.new.next }
     ensures blueprint { edition_in run.new.interp ≡ edition_in run.old.interp }
-    ensures sound { (names : Names) → IsSound names run.old.interp → IsSound names run.new.interp }
+    ensures sound { StaysSound run.new.interp run.old.interp }
 {
     run.written(natives, false, steps);
     how_ended(run)

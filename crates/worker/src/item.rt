@@ -1,13 +1,12 @@
 //! One request, from its look to its interpreter's end.
 
 ghost use Rattle.std.specs.Prelude.{◌≡◌, ◌+◌, [], ℕ, Some, min, IfOk, IfErr, OnErr, MatchOption};
-ghost use Rattle.txt_core.specs.Names.{Names};
 ghost use Rattle.outside.specs.Faults.{last_count};
 ghost use Rattle.natives.specs.Names.{names_of};
 ghost use Rattle.blueprint.specs.States.{State as SeenState};
 ghost use Rattle.serving.specs.Connections.{asks_close, is_head_only, closes};
 ghost use Rattle.shared_state.specs.Cells.{AreOf, Serve};
-ghost use Rattle.ictl.specs.Interps.{IsNew, IsSound};
+ghost use Rattle.ictl.specs.Interps.{IsNew, StaysSound};
 ghost use Rattle.http_req.specs.declared.request.Request.{Request as SeenRequest};
 ghost use Rattle.ictl.specs.declared.interp.Interp.{Interp as SeenInterp};
 ghost use Rattle.http_resp.specs.declared.response.Response.{Response as SeenResponse};
@@ -111,7 +110,7 @@ fn run_request<R: Wait, K: Sink, P: Pages, L: Ledger>(
     requires none { heard.old.answers ≡ [] }
     ensures cells { AreOf shared.now passes.new }
     ensures blueprint { edition_in run.new.interp ≡ edition_in run.old.interp }
-    ensures sound { (names : Names) → IsSound names run.old.interp → IsSound names run.new.interp }
+    ensures sound { StaysSound run.new.interp run.old.interp }
     ensures ran { let names = names_of natives.now in
         (request : SeenRequest) (old : SeenInterp) (first before : ℕ) (state : SeenState)
         → BeginsRequest names request moment run.old.next first steps.old run.old.interp old

@@ -1,12 +1,11 @@
 //! Runs, with their questions answered.
 
 ghost use Rattle.std.specs.Prelude.{◌≡◌, ◌≤◌, ◌+◌, [], ℕ, List};
-ghost use Rattle.txt_core.specs.Names.{Names};
 ghost use Rattle.natives.specs.Names.{names_of};
 ghost use Rattle.shared_state.specs.Cells.{AreOf};
 ghost use Rattle.outside.specs.declared.question.Answer.{Answer as Given};
 ghost use Rattle.ictl.specs.Main.{Progress};
-ghost use Rattle.ictl.specs.Interps.{gives, taken, interp_written, Counts, IsSameRun, IsSound, IsWithin};
+ghost use Rattle.ictl.specs.Interps.{gives, taken, interp_written, Counts, IsSameRun, StaysSound, IsWithin};
 ghost use Rattle.ictl.specs.Came.{IsAtQuestion};
 ghost use Rattle.worker.specs.Asking.{Hears, StandsFor, StaysWithin};
 ghost use Rattle.worker.specs.Clean.{edition_in};
@@ -69,7 +68,7 @@ pub(crate) fn answer_all<R: Wait, P: Pages, L: Ledger>(
         run.old.interp }
     ensures same { IsSameRun run.new.interp run.old.interp }
     ensures blueprint { edition_in run.new.interp ≡ edition_in run.old.interp }
-    ensures sound { (names : Names) → IsSound names run.old.interp → IsSound names run.new.interp }
+    ensures sound { StaysSound run.new.interp run.old.interp }
     ensures held { P.held pages.new ≡ P.held pages.old }
 {
     // A question is open to its answer.

@@ -4,6 +4,7 @@ use Rattle.http_req.specs.Fronts.{HeadStands}
 use Rattle.http_req.specs.Heads.{front}
 use Rattle.http_req.specs.Readings.{Passes, Received}
 use Rattle.http_req.specs.declared.request.Got.{Got}
+use Rattle.http_req.specs.declared.request.Got.TheVariants as got
 use Rattle.http_req.specs.declared.request.Request.{Request}
 use Rattle.http_req.proofs.Fetches.{moves_none}
 use Rattle.http_req.proofs.Receiving.{crowded, few_shown, passes_head, passes_own_peer, fails_head, received_refusal, received_body}
@@ -32,6 +33,12 @@ read_body-requires g c =
     let passes : Passes c.bytes.result.now c.args.peer.now c.args.head.now.len c.in_ok-request-in-None.request = subst (λ (r : Request). Passes c.bytes.result.now c.args.peer.now c.args.head.now.len r) (sym c.in_ok-request-in-None.ensures) shown in
     subst (λ (input : List ℕ). Passes input c.in_ok-request-in-None.request.peer c.args.head.now.len c.in_ok-request-in-None.request) c.bytes.ensures
     (passes_own_peer c.bytes.result.now c.args.peer.now c.args.head.now.len c.in_ok-request-in-None.request passes)
+
+pub returns-in_err-request-in-None : goal.returns-in_err-request-in-None
+returns-in_err-request-in-None g c =
+    let p = err_from_is_err_and c.from_residual-in_err-request-in-None.result c.from_residual-in_err-request-in-None.ensures.1 in
+    rw p.1 (subst (λ (answer : Got). Received c.args.carry.now (g.S.Source.rest c.args.source.now) (g.S.Source.faults c.args.source.now) c.args.peer.now (Err answer) c.args.carry.now (g.S.Source.rest c.args.source.now) (g.S.Source.faults c.args.source.now)) (sym p.2)
+    (received_refusal _ _ _ _ _ _ c.bytes.result.now c.args.peer.now got.NoMemory (moves_none _ _ _) c.bytes.ensures tt))
 
 pub returns-in_err-read_body-in-None : goal.returns-in_err-read_body-in-None
 returns-in_err-read_body-in-None g c =

@@ -36,7 +36,7 @@ bracket-returns-in_ok-piece-in-Some-clause-same t c =
 
 pub index-returns-then-room-eq0-clause-same : goal.index-returns-then-room-eq0-clause-same
 index-returns-then-room-eq0-clause-same t c =
-    subst (λ (f : Fault). IndexGives c.args.room c.args.left c.args.name.now c.args.bytes.now (fault f.kind f.left)) (sym c.before.ensures)
+    subst (λ (f : Fault). IndexGives c.args.room c.args.left c.args.name.now c.args.bytes.now (fault f.kind f.left)) (sym c.before-then-room-eq0.ensures)
     (deep_index c.args.room c.args.left c.args.name.now c.args.bytes.now c.if-room-eq0.true)
 
 pub index-returns-in_err-index-clause-same : goal.index-returns-in_err-index-clause-same

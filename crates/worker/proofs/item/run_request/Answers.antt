@@ -163,6 +163,12 @@ returns-in-Whole-clause-ran g c = λ asked old first before state began asks hea
     began (c.answer_all.ensures.hears (taken names c.args.steps.now first run.interp old)) c.answer_all.ensures.counts c.answer_all.ensures.same c.answer_all.ensures.blueprint c.answer_all.ensures.sound
     c.write_next.ensures.stands c.in-Some.ensures.wrote.1 is asks head c.requires.none c.answer_all.ensures.held c.end_whole.ensures.behind c.end_whole.ensures.outcome d.0 d.1
 
+pub returns-in_default-clause-sound : goal.returns-in_default-clause-sound
+returns-in_default-clause-sound g c = c.answer_all.ensures.sound
+
+pub returns-in-NoMemory-clause-sound : goal.returns-in-NoMemory-clause-sound
+returns-in-NoMemory-clause-sound g c = c.answer_all.ensures.sound
+
 pub returns-in-Whole-clause-sound : goal.returns-in-Whole-clause-sound
 returns-in-Whole-clause-sound g c = λ names sound. c.end_whole.ensures.sound names (c.answer_all.ensures.sound names sound)
 
